@@ -1,0 +1,6 @@
+pub mod Below
+pub mod Bits
+pub mod Digits
+pub mod Fields
+pub mod Packed
+pub mod Tests

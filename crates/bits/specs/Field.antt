@@ -1,0 +1,33 @@
+-- A field of a string of bits, as the code finds it at a place.
+use Prim.Native.Nat.{ℕ, _+_, _*_, _/_, _%_}
+use mathlib.Core.List.{List}
+use mathlib.Core.Bool.{Bool, _&&_, cond}
+use lib.ListN.{length, take, drop}
+use lib.Dec.{leb, ltb, eqb}
+use Rattle.bits.specs.Bits.{stringOf, valueOf}
+use Rattle.bits.specs.declared.Cursor.{Cursor}
+use Rattle.bits.specs.declared.Field.{Field}
+use Rattle.bits.specs.declared.Field.the-variants.{Value, Cut}
+
+-- how many bits stand before a place
+abbrev pub place : Cursor → ℕ
+place c = c .byte * 8 + c .bit
+
+-- the string from a place on
+unfoldable pub from : List ℕ → Cursor → List ℕ
+from s c = drop (place c) (stringOf s)
+
+-- the place so many bits further on
+abbrev pub past : Cursor → ℕ → Cursor
+past c w = record { byte = (place c + w) / 8; bit = (place c + w) % 8 }
+
+-- no field of the layout is wider than a byte
+abbrev pub isWidth : ℕ → Bool
+isWidth w = leb 1 w && leb w 8
+
+unfoldable pub fieldAt : List ℕ → Cursor → ℕ → Field
+fieldAt s c w = cond (isWidth w && leb w (length (from s c))) (Value (valueOf (take w (from s c))) (past c w)) Cut
+
+-- "then zero bits up to a whole byte, and nothing after": less than a byte is left, and no bit of it is 1
+unfoldable pub spareOnly : List ℕ → Bool
+spareOnly bits = ltb (length bits) 8 && eqb (valueOf bits) 0

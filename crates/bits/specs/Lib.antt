@@ -1,0 +1,5 @@
+pub mod Answer
+pub mod Bits
+pub mod Field
+pub mod Packed
+pub mod Parser

@@ -1,0 +1,103 @@
+// Fields of a string of bits, most significant bit first in each byte and field; and the refusals of every operation.
+ghost use mathlib.Core.Path.{_≡_};
+ghost use Prim.Native.Nat.{_<_};
+ghost use lib.ListN.{getD};
+ghost use Rattle.bits.specs.Field.{fieldAt, from, spareOnly};
+
+// The causes for which an operation refuses, in the order of their numbers in document 01, 1 to 18.
+pub enum Refusal {
+    FieldCut,
+    InputCount,
+    GateCount,
+    GateLine,
+    UnaryLines,
+    OutputLine,
+    FaultLine,
+    FaultOrder,
+    Ending,
+    Memory,
+    CircuitNumber,
+    TableShape,
+    Polarity,
+    NoTable,
+    Alike,
+    Index,
+    ReadingCount,
+    FaultCount,
+}
+
+// Success alone, or the refusal.
+pub enum Outcome {
+    Done,
+    Refused(Refusal),
+}
+
+// A place in a string of bits: a byte, and a number of bits from that byte's first on.
+pub struct Cursor {
+    pub byte: usize,
+    pub bit: u8,
+}
+
+// What stands at a place: a field's value with the place behind it, or bytes that end inside the field.
+pub enum Field {
+    Value(usize, Cursor),
+    Cut,
+}
+
+// A byte of the slice, 0 past its end.
+fn byte_or_zero(s: &[u8], at: usize) -> usize
+    ensures { λ r. ⌜ (r ≡ getD (now (s .entry)) at 0) × (r < 256) ⌝ }
+{
+    if at < s.len() { s[at] as usize } else { 0 }
+}
+
+// The field of `width` bits at a place. A width outside 1 to 8 is no field of the layout, and is answered as cut.
+pub fn read_field(s: &[u8], c: Cursor, width: usize) -> Field
+    ensures { λ r. ⌜ r ≡ fieldAt (now (s .entry)) c width ⌝ }
+{
+    let byte = c.byte;
+    let bit = c.bit as usize;
+    if s.len() <= byte {
+        return Field::Cut;
+    }
+    if width < 1 {
+        return Field::Cut;
+    }
+    if 8 < width {
+        return Field::Cut;
+    }
+    let at = byte + bit / 8;
+    let end = bit % 8 + width;
+    if s.len() < at + (end + 7) / 8 {
+        return Field::Cut;
+    }
+    let word = byte_or_zero(s, at) * 256 + byte_or_zero(s, at + 1);
+    let next = Cursor {
+        byte: at + end / 8,
+        bit: (end % 8) as u8,
+    };
+    Field::Value((word >> (16 - end)) % (1 << width), next)
+}
+
+// Whether from a place on there are only spare bits: less than a byte, no bit of it 1.
+pub fn spare_only(s: &[u8], c: Cursor) -> bool
+    ensures { λ r. ⌜ r ≡ spareOnly (from (now (s .entry)) c) ⌝ }
+{
+    let byte = c.byte;
+    let bit = c.bit as usize;
+    if s.len() <= byte {
+        return true;
+    }
+    let at = byte + bit / 8;
+    let used = bit % 8;
+    if s.len() <= at {
+        return true;
+    }
+    if used == 0 {
+        return false;
+    }
+    if at + 1 < s.len() {
+        return false;
+    }
+    byte_or_zero(s, at) % (1 << (8 - used)) == 0
+}

@@ -1,0 +1,79 @@
+-- The tests that document 01, "Refusal by operation", makes of a circuit and its faults, each with its number. Reading and writing share them.
+--
+--   inputsOk, gatesOk, .., faultsOk   the tests 2, 3, 4, 6, 18, 7, 8
+--   checked                           the first refusal of a record, in the order of writing
+--   Valid                             what holds of a record that is not refused
+use Prim.Native.Nat.{ℕ, zero, suc, _+_, _≤_, _<_}
+use mathlib.Core.Path.{_≡_}
+use mathlib.Core.Bool.{Bool, true, false, _&&_, cond}
+use lib.Dec.{leb, ltb}
+use Rattle.bits.specs.Answer.{Answer, unless, onward}
+use Rattle.bits.specs.Answer.Answer.{gives}
+use Rattle.job.specs.Layout.{maxInputs, maxGates, maxFaults}
+use Rattle.job.specs.Record.{gateA, gateB, gateAt, faultAt, lines}
+use Rattle.job.specs.declared.Gate.{Gate}
+use Rattle.job.specs.declared.Fault.{Fault}
+use Rattle.job.specs.declared.Fault.the-variants.{Stuck, Bridge}
+use Rattle.job.specs.declared.Job.{Job}
+
+-- "2, n isn't 1 to 8"
+abbrev pub inputsOk : ℕ → Bool
+inputsOk n = leb 1 n && leb n maxInputs
+
+-- "3, g over 64"
+abbrev pub gateCountOk : ℕ → Bool
+gateCountOk g = leb g maxGates
+
+-- "4, line a or b isn't below the gate's own"
+abbrev pub gateOk : ℕ → Gate → Bool
+gateOk own g = ltb (gateA g) own && ltb (gateB g) own
+
+-- "6, output line not below n+g"
+abbrev pub outputOk : ℕ → ℕ → Bool
+outputOk count line = ltb line count
+
+-- "18, a fault count over 63"
+abbrev pub faultCountOk : ℕ → Bool
+faultCountOk f = leb f maxFaults
+
+-- "7, a stuck line not below n+g or a bridge line not below n"
+abbrev pub faultLineOk : ℕ → ℕ → Fault → Bool
+faultLineOk n count (Stuck l level) = ltb l count
+faultLineOk n count (Bridge a b is-and) = ltb a n && ltb b n
+
+-- "8, .. a bridge with a not below b"; "8 there means a bridge only"
+abbrev pub faultOrderOk : Fault → Bool
+faultOrderOk (Stuck l level) = true
+faultOrderOk (Bridge a b is-and) = ltb a b
+
+-- "4 per gate in turn": so many gates from gate q on
+unfoldable pub gatesChecked : Job → ℕ → ℕ → Answer (Unit {0})
+gatesChecked j zero q = gives tt
+gatesChecked j (suc left) q = unless (gateOk (j .inputs + q) (gateAt j q)) 4 (gatesChecked j left (suc q))
+
+-- "7 and 8 per fault in turn": so many faults from fault i on
+unfoldable pub faultsChecked : Job → ℕ → ℕ → Answer (Unit {0})
+faultsChecked j zero i = gives tt
+faultsChecked j (suc left) i =
+    unless (faultLineOk (j .inputs) (lines j) (faultAt j i)) 7
+    (unless (faultOrderOk (faultAt j i)) 8 (faultsChecked j left (suc i)))
+
+-- "Writing a record checks 2, 3, 4 per gate in turn, 6, then 18 .., then 7 and 8 per fault in turn"
+unfoldable pub checked : Job → Answer (Unit {0})
+checked j =
+    unless (inputsOk (j .inputs)) 2
+    (unless (gateCountOk (j .«gate_count»)) 3
+    (onward (gatesChecked j (j .«gate_count») 0) (λ _.
+    unless (outputOk (lines j) (j .output)) 6
+    (unless (faultCountOk (j .«fault_count»)) 18
+    (faultsChecked j (j .«fault_count») 0)))))
+
+pub record Valid (j : Job) : Type 0 where
+  pub some : 1 ≤ j .inputs
+  pub few : j .inputs ≤ maxInputs
+  pub gates-few : j .«gate_count» ≤ maxGates
+  pub gate : (q : ℕ) → q < j .«gate_count» → gateOk (j .inputs + q) (gateAt j q) ≡ true
+  pub output : j .output < lines j
+  pub faults-few : j .«fault_count» ≤ maxFaults
+  pub fault-line : (i : ℕ) → i < j .«fault_count» → faultLineOk (j .inputs) (lines j) (faultAt j i) ≡ true
+  pub fault-order : (i : ℕ) → i < j .«fault_count» → faultOrderOk (faultAt j i) ≡ true

@@ -1,0 +1,210 @@
+// A job as a record: a circuit and its list of single faults (document 01, "Job layout").
+ghost use mathlib.Core.Path.{_≡_};
+ghost use Prim.Native.Nat.{_≤_};
+ghost use Rattle.job.specs.Check.{faultLineOk};
+ghost use Rattle.job.specs.Record.{gateKind, gateA, gateB, gateOf, faultKind, faultA, faultB, faultOf, emptyJob};
+
+// "circuits with 1 to 8 inputs, 0 to 64 gates, one output and 0 to 63 single faults"
+pub const MAX_INPUTS: usize = 8;
+
+pub const MAX_GATES: usize = 64;
+
+pub const MAX_FAULTS: usize = 63;
+
+// "In order: input count n (4 bits); gate count g (7); per gate a kind (3), line a (7), line b (7); output line (7); fault
+// count f (6); per fault a kind (2), line a (7), line b (7)"
+pub const INPUT_COUNT_BITS: usize = 4;
+
+pub const GATE_COUNT_BITS: usize = 7;
+
+pub const GATE_KIND_BITS: usize = 3;
+
+pub const LINE_BITS: usize = 7;
+
+pub const FAULT_COUNT_BITS: usize = 6;
+
+pub const FAULT_KIND_BITS: usize = 2;
+
+// The six kinds of gate that read two lines.
+pub enum BinaryKind {
+    And,
+    Or,
+    Nand,
+    Nor,
+    Xor,
+    Xnor,
+}
+
+// The two kinds that read one line.
+pub enum UnaryKind {
+    Buf,
+    Not,
+}
+
+// "A record's gate kind can only be one of the eight": a unary gate has one line.
+pub enum Gate {
+    Unary(UnaryKind, u8),
+    Binary(BinaryKind, u8, u8),
+}
+
+// "A fault is either a line stuck at a level or a bridge of two inputs."
+pub enum Fault {
+    // The line and its level.
+    Stuck(u8, bool),
+    // The lower and the higher line; true for an AND bridge, false for an OR bridge.
+    Bridge(u8, u8, bool),
+}
+
+impl Gate {
+    // The number of the gate's kind, 0 to 7.
+    pub fn kind(self) -> usize
+        ensures { λ r. ⌜ r ≡ gateKind self ⌝ }
+    {
+        match self {
+            Gate::Unary(kind, _) => match kind {
+                UnaryKind::Not => 6,
+                UnaryKind::Buf => 7,
+            },
+            Gate::Binary(kind, _, _) => match kind {
+                BinaryKind::And => 0,
+                BinaryKind::Or => 1,
+                BinaryKind::Nand => 2,
+                BinaryKind::Nor => 3,
+                BinaryKind::Xor => 4,
+                BinaryKind::Xnor => 5,
+            },
+        }
+    }
+
+    // Line a.
+    pub fn first(self) -> usize
+        ensures { λ r. ⌜ r ≡ gateA self ⌝ }
+    {
+        match self {
+            Gate::Unary(_, a) => a as usize,
+            Gate::Binary(_, a, _) => a as usize,
+        }
+    }
+
+    // Line b, which a unary gate repeats from a.
+    pub fn second(self) -> usize
+        ensures { λ r. ⌜ r ≡ gateB self ⌝ }
+    {
+        match self {
+            Gate::Unary(_, a) => a as usize,
+            Gate::Binary(_, _, b) => b as usize,
+        }
+    }
+}
+
+// The gate of a kind's number and two lines; a kind over 7 counts as 7.
+pub fn gate_of(kind: usize, a: u8, b: u8) -> Gate
+    ensures { λ r. ⌜ r ≡ gateOf kind a b ⌝ }
+{
+    match kind {
+        0 => Gate::Binary(BinaryKind::And, a, b),
+        1 => Gate::Binary(BinaryKind::Or, a, b),
+        2 => Gate::Binary(BinaryKind::Nand, a, b),
+        3 => Gate::Binary(BinaryKind::Nor, a, b),
+        4 => Gate::Binary(BinaryKind::Xor, a, b),
+        5 => Gate::Binary(BinaryKind::Xnor, a, b),
+        6 => Gate::Unary(UnaryKind::Not, a),
+        _ => Gate::Unary(UnaryKind::Buf, a),
+    }
+}
+
+impl Fault {
+    // The number of the fault's kind, 0 to 3.
+    pub fn kind(self) -> usize
+        ensures { λ r. ⌜ r ≡ faultKind self ⌝ }
+    {
+        match self {
+            Fault::Stuck(_, level) => { if level { 1 } else { 0 } }
+            Fault::Bridge(_, _, is_and) => { if is_and { 2 } else { 3 } }
+        }
+    }
+
+    // Line a.
+    pub fn first(self) -> usize
+        ensures { λ r. ⌜ r ≡ faultA self ⌝ }
+    {
+        match self {
+            Fault::Stuck(line, _) => line as usize,
+            Fault::Bridge(low, _, _) => low as usize,
+        }
+    }
+
+    // Line b, which a stuck fault repeats from a.
+    pub fn second(self) -> usize
+        ensures { λ r. ⌜ r ≡ faultB self ⌝ }
+    {
+        match self {
+            Fault::Stuck(line, _) => line as usize,
+            Fault::Bridge(_, high, _) => high as usize,
+        }
+    }
+}
+
+// The fault of a kind's number and two lines; a kind over 3 counts as 3.
+pub fn fault_of(kind: usize, a: u8, b: u8) -> Fault
+    ensures { λ r. ⌜ r ≡ faultOf kind a b ⌝ }
+{
+    match kind {
+        0 => Fault::Stuck(a, false),
+        1 => Fault::Stuck(a, true),
+        2 => Fault::Bridge(a, b, true),
+        _ => Fault::Bridge(a, b, false),
+    }
+}
+
+// Refusal 7: a stuck line is a line of the circuit, the lines of a bridge are inputs.
+pub fn fault_line_ok(fault: Fault, inputs: usize, lines: usize) -> bool
+    ensures { λ r. ⌜ r ≡ faultLineOk inputs lines fault ⌝ }
+{
+    match fault {
+        Fault::Stuck(line, _) => (line as usize) < lines,
+        Fault::Bridge(low, high, _) => {
+            if (low as usize) < inputs {
+                (high as usize) < inputs
+            } else {
+                false
+            }
+        }
+    }
+}
+
+pub struct GateEntry {
+    pub gate: Gate,
+}
+
+pub struct FaultEntry {
+    pub fault: Fault,
+}
+
+// Entries past a count are unused.
+pub struct Job {
+    pub inputs: u8,
+    pub gate_count: u8,
+    pub gates: [GateEntry; MAX_GATES],
+    pub output: u8,
+    pub fault_count: u8,
+    pub faults: [FaultEntry; MAX_FAULTS],
+}
+
+// The record with every entry unused: BUF of line 0, stuck-at-0 on line 0.
+pub fn empty_job() -> Job
+    ensures { λ r. ⌜ r ≡ emptyJob ⌝ }
+{
+    Job {
+        inputs: 0,
+        gate_count: 0,
+        gates: [GateEntry {
+            gate: Gate::Unary(UnaryKind::Buf, 0),
+        }; MAX_GATES],
+        output: 0,
+        fault_count: 0,
+        faults: [FaultEntry {
+            fault: Fault::Stuck(0, false),
+        }; MAX_FAULTS],
+    }
+}

@@ -1,0 +1,243 @@
+// Reading a job from any bytes (document 01, "Job layout" and "Refusal by operation").
+ghost use mathlib.Core.Path.{_≡_};
+ghost use mathlib.Core.Bool.{true};
+ghost use Prim.Native.Nat.{_≤_};
+ghost use Rattle.bits.specs.Answer.{number};
+ghost use Rattle.bits.specs.Answer.Answer.{refused};
+ghost use Rattle.bits.specs.Field.{from, isWidth};
+ghost use Rattle.job.specs.Layout.{maxGates, maxFaults};
+ghost use Rattle.reading.specs.Reading.{reading, valueRead, entryFields, unaryLinesOk, faultLinesOk, gate, fault, fromGates, fromOutput, fromFaultCount, fromFaults, fromEnd};
+ghost use Rattle.reading.specs.Told.{told, due, entryTold, LinesFit, gateTold, faultTold};
+use bits::Cursor;
+use bits::Field;
+use bits::Outcome;
+use bits::Refusal;
+use job::FAULT_COUNT_BITS;
+use job::FAULT_KIND_BITS;
+use job::Fault;
+use job::FaultEntry;
+use job::GATE_COUNT_BITS;
+use job::GATE_KIND_BITS;
+use job::Gate;
+use job::GateEntry;
+use job::INPUT_COUNT_BITS;
+use job::Job;
+use job::LINE_BITS;
+use job::MAX_GATES;
+use job::MAX_INPUTS;
+
+// The outcome, and the record: the empty one with a refusal.
+pub struct Reading {
+    pub outcome: Outcome,
+    pub job: Job,
+}
+
+fn refused(cause: Refusal) -> Reading
+    ensures { λ r. ⌜ told r ≡ due (refused (number cause)) ⌝ }
+{
+    Reading {
+        outcome: Outcome::Refused(cause),
+        job: job::empty_job(),
+    }
+}
+
+// The record that the bytes give, or the first refusal among 1 to 9.
+pub fn read(s: &[u8]) -> Reading
+    ensures { λ r. ⌜ told r ≡ due (reading (now (s .entry))) ⌝ }
+{
+    let start = Cursor { byte: 0, bit: 0 };
+    let Field::Value(n, c) = bits::read_field(s, start, INPUT_COUNT_BITS) else {
+        return refused(Refusal::FieldCut);
+    };
+    if n < 1 {
+        return refused(Refusal::InputCount);
+    }
+    if MAX_INPUTS < n {
+        return refused(Refusal::InputCount);
+    }
+    let Field::Value(g, d) = bits::read_field(s, c, GATE_COUNT_BITS) else {
+        return refused(Refusal::FieldCut);
+    };
+    if MAX_GATES < g {
+        return refused(Refusal::GateCount);
+    }
+    let mut job = job::empty_job();
+    job.inputs = n as u8;
+    job.gate_count = g as u8;
+    read_gates(s, d, job)
+}
+
+// What stands where a gate or a fault is due: its kind, line a, line b and the place behind them.
+enum EntryRead {
+    Fields(usize, usize, usize, Cursor),
+    Cut,
+}
+
+fn read_entry(s: &[u8], at: Cursor, kind_bits: usize) -> EntryRead
+    requires { ⌜ isWidth «kind_bits» ≡ true ⌝ }
+    ensures { λ r. ⌜ (entryTold (now (s .entry)) r ≡ entryFields «kind_bits» (from (now (s .entry)) at)) × LinesFit r ⌝ }
+{
+    let Field::Value(kind, c) = bits::read_field(s, at, kind_bits) else {
+        return EntryRead::Cut;
+    };
+    let Field::Value(a, d) = bits::read_field(s, c, LINE_BITS) else {
+        return EntryRead::Cut;
+    };
+    let Field::Value(b, e) = bits::read_field(s, d, LINE_BITS) else {
+        return EntryRead::Cut;
+    };
+    EntryRead::Fields(kind, a, b, e)
+}
+
+// What stands where a gate is due.
+enum GateRead {
+    Found(Gate, Cursor),
+    Refused(Refusal),
+}
+
+// Refusal 5: NOT and BUF, kinds 6 and 7, repeat line a as b.
+fn unary_lines_ok(kind: usize, a: usize, b: usize) -> bool
+    ensures { λ r. ⌜ r ≡ unaryLinesOk kind a b ⌝ }
+{
+    if kind < 6 { true } else { b == a }
+}
+
+// The gate whose own line is `own`.
+fn read_gate(s: &[u8], at: Cursor, own: usize) -> GateRead
+    ensures { λ r. ⌜ gateTold (now (s .entry)) r ≡ gate own (from (now (s .entry)) at) ⌝ }
+{
+    let EntryRead::Fields(kind, a, b, c) = read_entry(s, at, GATE_KIND_BITS) else {
+        return GateRead::Refused(Refusal::FieldCut);
+    };
+    if own <= a {
+        return GateRead::Refused(Refusal::GateLine);
+    }
+    if own <= b {
+        return GateRead::Refused(Refusal::GateLine);
+    }
+    if !unary_lines_ok(kind, a, b) {
+        return GateRead::Refused(Refusal::UnaryLines);
+    }
+    GateRead::Found(job::gate_of(kind, a as u8, b as u8), c)
+}
+
+// The rest of a job from its gates on.
+fn read_gates(s: &[u8], at: Cursor, before: Job) -> Reading
+    requires { ⌜ before .«gate_count» ≤ maxGates ⌝ }
+    ensures { λ r. ⌜ told r ≡ due (valueRead (fromGates before (from (now (s .entry)) at))) ⌝ }
+{
+    let n = before.inputs as usize;
+    let g = before.gate_count as usize;
+    let mut job = before;
+    let mut c = at;
+    let mut q = 0;
+    while q < g {
+        match read_gate(s, c, n + q) {
+            GateRead::Found(gate, next) => {
+                job.gates[q] = GateEntry { gate };
+                c = next;
+            }
+            GateRead::Refused(cause) => {
+                return refused(cause);
+            }
+        }
+        q += 1;
+    }
+    read_output(s, c, job)
+}
+
+// The rest of a job from its output line on.
+fn read_output(s: &[u8], at: Cursor, before: Job) -> Reading
+    ensures { λ r. ⌜ told r ≡ due (valueRead (fromOutput before (from (now (s .entry)) at))) ⌝ }
+{
+    let Field::Value(line, c) = bits::read_field(s, at, LINE_BITS) else {
+        return refused(Refusal::FieldCut);
+    };
+    if before.inputs as usize + before.gate_count as usize <= line {
+        return refused(Refusal::OutputLine);
+    }
+    let mut job = before;
+    job.output = line as u8;
+    read_fault_count(s, c, job)
+}
+
+// The rest of a job from its fault count on.
+fn read_fault_count(s: &[u8], at: Cursor, before: Job) -> Reading
+    ensures { λ r. ⌜ told r ≡ due (valueRead (fromFaultCount before (from (now (s .entry)) at))) ⌝ }
+{
+    let Field::Value(f, c) = bits::read_field(s, at, FAULT_COUNT_BITS) else {
+        return refused(Refusal::FieldCut);
+    };
+    let mut job = before;
+    job.fault_count = f as u8;
+    read_faults(s, c, job)
+}
+
+// What stands where a fault is due.
+enum FaultRead {
+    Found(Fault, Cursor),
+    Refused(Refusal),
+}
+
+// Refusal 8: a stuck fault repeats its line, a bridge has a below b.
+fn fault_lines_ok(kind: usize, a: usize, b: usize) -> bool
+    ensures { λ r. ⌜ r ≡ faultLinesOk kind a b ⌝ }
+{
+    if kind < 2 { b == a } else { a < b }
+}
+
+// A fault of a circuit with so many inputs and lines.
+fn read_fault(s: &[u8], at: Cursor, inputs: usize, lines: usize) -> FaultRead
+    ensures { λ r. ⌜ faultTold (now (s .entry)) r ≡ fault inputs lines (from (now (s .entry)) at) ⌝ }
+{
+    let EntryRead::Fields(kind, a, b, c) = read_entry(s, at, FAULT_KIND_BITS) else {
+        return FaultRead::Refused(Refusal::FieldCut);
+    };
+    let fault = job::fault_of(kind, a as u8, b as u8);
+    if !job::fault_line_ok(fault, inputs, lines) {
+        return FaultRead::Refused(Refusal::FaultLine);
+    }
+    if !fault_lines_ok(kind, a, b) {
+        return FaultRead::Refused(Refusal::FaultOrder);
+    }
+    FaultRead::Found(fault, c)
+}
+
+// The rest of a job from its faults on.
+fn read_faults(s: &[u8], at: Cursor, before: Job) -> Reading
+    requires { ⌜ before .«fault_count» ≤ maxFaults ⌝ }
+    ensures { λ r. ⌜ told r ≡ due (valueRead (fromFaults before (from (now (s .entry)) at))) ⌝ }
+{
+    let n = before.inputs as usize;
+    let lines = n + before.gate_count as usize;
+    let f = before.fault_count as usize;
+    let mut job = before;
+    let mut c = at;
+    let mut i = 0;
+    while i < f {
+        match read_fault(s, c, n, lines) {
+            FaultRead::Found(fault, next) => {
+                job.faults[i] = FaultEntry { fault };
+                c = next;
+            }
+            FaultRead::Refused(cause) => {
+                return refused(cause);
+            }
+        }
+        i += 1;
+    }
+    read_end(s, c, job)
+}
+
+// The end of a job: spare bits alone.
+fn read_end(s: &[u8], at: Cursor, job: Job) -> Reading
+    ensures { λ r. ⌜ told r ≡ due (valueRead (fromEnd job (from (now (s .entry)) at))) ⌝ }
+{
+    if !bits::spare_only(s, at) {
+        return refused(Refusal::Ending);
+    }
+    Reading {
+        outcome: Outcome::Done,
+        job,
+    }
+}
