@@ -1,1 +1,4 @@
 pub mod Entries
+pub mod Parts
+pub mod Telling
+pub mod Valid

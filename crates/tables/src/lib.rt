@@ -1,0 +1,135 @@
+// Packed truth tables of a job's circuits (document 01, "Tables").
+ghost use mathlib.Core.Path.{_≡_};
+ghost use Prim.Native.Nat.{_+_, _*_, _≤_};
+ghost use lib.ListN.{length};
+ghost use Rattle.bits.specs.Answer.{outcome, leaves};
+ghost use Rattle.tables.specs.Circuit.{circuitTable};
+ghost use Rattle.tables.specs.Form.{tableBytes};
+ghost use Rattle.tables.specs.Operations.{tableOf, tablesOf, tablesTo, tablesTold};
+ghost use Rattle.tables.specs.Rows.{part, splice};
+ghost use Rattle.tables.specs.Work.{Sound, Good, Table};
+use bits::Outcome;
+use bits::Refusal;
+use job::Job;
+use job::MAX_GATES;
+use job::MAX_INPUTS;
+use step::Shape;
+
+mod circuit;
+mod step;
+
+// The bytes of the largest table, (2 to the power 8 + 7) div 8.
+const MAX_TABLE_BYTES: usize = 32;
+
+// A row for each line of the good circuit, and one for each of a faulty one.
+const ROW_BYTES: usize = 2 * (MAX_INPUTS + MAX_GATES) * MAX_TABLE_BYTES;
+
+// How many inputs, gates and faults a job has.
+pub struct Counts {
+    pub inputs: usize,
+    pub gates: usize,
+    pub faults: usize,
+}
+
+// The counts of a job whose tables are written, or the refusal.
+pub enum TablesAnswer {
+    Filled(Counts),
+    Refused(Refusal),
+}
+
+// The packed table of circuit `circuit` of the job that the bytes give.
+pub fn table(bytes: &[u8], circuit: usize, out: &mut [u8]) -> Outcome
+    ensures { λ r. ⌜ record { answer = outcome r; memory = now (out .exit) } ≡ leaves (tableOf (now (bytes .entry)) circuit (length (now (out .entry)))) (now (out .entry)) ⌝ }
+{
+    let reading = reading::read(bytes);
+    let outcome = reading.outcome;
+    if let Outcome::Refused(cause) = outcome {
+        return Outcome::Refused(cause);
+    }
+    let job = reading.job;
+    if (job.fault_count as usize) < circuit {
+        return Outcome::Refused(Refusal::CircuitNumber);
+    }
+    let shape = step::shape_of(job.inputs as usize);
+    if out.len() < shape.bytes {
+        return Outcome::Refused(Refusal::Memory);
+    }
+    let mut rows = [0u8; ROW_BYTES];
+    put_table(out, &mut rows, job, circuit, shape);
+    Outcome::Done
+}
+
+// The packed tables of all circuits of the job that the bytes give, circuit after circuit.
+pub fn tables(bytes: &[u8], out: &mut [u8]) -> TablesAnswer
+    ensures { λ r. ⌜ record { answer = tablesTold r; memory = now (out .exit) } ≡ leaves (tablesOf (now (bytes .entry)) (length (now (out .entry)))) (now (out .entry)) ⌝ }
+{
+    let reading = reading::read(bytes);
+    let outcome = reading.outcome;
+    if let Outcome::Refused(cause) = outcome {
+        return TablesAnswer::Refused(cause);
+    }
+    let job = reading.job;
+    let faults = job.fault_count as usize;
+    let shape = step::shape_of(job.inputs as usize);
+    if out.len() < (faults + 1) * shape.bytes {
+        return TablesAnswer::Refused(Refusal::Memory);
+    }
+    let mut rows = [0u8; ROW_BYTES];
+    put_tables(out, &mut rows, job, shape);
+    TablesAnswer::Filled(Counts {
+        inputs: job.inputs as usize,
+        gates: job.gate_count as usize,
+        faults,
+    })
+}
+
+// Copies `count` bytes of the rows.
+fn copy(out: &mut [u8], to: usize, rows: &[u8], at: usize, count: usize)
+    requires { ⌜ (to + count ≤ length (now out)) × (at + count ≤ length (now rows)) ⌝ }
+    ensures { λ r. ⌜ now (out .exit) ≡ splice (now (out .entry)) to (part at count (now (rows .entry))) ⌝ }
+{
+    let mut i = 0;
+    while i < count {
+        out[to + i] = rows[at + i];
+        i += 1;
+    }
+}
+
+// Works out one circuit; the answer is the place of its table in the rows.
+fn table_row(rows: &mut [u8], job: Job, circuit: usize, shape: Shape) -> usize
+    requires { ⌜ Sound job shape (now rows) × Good job (now rows) × (circuit ≤ job .«fault_count») ⌝ }
+    ensures { λ r. ⌜ Table job circuit r (now (rows .exit)) ⌝ }
+{
+    if circuit == 0 {
+        return job.output as usize * shape.bytes;
+    }
+    let entry = job.faults[circuit - 1];
+    let fault = entry.fault;
+    circuit::faulty_circuit(rows, job, fault, shape)
+}
+
+// The table of one circuit, at the start of the lent bytes.
+fn put_table(out: &mut [u8], rows: &mut [u8], job: Job, circuit: usize, shape: Shape)
+    requires { ⌜ Sound job shape (now rows) × (circuit ≤ job .«fault_count») × (tableBytes (job .inputs) ≤ length (now out)) ⌝ }
+    ensures { λ r. ⌜ now (out .exit) ≡ splice (now (out .entry)) 0 (circuitTable job circuit) ⌝ }
+{
+    circuit::good_circuit(rows, job, shape);
+    let at = table_row(rows, job, circuit, shape);
+    copy(out, 0, rows, at, shape.bytes);
+}
+
+// The tables of all circuits, from the start of the lent bytes on.
+fn put_tables(out: &mut [u8], rows: &mut [u8], job: Job, shape: Shape)
+    requires { ⌜ Sound job shape (now rows) × ((job .«fault_count» + 1) * tableBytes (job .inputs) ≤ length (now out)) ⌝ }
+    ensures { λ r. ⌜ now (out .exit) ≡ splice (now (out .entry)) 0 (tablesTo job (job .«fault_count» + 1)) ⌝ }
+{
+    let circuits = job.fault_count as usize + 1;
+    let bytes = shape.bytes;
+    circuit::good_circuit(rows, job, shape);
+    let mut c = 0;
+    while c < circuits {
+        let at = table_row(rows, job, c, shape);
+        copy(out, c * bytes, rows, at, bytes);
+        c += 1;
+    }
+}
