@@ -37,7 +37,7 @@ use Rattle.job.specs.declared.Fault.{Fault}
 use Rattle.job.specs.declared.Fault.the-variants.{Stuck, Bridge}
 use Rattle.job.specs.declared.Job.{Job}
 use Rattle.tables.specs.Circuit.{circuitEntry, circuitTable, fixingOf}
-use Rattle.tables.specs.Form.{tableBytes, shapeOf}
+use Rattle.tables.specs.Form.{tableBytes, maxTableBytes, rowBytes, shapeOf}
 use Rattle.tables.specs.Operations.{tablesTo}
 use Rattle.tables.specs.Rows.{part, splice}
 use Rattle.tables.specs.Work.{lineValue, Fixes, Sound, Good, Faulty, Table}
@@ -61,28 +61,32 @@ length-tablesTo j zero = sym (zero-mul (tableBytes (j .inputs)))
 length-tablesTo j (suc c) =
     length-append (tablesTo j c) (circuitTable j c) ∙ ap₂ _+_ (length-tablesTo j c) (length-table j c) ∙ sym (suc-mul c (tableBytes (j .inputs)))
 
-pub tableBytes-most : (n : ℕ) → n ≤ maxInputs → tableBytes n ≤ 32
-unfolding maxInputs
+pub tableBytes-most : (n : ℕ) → n ≤ maxInputs → tableBytes n ≤ maxTableBytes
+unfolding maxInputs maxTableBytes
 tableBytes-most n h = let p : 2 ^ n ≤ 256 = pow-mono h in omega arith
 
-pub sound : (j : Job) (rows : List ℕ) → Valid j → length rows ≡ 4608 → Sound j (shapeOf (j .inputs)) rows
-unfolding maxInputs maxGates
+pub sound : (j : Job) (rows : List ℕ) → Valid j → length rows ≡ rowBytes → Sound j (shapeOf (j .inputs)) rows
+unfolding rowBytes
 sound j rows v h =
-    let few : 2 * lines j ≤ 144 = omega (arith, v .few, v .gates-few) in
+    let few : 2 * lines j ≤ 2 * (maxInputs + maxGates) = omega (arith, v .few, v .gates-few) in
     record {
       valid = v;
       shaped = refl;
       room = subst (λ (k : ℕ). 2 * lines j * tableBytes (j .inputs) ≤ k) (sym h) (mul-le-mul few (tableBytes-most (j .inputs) (v .few)));
     }
 
-pub sound-of : (j : Job) (shape : Shape) (rows : List ℕ) → Valid j → shape ≡ shapeOf (j .inputs) → length rows ≡ 4608 → Sound j shape rows
+pub sound-of : (j : Job) (shape : Shape) (rows : List ℕ) → Valid j → shape ≡ shapeOf (j .inputs) → length rows ≡ rowBytes → Sound j shape rows
 sound-of j shape rows v e h = subst (λ (x : Shape). Sound j x rows) (sym e) (sound j rows v h)
 
+-- the bytes of the most and largest tables
+all-tables-fit : (maxFaults + 1) * maxTableBytes < 2 ^ 64
+unfolding maxFaults maxTableBytes
+all-tables-fit = lit< tt
+
 pub table-count-fits : (j : Job) → Valid j → Fits w64 ((j .«fault_count» + 1) * tableBytes (j .inputs))
-unfolding maxFaults
 table-count-fits j v =
-    let f : j .«fault_count» + 1 ≤ 64 = omega (arith, v .faults-few) in
-    record { fits = lt-of-le-of-lt (mul-le-mul f (tableBytes-most (j .inputs) (v .few))) (lit< tt) }
+    let f : j .«fault_count» + 1 ≤ maxFaults + 1 = omega (arith, v .faults-few) in
+    record { fits = lt-of-le-of-lt (mul-le-mul f (tableBytes-most (j .inputs) (v .few))) all-tables-fit }
 
 fixes-of : (j : Job) (x : Fault) → faultLineOk (j .inputs) (lines j) x ≡ true → faultOrderOk x ≡ true → Fixes j x
 fixes-of j (Stuck l level) p q = record { low = omega arith; high = ltb-true l (lines j) p }

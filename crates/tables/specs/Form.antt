@@ -1,6 +1,7 @@
 -- The gate step over packed bytes: a gate's answers as a polynomial over xor and and.
 --
 --   Shape         the size of a packed table of n inputs: its bytes, and the bits of each byte that are entries
+--   tableBytes, maxTableBytes, rowBytes   the bytes of a table, of the largest table, and of rows for a whole circuit twice
 --   step          eight answers, for two bytes of eight entries each
 --   combined      byte i of a table of answers, for the tables at two places
 --   formOf        the polynomial of a row of four answers, over the bits of a mask
@@ -9,12 +10,21 @@ use Prim.Native.Nat.{ℕ, _+_, _*_, _/_, _%_, _^_}
 use mathlib.Core.List.{List, [], _∷_}
 use lib.ListN.{getD}
 use lib.Bits.{bitAnd, bitXor}
+use Rattle.job.specs.Layout.{maxInputs, maxGates}
 use Rattle.tables.specs.declared.step.Form.{Form}
 use Rattle.tables.specs.declared.step.Shape.{Shape}
 
 -- "(N+7) div 8 bytes", with N = 2 to the power n
 abbrev pub tableBytes : ℕ → ℕ
 tableBytes n = (2 ^ n + 7) / 8
+
+-- the bytes of the largest table
+unfoldable pub maxTableBytes : ℕ
+maxTableBytes = 32
+
+-- a row for each line of the largest good circuit, and one for each line of a faulty one
+unfoldable pub rowBytes : ℕ
+rowBytes = 2 * (maxInputs + maxGates) * maxTableBytes
 
 -- the bits of a table's bytes that are no spare bits: one, two and four of n 0, 1 and 2, else all
 abbrev pub keepOf : ℕ → ℕ

@@ -3,10 +3,10 @@ use Prim.Native.Nat.{ℕ, _+_, _*_, _≤_, _<_}
 use mathlib.Core.Path.{sym, ap, subst, _∙_}
 use denote.Ref.{now}
 use lib.ListN.{length, length-replicate}
-use Rattle.job.specs.Layout.{maxInputs}
+use Rattle.job.specs.Layout.{maxInputs, maxGates}
 use Rattle.reading.specs.Reading.{reading}
-use Rattle.reading.proofs.Telling.{told-refused, told-done}
-use Rattle.reading.proofs.Valid.{reading-valid}
+use Rattle.reading.proofs.Telling.{told-refused, told-done, told-valid}
+use Rattle.tables.specs.Form.{maxTableBytes, rowBytes}
 use Rattle.tables.specs.declared.step.Shape.{Shape}
 use Rattle.tables.proofs.Answering.{table-unread, table-number, table-memory, table-done}
 use Rattle.tables.proofs.Delivered.{sound-of}
@@ -19,57 +19,58 @@ use Rattle.reading.proofs.read.Reads as read-reads
 use Rattle.tables.proofs.put_table.Reads as put-table-reads
 use Rattle.tables.proofs.step.shape_of.Reads as shape-of-reads
 
--- src/lib.rt:41:9
+-- src/lib.rt:44:9
 read-requires : tie.Need-read-requires
 read-requires c κs = search needs
 
--- src/lib.rt:43:29
+-- src/lib.rt:46:29
 enum-known-outcome : tie.Need-enum-known-outcome
 enum-known-outcome c = search needs
 
--- src/lib.rt:44:9
+-- src/lib.rt:47:9
 returns : tie.Need-returns
-returns c = table-unread (now (c .before .before .before .before .before .before .args .bytes)) (now (c .before .before .before .before .before .before .args .out)) (c .before .before .before .before .before .before .args .circuit) (told-refused (c .before .before .before .read .result) (reading (now (c .before .before .before .before .before .before .args .bytes))) (c .before .before .before .read .ensures) _ (c .before .outcome .given .1))
+returns c = let a = c .before .before .before .before .before .before .args in let r = c .before .before .before .read in table-unread (now (a .bytes)) (now (a .out)) (a .circuit) (told-refused (r .result) (reading (now (a .bytes))) (r .ensures) _ (c .before .outcome .given .1))
 
 enum-told : tie.Need-enum-told
 enum-told c = search needs
 
--- src/lib.rt:47:9
+-- src/lib.rt:50:9
 cast-if1 : tie.Need-cast-if1
 cast-if1 c = search needs
 
--- src/lib.rt:48:9
+-- src/lib.rt:51:9
 returns-2 : tie.Need-returns-2
-returns-2 c = table-number (now (c .before .before .before .before .before .before .before .before .args .bytes)) (now (c .before .before .before .before .before .before .before .before .args .out)) (c .before .before .before .before .before .before .before .before .args .circuit) (c .before .before .before .before .before .read .result .job) (told-done (c .before .before .before .before .before .read .result) (reading (now (c .before .before .before .before .before .before .before .before .args .bytes))) (c .before .before .before .before .before .read .ensures) (c .before .before .before .enum-told .given .1)) (c .if1 .taken)
+returns-2 c = let a = c .before .before .before .before .before .before .before .before .args in let r = c .before .before .before .before .before .read in let done = c .before .before .before .enum-told in table-number (now (a .bytes)) (now (a .out)) (a .circuit) (r .result .job) (told-done (r .result) (reading (now (a .bytes))) (r .ensures) (done .given .1)) (c .if1 .taken)
 
--- src/lib.rt:50:32
+-- src/lib.rt:53:32
 cast-shape-of : tie.Need-cast-shape-of
 cast-shape-of c = search needs
 
--- src/lib.rt:50:9
+-- src/lib.rt:53:9
 shape-of-requires : tie.Need-shape-of-requires
 unfolding maxInputs
-shape-of-requires c κs = omega (arith, (reading-valid (now (c .before .before .before .before .before .before .before .before .before .args .bytes)) (c .before .before .before .before .before .before .read .result .job) (told-done (c .before .before .before .before .before .before .read .result) (reading (now (c .before .before .before .before .before .before .before .before .before .args .bytes))) (c .before .before .before .before .before .before .read .ensures) (c .before .before .before .before .enum-told .given .1))) .few)
+shape-of-requires c κs = let a = c .before .before .before .before .before .before .before .before .before .args in let r = c .before .before .before .before .before .before .read in let done = c .before .before .before .before .enum-told in omega (arith, (told-valid (r .result) (now (a .bytes)) (r .ensures) (done .given .1)) .few)
 
--- src/lib.rt:52:9
+-- src/lib.rt:55:9
 returns-3 : tie.Need-returns-3
-returns-3 c = table-memory (now (c .before .before .before .before .before .before .before .before .before .before .before .before .args .bytes)) (now (c .before .before .before .before .before .before .before .before .before .before .before .before .args .out)) (c .before .before .before .before .before .before .before .before .before .before .before .before .args .circuit) (c .before .before .before .before .before .before .before .before .before .read .result .job) (told-done (c .before .before .before .before .before .before .before .before .before .read .result) (reading (now (c .before .before .before .before .before .before .before .before .before .before .before .before .args .bytes))) (c .before .before .before .before .before .before .before .before .before .read .ensures) (c .before .before .before .before .before .before .before .enum-told .given .1)) (c .before .before .before .before .if1 .left) (subst (λ (k : ℕ). length (now (c .before .before .before .before .before .before .before .before .before .before .before .before .args .out)) < k) (ap (λ (x : Shape). x .bytes) (c .before .before .shape-of .ensures)) (c .if2 .taken))
+returns-3 c = let a = c .before .before .before .before .before .before .before .before .before .before .before .before .args in let r = c .before .before .before .before .before .before .before .before .before .read in let done = c .before .before .before .before .before .before .before .enum-told in table-memory (now (a .bytes)) (now (a .out)) (a .circuit) (r .result .job) (told-done (r .result) (reading (now (a .bytes))) (r .ensures) (done .given .1)) (c .before .before .before .before .if1 .left) (subst (λ (k : ℕ). length (now (a .out)) < k) (ap (λ (x : Shape). x .bytes) (c .before .before .shape-of .ensures)) (c .if2 .taken))
 
--- src/lib.rt:55:20
+-- src/lib.rt:58:20
 slice-aggregate-put-table : tie.Need-slice-aggregate-put-table
 slice-aggregate-put-table c = search needs
 
--- src/lib.rt:55:5
+-- src/lib.rt:58:5
 put-table-requires : tie.Need-put-table-requires
-put-table-requires c κs = (sound-of (c .before .before .before .before .before .before .before .before .before .before .before .read .result .job) _ _ (reading-valid (now (c .before .before .before .before .before .before .before .before .before .before .before .before .before .before .args .bytes)) (c .before .before .before .before .before .before .before .before .before .before .before .read .result .job) (told-done (c .before .before .before .before .before .before .before .before .before .before .before .read .result) (reading (now (c .before .before .before .before .before .before .before .before .before .before .before .before .before .before .args .bytes))) (c .before .before .before .before .before .before .before .before .before .before .before .read .ensures) (c .before .before .before .before .before .before .before .before .before .enum-told .given .1))) (c .before .before .before .before .shape-of .ensures) (length-replicate {A = ℕ} 4608 0), c .before .before .before .before .before .before .if1 .left, subst (λ (k : ℕ). k ≤ length (now (c .before .before .before .before .before .before .before .before .before .before .before .before .before .before .args .out))) (ap (λ (x : Shape). x .bytes) (c .before .before .before .before .shape-of .ensures)) (c .before .before .if2 .left))
+unfolding maxInputs maxGates maxTableBytes rowBytes
+put-table-requires c κs = let a = c .before .before .before .before .before .before .before .before .before .before .before .before .before .before .args in let r = c .before .before .before .before .before .before .before .before .before .before .before .read in let done = c .before .before .before .before .before .before .before .before .before .enum-told in (sound-of (r .result .job) _ _ (told-valid (r .result) (now (a .bytes)) (r .ensures) (done .given .1)) (c .before .before .before .before .shape-of .ensures) (length-replicate {A = ℕ} 4608 0), c .before .before .before .before .before .before .if1 .left, subst (λ (k : ℕ). k ≤ length (now (a .out))) (ap (λ (x : Shape). x .bytes) (c .before .before .before .before .shape-of .ensures)) (c .before .before .if2 .left))
 
--- src/lib.rt:38:1
+-- src/lib.rt:41:1
 same-length : tie.Need-same-length
 same-length c = search needs
 
--- src/lib.rt:38:1
+-- src/lib.rt:41:1
 returns-4 : tie.Need-returns-4
-returns-4 c = table-done (now (c .before .before .before .before .before .before .before .before .before .before .before .before .before .before .before .before .before .before .args .bytes)) (now (c .before .before .before .before .before .before .before .before .before .before .before .before .before .before .before .before .before .before .args .out)) (c .before .before .before .before .before .before .before .before .before .before .before .before .before .before .before .before .before .before .args .circuit) (c .before .before .before .before .before .before .before .before .before .before .before .before .before .before .before .read .result .job) (told-done (c .before .before .before .before .before .before .before .before .before .before .before .before .before .before .before .read .result) (reading (now (c .before .before .before .before .before .before .before .before .before .before .before .before .before .before .before .before .before .before .args .bytes))) (c .before .before .before .before .before .before .before .before .before .before .before .before .before .before .before .read .ensures) (c .before .before .before .before .before .before .before .before .before .before .before .before .before .enum-told .given .1)) _ (c .before .before .before .before .before .before .before .before .before .before .if1 .left) (subst (λ (k : ℕ). k ≤ length (now (c .before .before .before .before .before .before .before .before .before .before .before .before .before .before .before .before .before .before .args .out))) (ap (λ (x : Shape). x .bytes) (c .before .before .before .before .before .before .before .before .shape-of .ensures)) (c .before .before .before .before .before .before .if2 .left)) (c .before .before .before .put-table .ensures)
+returns-4 c = let a = c .before .before .before .before .before .before .before .before .before .before .before .before .before .before .before .before .before .before .args in let r = c .before .before .before .before .before .before .before .before .before .before .before .before .before .before .before .read in let done = c .before .before .before .before .before .before .before .before .before .before .before .before .before .enum-told in table-done (now (a .bytes)) (now (a .out)) (a .circuit) (r .result .job) (told-done (r .result) (reading (now (a .bytes))) (r .ensures) (done .given .1)) _ (c .before .before .before .before .before .before .before .before .before .before .if1 .left) (subst (λ (k : ℕ). k ≤ length (now (a .out))) (ap (λ (x : Shape). x .bytes) (c .before .before .before .before .before .before .before .before .shape-of .ensures)) (c .before .before .before .before .before .before .if2 .left)) (c .before .before .before .put-table .ensures)
 
 pub table-spec : {M : Type 1} → statement M
 table-spec =
