@@ -1,6 +1,7 @@
 pub mod Answers
 pub mod Below
 pub mod Bits
+pub mod Bytes
 pub mod Digits
 pub mod Fields
 pub mod Packed

@@ -2,6 +2,7 @@
 --
 --   Table n f          the entries of f below n are 0 and 1
 --   Bytes s            the elements of s are below 256
+--   length-bytesTo     so many bytes are asked for, so many there are
 --   tabulate-more      one entry more
 --   length-tabulate    the number of entries
 --   tabulate-at        the entries of a list of entries
@@ -108,7 +109,7 @@ byte-digit bits h k l =
 binary-drop : (n : ℕ) (bits : List ℕ) → Binary bits → Binary (drop n bits)
 binary-drop n bits h k = rw getD-drop (h (n + k))
 
-length-bytesTo : (n : ℕ) (bits : List ℕ) → length (bytesTo n bits) ≡ n
+pub length-bytesTo : (n : ℕ) (bits : List ℕ) → length (bytesTo n bits) ≡ n
 unfolding bytesTo
 length-bytesTo zero bits = refl
 length-bytesTo (suc n) bits = ap suc (length-bytesTo n (drop 8 bits))

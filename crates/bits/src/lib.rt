@@ -2,6 +2,7 @@
 ghost use mathlib.Core.Path.{_≡_};
 ghost use Prim.Native.Nat.{_<_};
 ghost use lib.ListN.{getD};
+ghost use Rattle.bits.specs.Answer.{number};
 ghost use Rattle.bits.specs.Field.{fieldAt, from, spareOnly};
 
 // The causes for which an operation refuses, in the order of their numbers in document 01, 1 to 18.
@@ -24,6 +25,34 @@ pub enum Refusal {
     Index,
     ReadingCount,
     FaultCount,
+}
+
+impl Refusal {
+    // The number that the document gives the cause.
+    pub fn number(self) -> usize
+        ensures { λ r. ⌜ r ≡ number self ⌝ }
+    {
+        match self {
+            Refusal::FieldCut => 1,
+            Refusal::InputCount => 2,
+            Refusal::GateCount => 3,
+            Refusal::GateLine => 4,
+            Refusal::UnaryLines => 5,
+            Refusal::OutputLine => 6,
+            Refusal::FaultLine => 7,
+            Refusal::FaultOrder => 8,
+            Refusal::Ending => 9,
+            Refusal::Memory => 10,
+            Refusal::CircuitNumber => 11,
+            Refusal::TableShape => 12,
+            Refusal::Polarity => 13,
+            Refusal::NoTable => 14,
+            Refusal::Alike => 15,
+            Refusal::Index => 16,
+            Refusal::ReadingCount => 17,
+            Refusal::FaultCount => 18,
+        }
+    }
 }
 
 // Success alone, or the refusal.

@@ -1,0 +1,110 @@
+-- Laws of the bits of a job, entry by entry (specs/Writing.antt).
+--
+--   fromGateCount, fromGates, fromOutput, fromFaultCount   the bits of a job from a place on
+--   entry-same      equal kinds and lines have equal bits
+--   entries-ready   where all entries have room, the next one has
+--   entries-none, entries-next, entries-done   no entry is put, one more is put, all are put
+--   bytes-jobBits   the number of a job's bytes, as the code works it out
+use Prim.Native.Nat.{ℕ, suc, _+_, _*_, _/_, _≤_, _<_}
+use mathlib.Core.Path.{_≡_, refl, sym, ap, ap₂, _∙_, subst}
+use mathlib.Core.List.{List, [], _∷_, _++_, append-assoc, append-nil}
+use native.Mathlib.Nat.{suc-mul, add-comm}
+use native.Mathlib.Numerals.{add-one}
+use native.Mathlib.Omega.{arith}
+use lib.ListN.{length, getD, take, drop, length-append, take-append-drop}
+use lib.Seq.{take-suc, take-take, length-take-le}
+use Rattle.bits.specs.Bits.{bitsOf, bytesOf}
+use Rattle.bits.proofs.Bits.{length-bitsOf}
+use Rattle.bits.proofs.Bytes.{length-bytesOf}
+use Rattle.job.specs.Layout.{inputCountBits, gateCountBits, gateKindBits, lineBits, faultCountBits, faultKindBits}
+use Rattle.job.specs.Record.{gateKind, gateA, gateB, faultKind, faultA, faultB}
+use Rattle.job.specs.declared.Job.{Job}
+use Rattle.writing.specs.Pen.{Ready, Puts}
+use Rattle.writing.specs.Writing.{entryBits, gateBits, faultBits, allBits, jobBits}
+use Rattle.writing.specs.declared.Pen.{Pen}
+use Rattle.writing.proofs.Putting.{puts-none, puts-then, ready-front, ready-after}
+
+-- the bits of a job from its gate count, its gates, its output line, its fault count on
+abbrev pub fromFaultCount : Job → List ℕ
+fromFaultCount j = bitsOf faultCountBits (j .«fault_count») ++ allBits faultBits (take (j .«fault_count») (j .faults))
+
+abbrev pub fromOutput : Job → List ℕ
+fromOutput j = bitsOf lineBits (j .output) ++ fromFaultCount j
+
+abbrev pub fromGates : Job → List ℕ
+fromGates j = allBits gateBits (take (j .«gate_count») (j .gates)) ++ fromOutput j
+
+abbrev pub fromGateCount : Job → List ℕ
+fromGateCount j = bitsOf gateCountBits (j .«gate_count») ++ fromGates j
+
+pub entry-same : (kindBits : ℕ) {k l a x b y : ℕ} → k ≡ l → a ≡ x → b ≡ y → entryBits kindBits k a b ≡ entryBits kindBits l x y
+entry-same kindBits p q r = simp (p, q, r)
+
+module _ {A : Type 0} (bits : A → List ℕ) where
+  allBits-append : (xs ys : List A) → allBits bits (xs ++ ys) ≡ allBits bits xs ++ allBits bits ys
+  unfolding allBits
+  allBits-append [] ys = refl
+  allBits-append (x ∷ xs) ys = ap (λ (l : List ℕ). bits x ++ l) (allBits-append xs ys) ∙ sym (append-assoc (bits x) (allBits bits xs) (allBits bits ys))
+
+  allBits-next : (d : A) (entries : List A) (i : ℕ) → i < length entries → allBits bits (take (suc i) entries) ≡ allBits bits (take i entries) ++ bits (getD entries i d)
+  unfolding allBits
+  allBits-next d entries i h =
+      ap (allBits bits) (take-suc entries i d h)
+      ∙ allBits-append (take i entries) (getD entries i d ∷ [])
+      ∙ ap (λ (l : List ℕ). allBits bits (take i entries) ++ l) (append-nil (bits (getD entries i d)))
+
+  length-allBits : (w : ℕ) → ((e : A) → length (bits e) ≡ w) → (entries : List A) → length (allBits bits entries) ≡ length entries * w
+  unfolding allBits
+  length-allBits w h [] = sym (omega arith)
+  length-allBits w h (e ∷ entries) = length-append (bits e) (allBits bits entries) ∙ ap₂ _+_ (h e) (length-allBits w h entries) ∙ sym (suc-mul (length entries) w ∙ add-comm (length entries * w) w)
+
+  pub entries-none : (entries : List A) {out more : List ℕ} {p : Pen} → Ready out p more → Puts out p (allBits bits (take 0 entries)) out p
+  unfolding allBits
+  entries-none entries ready = puts-none ready
+
+  pub entries-done : (entries : List A) {count i : ℕ} {out after : List ℕ} {p q : Pen} → i ≤ count → count ≤ i
+      → Puts out p (allBits bits (take i entries)) after q → Puts out p (allBits bits (take count entries)) after q
+  entries-done entries {count} {i} {out} {after} {p} {q} h k x =
+      let e : i ≡ count = omega arith in
+      subst (λ (n : ℕ). Puts out p (allBits bits (take n entries)) after q) e x
+
+  module _ (d : A) (entries : List A) (i : ℕ) {out mid : List ℕ} {p q : Pen} (put : Puts out p (allBits bits (take i entries)) mid q)
+      {next : List ℕ} (same : next ≡ bits (getD entries i d)) where
+    pub entries-ready : (count : ℕ) → i < count → count ≤ length entries → Ready out p (allBits bits (take count entries)) → Ready mid q next
+    entries-ready count h k ready =
+        let more : suc i ≤ count = omega arith in
+        let rest = drop (suc i) (take count entries) in
+        let split : allBits bits (take count entries) ≡ (allBits bits (take i entries) ++ next) ++ allBits bits rest =
+        ap (allBits bits) (sym (take-append-drop (suc i) (take count entries)) ∙ ap (λ (l : List A). l ++ rest) (take-take (suc i) count entries more))
+        ∙ allBits-append (take (suc i) entries) rest
+        ∙ ap (λ (l : List ℕ). l ++ allBits bits rest) (allBits-next d entries i (omega arith) ∙ ap (λ (l : List ℕ). allBits bits (take i entries) ++ l) (sym same))
+        in
+        ready-after next (ready-front (allBits bits (take i entries) ++ next) (allBits bits rest) (subst (λ (l : List ℕ). Ready out p l) split ready)) put
+
+    pub entries-next : {after : List ℕ} {r : Pen} → i < length entries → Puts mid q next after r → Puts out p (allBits bits (take (i + 1) entries)) after r
+    entries-next {after} {r} h x =
+        subst (λ (l : List ℕ). Puts out p l after r)
+        (ap (λ (l : List ℕ). allBits bits (take i entries) ++ l) same ∙ sym (ap (λ (n : ℕ). allBits bits (take n entries)) (add-one i) ∙ allBits-next d entries i h))
+        (puts-then put x)
+
+length-entryBits : (kindBits kind a b : ℕ) → length (entryBits kindBits kind a b) ≡ kindBits + 2 * lineBits
+unfolding entryBits
+length-entryBits kindBits kind a b = simp (length-append, length-bitsOf) (omega arith)
+
+pub bytes-jobBits : (j : Job) → j .«gate_count» ≤ length (j .gates) → j .«fault_count» ≤ length (j .faults)
+    → (inputCountBits + gateCountBits + j .«gate_count» * (gateKindBits + 2 * lineBits) + lineBits + faultCountBits + j .«fault_count» * (faultKindBits + 2 * lineBits) + 7) / 8
+    ≡ length (bytesOf (jobBits j))
+unfolding jobBits
+bytes-jobBits j g f =
+    let gates : length (allBits gateBits (take (j .«gate_count») (j .gates))) ≡ j .«gate_count» * (gateKindBits + 2 * lineBits) =
+    length-allBits gateBits (gateKindBits + 2 * lineBits) (λ e. length-entryBits gateKindBits (gateKind (e .gate)) (gateA (e .gate)) (gateB (e .gate))) (take (j .«gate_count») (j .gates))
+    ∙ ap (λ (n : ℕ). n * (gateKindBits + 2 * lineBits)) (length-take-le (j .«gate_count») (j .gates) g)
+    in
+    let faults : length (allBits faultBits (take (j .«fault_count») (j .faults))) ≡ j .«fault_count» * (faultKindBits + 2 * lineBits) =
+    length-allBits faultBits (faultKindBits + 2 * lineBits) (λ e. length-entryBits faultKindBits (faultKind (e .fault)) (faultA (e .fault)) (faultB (e .fault))) (take (j .«fault_count») (j .faults))
+    ∙ ap (λ (n : ℕ). n * (faultKindBits + 2 * lineBits)) (length-take-le (j .«fault_count») (j .faults) f)
+    in
+    sym (length-bytesOf (jobBits j) ∙ ap (λ (n : ℕ). (n + 7) / 8) (simp (length-append, length-bitsOf, gates, faults) (regroup inputCountBits gateCountBits (j .«gate_count» * (gateKindBits + 2 * lineBits)) lineBits faultCountBits (j .«fault_count» * (faultKindBits + 2 * lineBits)))))
+  where
+    regroup : (a b c d e f : ℕ) → a + (b + (c + (d + (e + f)))) ≡ a + b + c + d + e + f
+    regroup a b c d e f = omega arith

@@ -1,0 +1,77 @@
+use mathlib.Core.Path.{_≡_, sym, _∙_}
+use native.Mathlib.Omega.{arith}
+use borrow.Author.Needs.{needs}
+use lib.ListN.{length-map, length}
+use Rattle.job.specs.Layout.{maxGates, maxFaults, inputCountBits, gateCountBits, gateKindBits, lineBits, faultCountBits, faultKindBits}
+use Rattle.writing.proofs.Entries.{bytes-jobBits}
+use Rattle.writing.proofs.job_bytes.Statement.{statement}
+use Rattle.writing.proofs.job_bytes.Tie as tie
+
+cast-g : tie.Need-cast-g
+cast-g c = search needs
+
+cast-f : tie.Need-cast-f
+cast-f c = search needs
+
+mul-gate-bits : tie.Need-mul-gate-bits
+mul-gate-bits c = search needs
+
+add-gate-bits : tie.Need-add-gate-bits
+add-gate-bits c = search needs
+
+mul-fault-bits : tie.Need-mul-fault-bits
+mul-fault-bits c = search needs
+
+add-fault-bits : tie.Need-add-fault-bits
+add-fault-bits c = search needs
+
+add-result : tie.Need-add-result
+add-result c = search needs
+
+mul-result : tie.Need-mul-result
+mul-result c = search needs
+
+add-result-2 : tie.Need-add-result-2
+add-result-2 c = search needs
+
+add-result-3 : tie.Need-add-result-3
+add-result-3 c = search needs
+
+add-result-4 : tie.Need-add-result-4
+add-result-4 c = search needs
+
+mul-result-2 : tie.Need-mul-result-2
+mul-result-2 c = search needs
+
+add-result-5 : tie.Need-add-result-5
+add-result-5 c = search needs
+
+add-result-6 : tie.Need-add-result-6
+add-result-6 c = search needs
+
+returns : tie.Need-returns
+unfolding maxGates maxFaults inputCountBits gateCountBits gateKindBits lineBits faultCountBits faultKindBits
+returns c =
+    let gates : length (c .before .before .args .job .gates) ≡ maxGates = sym (length-map (c .before .before .args .job .gates) _) ∙ c .before .before .good .0 .1 .1 .1 .1 .0 .1 .0 .1 in
+    let faults : length (c .before .before .args .job .faults) ≡ maxFaults = sym (length-map (c .before .before .args .job .faults) _) ∙ c .before .before .good .0 .1 .1 .1 .1 .1 .1 .1 .0 .1 .0 .1 in
+    bytes-jobBits (c .before .before .args .job) (omega arith) (omega arith)
+
+pub job-bytes-spec : {M : Type 1} → statement M
+job-bytes-spec =
+    tie.close
+    (tie.spec
+    cast-g
+    cast-f
+    mul-gate-bits
+    add-gate-bits
+    mul-fault-bits
+    add-fault-bits
+    add-result
+    mul-result
+    add-result-2
+    add-result-3
+    add-result-4
+    mul-result-2
+    add-result-5
+    add-result-6
+    returns)
