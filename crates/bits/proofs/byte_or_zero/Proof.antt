@@ -1,3 +1,4 @@
+-- `bits::byte_or_zero` meets its contract.
 use native.Mathlib.Omega.{arith}
 use mathlib.Core.Path.{refl, sym}
 use denote.Ref.{now}
@@ -6,22 +7,16 @@ use lib.ListN.{List·getD-eq-default}
 use borrow.Author.Needs.{needs}
 use Rattle.bits.proofs.byte_or_zero.Statement.{statement}
 use Rattle.bits.proofs.byte_or_zero.Tie as tie
-use Rattle.bits.proofs.byte_or_zero.Reads as reads
-use Rattle.bits.proofs.byte_or_zero.Lts as lts
 
--- src/lib.rt:51:23
 shared-slice-read-result : tie.Need-shared-slice-read-result
 shared-slice-read-result c = search needs
 
--- src/lib.rt:51:23
 cast-result : tie.Need-cast-result
 cast-result c = omega (arith, c .shared-slice-known .given (c .before .before .args .at))
 
--- src/lib.rt:48:1
 returns : tie.Need-returns
 returns c = (refl, c .shared-slice-known .given (c .before .before .args .at) .fits)
 
--- src/lib.rt:48:1
 returns-2 : tie.Need-returns-2
 returns-2 c = (sym (List·getD-eq-default (now (c .before .args .s)) 0 (c .if1 .left)), lit< tt)
 

@@ -1,3 +1,4 @@
+-- `bits::read_field` meets its contract.
 use native.Mathlib.Omega.{arith}
 use mathlib.Core.Path.{sym}
 use denote.Ref.{now}
@@ -6,91 +7,67 @@ use Rattle.bits.proofs.Fields.{fieldAt-cut, fieldAt-late, fieldAt-short
 use borrow.Author.Needs.{needs}
 use Rattle.bits.proofs.read_field.Statement.{statement}
 use Rattle.bits.proofs.read_field.Tie as tie
-use Rattle.bits.proofs.read_field.Reads as reads
-use Rattle.bits.proofs.read_field.Lts as lts
-use Rattle.bits.proofs.byte_or_zero.Reads as byte-or-zero-reads
 
--- src/lib.rt:59:15
 cast-bit : tie.Need-cast-bit
 cast-bit c = search needs
 
--- src/lib.rt:61:9
 returns : tie.Need-returns
 returns c = sym (fieldAt-late (now (c .before .before .before .args .s)) (c .before .before .before .args .c) (c .before .before .before .args .width) (c .if1 .taken))
 
--- src/lib.rt:64:9
 returns-2 : tie.Need-returns-2
 returns-2 c = sym (fieldAt-cut (now (c .before .before .before .before .args .s)) (c .before .before .before .before .args .c) (c .before .before .before .before .args .width) (λ p q. omega (arith, c .if2 .taken)))
 
--- src/lib.rt:67:9
 returns-3 : tie.Need-returns-3
 returns-3 c = sym (fieldAt-cut (now (c .before .before .before .before .before .args .s)) (c .before .before .before .before .before .args .c) (c .before .before .before .before .before .args .width) (λ p q. omega (arith, c .if3 .taken)))
 
--- src/lib.rt:69:14
 add-at : tie.Need-add-at
 add-at c = search needs
 
--- src/lib.rt:70:15
 add-end : tie.Need-add-end
 add-end c = search needs
 
--- src/lib.rt:71:24
 add-if4 : tie.Need-add-if4
 add-if4 c = search needs
 
--- src/lib.rt:71:18
 add-if4-2 : tie.Need-add-if4-2
 add-if4-2 c = search needs
 
--- src/lib.rt:72:9
 returns-4 : tie.Need-returns-4
 returns-4 c = sym (fieldAt-short (now (c .before .before .before .before .before .before .args .s)) (c .before .before .before .before .before .before .args .c) (c .before .before .before .before .before .before .args .width) (c .if4 .taken))
 
--- src/lib.rt:74:16
 byte-or-zero-requires : tie.Need-byte-or-zero-requires
 byte-or-zero-requires c κs = search needs
 
--- src/lib.rt:74:16
 mul-word : tie.Need-mul-word
 mul-word c = search needs
 
--- src/lib.rt:74:60
 add-byte-or-zero : tie.Need-add-byte-or-zero
 add-byte-or-zero c = search needs
 
--- src/lib.rt:74:44
 byte-or-zero-requires-2 : tie.Need-byte-or-zero-requires-2
 byte-or-zero-requires-2 c κs = search needs
 
--- src/lib.rt:74:16
 add-word : tie.Need-add-word
 add-word c = search needs
 
--- src/lib.rt:76:15
 add-t13 : tie.Need-add-t13
 add-t13 c = search needs
 
--- src/lib.rt:77:14
 cast-t15 : tie.Need-cast-t15
 cast-t15 c = search needs
 
--- src/lib.rt:79:28
 sub-t12 : tie.Need-sub-t12
 sub-t12 c = search needs
 
--- src/lib.rt:79:19
 shr-t10 : tie.Need-shr-t10
 shr-t10 c = search needs
 
--- src/lib.rt:79:42
 shl-t14 : tie.Need-shl-t14
 shl-t14 c = search needs
 
--- src/lib.rt:79:18
 rem-t13 : tie.Need-rem-t13
 rem-t13 c = rw (shift-exact (c .before .before .before .before .before .before .before .before .args .width) (c .before .before .before .if3 .left)) (pow-pos (c .before .before .before .before .before .before .before .before .args .width))
 
--- src/lib.rt:55:1
 returns-5 : tie.Need-returns-5
 returns-5 c =
     fieldAt-window (now (c .before .before .before .before .before .before .before .before .args .s)) (c .before .before .before .before .before .before .before .before .args .c) (c .before .before .before .before .before .before .before .before .args .width)

@@ -1,25 +1,20 @@
+-- `job::fault_of` meets its contract.
 use Prim.Native.Nat.{_≤_}
 use mathlib.Core.Path.{sym}
 use borrow.Author.Needs.{zero≤}
 use Rattle.job.proofs.Record.{above, faultOf-rest}
 use Rattle.job.proofs.fault_of.Statement.{statement}
 use Rattle.job.proofs.fault_of.Tie as tie
-use Rattle.job.proofs.fault_of.Reads as reads
-use Rattle.job.proofs.fault_of.Lts as lts
 
--- src/lib.rt:145:1
 returns : tie.Need-returns
 returns c = rw (c .match .keys1)
 
--- src/lib.rt:145:1
 returns-2 : tie.Need-returns-2
 returns-2 c = rw (c .match .keys2)
 
--- src/lib.rt:145:1
 returns-3 : tie.Need-returns-3
 returns-3 c = rw (c .match .keys3)
 
--- src/lib.rt:145:1
 returns-4 : tie.Need-returns-4
 returns-4 c = sym (faultOf-rest (c .before .args .kind) _ _ (above (above (above (zero≤) (c .match .rest .0 .0 .1)) (c .match .rest .0 .1)) (c .match .rest .1)))
 

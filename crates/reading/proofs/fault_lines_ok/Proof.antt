@@ -1,14 +1,11 @@
+-- `reading::fault_lines_ok` meets its contract.
 use borrow.Author.Tests.{lt-ltb, le-ltb}
 use Rattle.reading.proofs.fault_lines_ok.Statement.{statement}
 use Rattle.reading.proofs.fault_lines_ok.Tie as tie
-use Rattle.reading.proofs.fault_lines_ok.Reads as reads
-use Rattle.reading.proofs.fault_lines_ok.Lts as lts
 
--- src/lib.rt:170:1
 returns : tie.Need-returns
 returns c = simp (lt-ltb _ _ (c .if1 .taken))
 
--- src/lib.rt:170:1
 returns-2 : tie.Need-returns-2
 returns-2 c = simp (le-ltb _ _ (c .if1 .left))
 

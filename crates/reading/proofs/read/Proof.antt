@@ -1,3 +1,4 @@
+-- `reading::read` meets its contract.
 use native.Mathlib.Omega.{arith}
 use mathlib.Core.Path.{refl, sym, ap, _∙_}
 use denote.Ref.{now}
@@ -9,100 +10,73 @@ use Rattle.reading.specs.Reading.{reading, wholeJob}
 use borrow.Author.Needs.{needs}
 use Rattle.reading.proofs.read.Statement.{statement}
 use Rattle.reading.proofs.read.Tie as tie
-use Rattle.reading.proofs.read.Reads as reads
-use Rattle.reading.proofs.read.Lts as lts
-use Rattle.bits.proofs.read_field.Reads as read-field-reads
-use Rattle.job.proofs.empty_job.Reads as empty-job-reads
-use Rattle.reading.proofs.read_gates.Reads as read-gates-reads
-use Rattle.reading.proofs.refused.Reads as refused-reads
 
--- src/lib.rt:36:30
 read-field-requires : tie.Need-read-field-requires
 read-field-requires c κs = search needs
 
--- src/lib.rt:36:22
 enum-known-n : tie.Need-enum-known-n
 enum-known-n c = search needs
 
--- src/lib.rt:37:24
 enum-told : tie.Need-enum-told
 enum-told c = search needs
 
--- src/lib.rt:37:9
 refused-requires : tie.Need-refused-requires
 refused-requires c κs = search needs
 
--- src/lib.rt:37:9
 returns : tie.Need-returns
 unfolding reading wholeJob inputCountBits gateCountBits maxInputs maxGates from
 returns c = c .refused .ensures ∙ simp (field-cut (now (c .before .before .before .before .before .args .s)) _ 4 refl (sym (c .before .before .before .read-field .ensures) ∙ c .before .enum-told .given .1))
 
--- src/lib.rt:40:9
 refused-requires-2 : tie.Need-refused-requires-2
 refused-requires-2 c κs = search needs
 
--- src/lib.rt:40:9
 returns-2 : tie.Need-returns-2
 unfolding reading wholeJob inputCountBits gateCountBits maxInputs maxGates from
 returns-2 c = c .refused2 .ensures ∙ simp (field-value (now (c .before .before .before .before .before .before .before .args .s)) _ 4 _ _ (sym (c .before .before .before .before .before .read-field .ensures) ∙ c .before .before .before .n .given .1), lt-leb _ _ (c .before .if1 .taken))
 
--- src/lib.rt:43:9
 refused-requires-3 : tie.Need-refused-requires-3
 refused-requires-3 c κs = search needs
 
--- src/lib.rt:43:9
 returns-3 : tie.Need-returns-3
 unfolding reading wholeJob inputCountBits gateCountBits maxInputs maxGates from
 returns-3 c = c .refused3 .ensures ∙ simp (field-value (now (c .before .before .before .before .before .before .before .before .args .s)) _ 4 _ _ (sym (c .before .before .before .before .before .before .read-field .ensures) ∙ c .before .before .before .before .n .given .1), le-leb _ _ (c .before .before .if1 .left), lt-leb _ _ (c .before .if2 .taken))
 
--- src/lib.rt:45:30
 read-field-requires-2 : tie.Need-read-field-requires-2
 read-field-requires-2 c κs = search needs
 
--- src/lib.rt:45:22
 enum-known-g : tie.Need-enum-known-g
 enum-known-g c = search needs
 
--- src/lib.rt:46:24
 enum-told-2 : tie.Need-enum-told-2
 enum-told-2 c = search needs
 
--- src/lib.rt:46:9
 refused-requires-4 : tie.Need-refused-requires-4
 refused-requires-4 c κs = search needs
 
--- src/lib.rt:46:9
 returns-4 : tie.Need-returns-4
 unfolding reading wholeJob inputCountBits gateCountBits maxInputs maxGates from
 returns-4 c = c .refused4 .ensures ∙ simp (field-value (now (c .before .before .before .before .before .before .before .before .before .before .before .args .s)) _ 4 _ _ (sym (c .before .before .before .before .before .before .before .before .before .read-field .ensures) ∙ c .before .before .before .before .before .before .before .n .given .1), le-leb _ _ (c .before .before .before .before .before .if1 .left), le-leb _ _ (c .before .before .before .before .if2 .left), field-cut (now (c .before .before .before .before .before .before .before .before .before .before .before .args .s)) _ 7 refl (sym (c .before .before .before .read-field2 .ensures) ∙ c .before .enum-told2 .given .1))
 
--- src/lib.rt:49:9
 refused-requires-5 : tie.Need-refused-requires-5
 refused-requires-5 c κs = search needs
 
--- src/lib.rt:49:9
 returns-5 : tie.Need-returns-5
 unfolding reading wholeJob inputCountBits gateCountBits maxInputs maxGates from
 returns-5 c = c .refused5 .ensures ∙ simp (field-value (now (c .before .before .before .before .before .before .before .before .before .before .before .before .before .args .s)) _ 4 _ _ (sym (c .before .before .before .before .before .before .before .before .before .before .before .read-field .ensures) ∙ c .before .before .before .before .before .before .before .before .before .n .given .1), le-leb _ _ (c .before .before .before .before .before .before .before .if1 .left), le-leb _ _ (c .before .before .before .before .before .before .if2 .left), field-value (now (c .before .before .before .before .before .before .before .before .before .before .before .before .before .args .s)) _ 7 _ _ (sym (c .before .before .before .before .before .read-field2 .ensures) ∙ c .before .before .before .g .given .1), lt-leb _ _ (c .before .if3 .taken))
 
--- src/lib.rt:51:9
 empty-job-requires : tie.Need-empty-job-requires
 empty-job-requires c κs = search needs
 
--- src/lib.rt:52:18
 cast-job : tie.Need-cast-job
 cast-job c = search needs
 
--- src/lib.rt:53:22
 cast-job-2 : tie.Need-cast-job-2
 cast-job-2 c = search needs
 
--- src/lib.rt:54:5
 read-gates-requires : tie.Need-read-gates-requires
 unfolding maxGates
 read-gates-requires c κs = c .before .if3 .left
 
--- src/lib.rt:32:1
 returns-6 : tie.Need-returns-6
 unfolding reading wholeJob inputCountBits gateCountBits maxInputs maxGates from
 returns-6 c = c .read-gates .ensures ∙ simp (field-value (now (c .before .before .before .before .before .before .before .before .before .before .before .before .before .before .args .s)) _ 4 _ _ (sym (c .before .before .before .before .before .before .before .before .before .before .before .before .read-field .ensures) ∙ c .before .before .before .before .before .before .before .before .before .before .n .given .1), le-leb _ _ (c .before .before .before .before .before .before .before .before .if1 .left), le-leb _ _ (c .before .before .before .before .before .before .before .if2 .left), field-value (now (c .before .before .before .before .before .before .before .before .before .before .before .before .before .before .args .s)) _ 7 _ _ (sym (c .before .before .before .before .before .before .read-field2 .ensures) ∙ c .before .before .before .before .g .given .1), le-leb _ _ (c .before .before .if3 .left), c .before .empty-job .ensures)

@@ -1,28 +1,21 @@
+-- `reading::read_end` meets its contract.
 use mathlib.Core.Path.{sym, _∙_}
 use borrow.Author.Tests.{not-true, not-false}
 use Rattle.reading.specs.Reading.{spare, fromEnd}
 use borrow.Author.Needs.{needs}
 use Rattle.reading.proofs.read_end.Statement.{statement}
 use Rattle.reading.proofs.read_end.Tie as tie
-use Rattle.reading.proofs.read_end.Reads as reads
-use Rattle.reading.proofs.read_end.Lts as lts
-use Rattle.bits.proofs.spare_only.Reads as spare-only-reads
-use Rattle.reading.proofs.refused.Reads as refused-reads
 
--- src/lib.rt:223:9
 spare-only-requires : tie.Need-spare-only-requires
 spare-only-requires c κs = search needs
 
--- src/lib.rt:224:9
 refused-requires : tie.Need-refused-requires
 refused-requires c κs = search needs
 
--- src/lib.rt:224:9
 returns : tie.Need-returns
 unfolding fromEnd spare
 returns c = c .refused .ensures ∙ simp (sym (c .before .before .spare-only .ensures) ∙ not-true _ (c .before .if1 .taken))
 
--- src/lib.rt:220:1
 returns-2 : tie.Need-returns-2
 unfolding fromEnd spare
 returns-2 c = simp (sym (c .before .spare-only .ensures) ∙ not-false _ (c .if1 .left))

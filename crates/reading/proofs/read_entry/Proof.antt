@@ -1,3 +1,4 @@
+-- `reading::read_entry` meets its contract.
 use mathlib.Core.Path.{refl, sym, _∙_}
 use denote.Ref.{now}
 use Rattle.bits.proofs.Fields.{field-value, field-cut, field-lt}
@@ -6,62 +7,46 @@ use Rattle.reading.specs.Reading.{entryFields}
 use borrow.Author.Needs.{needs}
 use Rattle.reading.proofs.read_entry.Statement.{statement}
 use Rattle.reading.proofs.read_entry.Tie as tie
-use Rattle.reading.proofs.read_entry.Reads as reads
-use Rattle.reading.proofs.read_entry.Lts as lts
-use Rattle.bits.proofs.read_field.Reads as read-field-reads
 
--- src/lib.rt:67:33
 read-field-requires : tie.Need-read-field-requires
 read-field-requires c κs = search needs
 
--- src/lib.rt:67:22
 enum-known-kind : tie.Need-enum-known-kind
 enum-known-kind c = search needs
 
--- src/lib.rt:68:9
 enum-told : tie.Need-enum-told
 enum-told c = search needs
 
--- src/lib.rt:68:9
 returns : tie.Need-returns
 unfolding entryFields lineBits
 returns c = (simp (field-cut (now (c .before .before .before .before .args .s)) (c .before .before .before .before .args .at) (c .before .before .before .before .args .kind-bits) (c .before .before .before .before .pre) (sym (c .before .before .read-field .ensures) ∙ c .enum-told .given .1)), tt)
 
--- src/lib.rt:70:30
 read-field-requires-2 : tie.Need-read-field-requires-2
 read-field-requires-2 c κs = search needs
 
--- src/lib.rt:70:22
 enum-known-a : tie.Need-enum-known-a
 enum-known-a c = search needs
 
--- src/lib.rt:71:9
 enum-told-2 : tie.Need-enum-told-2
 enum-told-2 c = search needs
 
--- src/lib.rt:71:9
 returns-2 : tie.Need-returns-2
 unfolding entryFields lineBits
 returns-2 c = (simp (field-value (now (c .before .before .before .before .before .before .before .before .args .s)) (c .before .before .before .before .before .before .before .before .args .at) (c .before .before .before .before .before .before .before .before .args .kind-bits) _ _ (sym (c .before .before .before .before .before .before .read-field .ensures) ∙ c .before .before .before .before .kind .given .1), field-cut (now (c .before .before .before .before .before .before .before .before .args .s)) _ 7 refl (sym (c .before .before .read-field2 .ensures) ∙ c .enum-told2 .given .1)), tt)
 
--- src/lib.rt:73:30
 read-field-requires-3 : tie.Need-read-field-requires-3
 read-field-requires-3 c κs = search needs
 
--- src/lib.rt:73:22
 enum-known-b : tie.Need-enum-known-b
 enum-known-b c = search needs
 
--- src/lib.rt:74:9
 enum-told-3 : tie.Need-enum-told-3
 enum-told-3 c = search needs
 
--- src/lib.rt:74:9
 returns-3 : tie.Need-returns-3
 unfolding entryFields lineBits
 returns-3 c = (simp (field-value (now (c .before .before .before .before .before .before .before .before .before .before .before .before .args .s)) (c .before .before .before .before .before .before .before .before .before .before .before .before .args .at) (c .before .before .before .before .before .before .before .before .before .before .before .before .args .kind-bits) _ _ (sym (c .before .before .before .before .before .before .before .before .before .before .read-field .ensures) ∙ c .before .before .before .before .before .before .before .before .kind .given .1), field-value (now (c .before .before .before .before .before .before .before .before .before .before .before .before .args .s)) _ 7 _ _ (sym (c .before .before .before .before .before .before .read-field2 .ensures) ∙ c .before .before .before .before .a .given .1), field-cut (now (c .before .before .before .before .before .before .before .before .before .before .before .before .args .s)) _ 7 refl (sym (c .before .before .read-field3 .ensures) ∙ c .enum-told3 .given .1)), tt)
 
--- src/lib.rt:63:1
 returns-4 : tie.Need-returns-4
 unfolding entryFields lineBits
 returns-4 c = (simp (field-value (now (c .before .before .before .before .before .before .before .before .before .before .before .before .before .args .s)) (c .before .before .before .before .before .before .before .before .before .before .before .before .before .args .at) (c .before .before .before .before .before .before .before .before .before .before .before .before .before .args .kind-bits) _ _ (sym (c .before .before .before .before .before .before .before .before .before .before .before .read-field .ensures) ∙ c .before .before .before .before .before .before .before .before .before .kind .given .1), field-value (now (c .before .before .before .before .before .before .before .before .before .before .before .before .before .args .s)) _ 7 _ _ (sym (c .before .before .before .before .before .before .before .read-field2 .ensures) ∙ c .before .before .before .before .before .a .given .1), field-value (now (c .before .before .before .before .before .before .before .before .before .before .before .before .before .args .s)) _ 7 _ _ (sym (c .before .before .before .read-field3 .ensures) ∙ c .before .b .given .1)), (field-lt (now (c .before .before .before .before .before .before .before .before .before .before .before .before .before .args .s)) _ 7 _ _ (sym (c .before .before .before .before .before .before .before .read-field2 .ensures) ∙ c .before .before .before .before .before .a .given .1), field-lt (now (c .before .before .before .before .before .before .before .before .before .before .before .before .before .args .s)) _ 7 _ _ (sym (c .before .before .before .read-field3 .ensures) ∙ c .before .b .given .1)))

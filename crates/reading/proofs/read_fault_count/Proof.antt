@@ -1,3 +1,4 @@
+-- `reading::read_fault_count` meets its contract.
 use native.Mathlib.Omega.{arith}
 use mathlib.Core.Path.{refl, sym, ap, _∙_}
 use denote.Ref.{now}
@@ -8,43 +9,30 @@ use Rattle.reading.specs.Reading.{fromFaultCount}
 use borrow.Author.Needs.{needs}
 use Rattle.reading.proofs.read_fault_count.Statement.{statement}
 use Rattle.reading.proofs.read_fault_count.Tie as tie
-use Rattle.reading.proofs.read_fault_count.Reads as reads
-use Rattle.reading.proofs.read_fault_count.Lts as lts
-use Rattle.bits.proofs.read_field.Reads as read-field-reads
-use Rattle.reading.proofs.read_faults.Reads as read-faults-reads
-use Rattle.reading.proofs.refused.Reads as refused-reads
 
--- src/lib.rt:155:30
 read-field-requires : tie.Need-read-field-requires
 read-field-requires c κs = search needs
 
--- src/lib.rt:155:22
 enum-known-f : tie.Need-enum-known-f
 enum-known-f c = search needs
 
--- src/lib.rt:156:24
 enum-told : tie.Need-enum-told
 enum-told c = search needs
 
--- src/lib.rt:156:9
 refused-requires : tie.Need-refused-requires
 refused-requires c κs = search needs
 
--- src/lib.rt:156:9
 returns : tie.Need-returns
 unfolding fromFaultCount faultCountBits
 returns c = c .refused .ensures ∙ simp (field-cut (now (c .before .before .before .before .before .args .s)) _ 6 refl (sym (c .before .before .before .read-field .ensures) ∙ c .before .enum-told .given .1))
 
--- src/lib.rt:159:23
 cast-job : tie.Need-cast-job
 cast-job c = omega (arith, field-lt (now (c .before .before .before .before .before .args .s)) _ 6 _ _ (sym (c .before .before .before .read-field .ensures) ∙ c .before .f .given .1))
 
--- src/lib.rt:160:5
 read-faults-requires : tie.Need-read-faults-requires
 unfolding maxFaults
 read-faults-requires c κs = omega (arith, field-lt (now (c .before .before .before .before .before .args .s)) _ 6 _ _ (sym (c .before .before .before .read-field .ensures) ∙ c .before .f .given .1))
 
--- src/lib.rt:152:1
 returns-2 : tie.Need-returns-2
 unfolding fromFaultCount faultCountBits
 returns-2 c = c .read-faults .ensures ∙ simp (field-value (now (c .before .before .before .before .before .before .args .s)) _ 6 _ _ (sym (c .before .before .before .before .read-field .ensures) ∙ c .before .before .f .given .1))

@@ -1,3 +1,4 @@
+-- `reading::read_faults` meets its contract.
 use borrow.Author.Needs.{needs}
 use native.Mathlib.Omega.{arith}
 use native.Mathlib.Nat.{sub-zero}
@@ -17,11 +18,6 @@ use Rattle.reading.specs.Told.{due, faultTold}
 use Rattle.reading.proofs.Entries.{entries-end, entries-stop, entries-next, fromFaults-stop, fromFaults-done}
 use Rattle.reading.proofs.read_faults.Statement.{statement}
 use Rattle.reading.proofs.read_faults.Tie as tie
-use Rattle.reading.proofs.read_faults.Reads as reads
-use Rattle.reading.proofs.read_faults.Lts as lts
-use Rattle.reading.proofs.read_end.Reads as read-end-reads
-use Rattle.reading.proofs.read_fault.Reads as read-fault-reads
-use Rattle.reading.proofs.refused.Reads as refused-reads
 
 abbrev Inv-loop : tie.InvT-loop
 Inv-loop s n lines f job₀ c₀ i₀ job c i = (i ≤ f) × ((entriesFrom (λ k. fault n lines) f 0 (job₀ .faults) (from s c₀) ≡ entriesFrom (λ k. fault n lines) (f - i) i (job .faults) (from s c)) × (withFaults job₀ (job .faults) ≡ job))
@@ -29,74 +25,57 @@ Inv-loop s n lines f job₀ c₀ i₀ job c i = (i ≤ f) × ((entriesFrom (λ k
 abbrev μ-loop : tie.MeasureT-loop
 μ-loop s n lines f job₀ c₀ i₀ job c i = f - i
 
--- src/lib.rt:198:13
 cast-n : tie.Need-cast-n Inv-loop μ-loop
 cast-n c = search needs
 
--- src/lib.rt:199:21
 cast-lines : tie.Need-cast-lines Inv-loop μ-loop
 cast-lines c = search needs
 
--- src/lib.rt:199:17
 add-lines : tie.Need-add-lines Inv-loop μ-loop
 add-lines c = search needs
 
--- src/lib.rt:200:13
 cast-f : tie.Need-cast-f Inv-loop μ-loop
 cast-f c = search needs
 
--- src/lib.rt:204:5
 loop-holds : tie.Need-loop-holds Inv-loop μ-loop
 loop-holds c = (zero≤, (ap (λ (k : ℕ). entriesFrom (λ i. fault (c .before .before .before .before .args .before .inputs) (lines (c .before .before .before .before .args .before))) k 0 (c .before .before .before .before .args .before .faults) (from (now (c .before .before .before .before .args .s)) (c .before .before .before .before .args .at))) (sym (sub-zero (c .before .before .before .before .args .before .«fault_count»))), refl))
 
--- src/lib.rt:205:15
 read-fault-requires : tie.Need-read-fault-requires Inv-loop μ-loop
 read-fault-requires c κs = tt
 
--- src/lib.rt:206:30
 enum-known-fault : tie.Need-enum-known-fault Inv-loop μ-loop
 enum-known-fault c = search needs
 
--- src/lib.rt:207:17
 mul-t17 : tie.Need-mul-t17 Inv-loop μ-loop
 unfolding maxFaults
 mul-t17 c = omega arith
 
--- src/lib.rt:207:17
 element-set-from-job : tie.Need-element-set-from-job Inv-loop μ-loop
 unfolding maxFaults
 element-set-from-job c = omega arith
 
--- src/lib.rt:210:32
 enum-known-cause : tie.Need-enum-known-cause Inv-loop μ-loop
 enum-known-cause c = search needs
 
--- src/lib.rt:211:17
 refused-requires : tie.Need-refused-requires Inv-loop μ-loop
 refused-requires c κs = tt
 
--- src/lib.rt:211:17
 returns : tie.Need-returns Inv-loop μ-loop
 returns c = c .refused .ensures ∙ ap (λ (x : Answer (Parsed Job)). due (valueRead x)) (sym (fromFaults-stop (c .before .before .before .before .before .before .before .before .before .before .before .args .before) (from (now (c .before .before .before .before .before .before .before .before .before .before .before .args .s)) (c .before .before .before .before .before .before .before .before .before .before .before .args .at)) (c .before .before .before .before .before .before .loop .inv .1 .0 ∙ entries-stop (λ i. fault (c .before .before .before .before .before .before .before .before .before .before .before .args .before .inputs) (lines (c .before .before .before .before .before .before .before .before .before .before .before .args .before))) (c .before .before .before .before .before .before .before .before .before .before .before .args .before .«fault_count») (c .before .before .before .before .before .before .loop .i) (c .before .before .before .before .before .before .loop .job .faults) (from (now (c .before .before .before .before .before .before .before .before .before .before .before .args .s)) (c .before .before .before .before .before .before .loop .c)) (c .before .before .before .before .before .loop-test .taken) (sym (c .before .before .before .before .read-fault .ensures) ∙ ap (faultTold (now (c .before .before .before .before .before .before .before .before .before .before .before .args .s))) (c .before .before .cause .given .1)))))
 
--- src/lib.rt:214:9
 add-i : tie.Need-add-i Inv-loop μ-loop
 unfolding maxFaults
 add-i c = omega arith
 
--- src/lib.rt:204:5
 loop-less : tie.Need-loop-less Inv-loop μ-loop
 loop-less c = omega arith
 
--- src/lib.rt:204:5
 loop-again : tie.Need-loop-again Inv-loop μ-loop
 loop-again c = (omega arith, (c .before .before .before .before .before .loop .inv .1 .0 ∙ entries-next (λ i. fault (c .before .before .before .before .before .before .before .before .before .before .args .before .inputs) (lines (c .before .before .before .before .before .before .before .before .before .before .args .before))) (c .before .before .before .before .before .before .before .before .before .before .args .before .«fault_count») (c .before .before .before .before .before .loop .i) (c .before .before .before .before .before .loop .job .faults) (from (now (c .before .before .before .before .before .before .before .before .before .before .args .s)) (c .before .before .before .before .before .loop .c)) (c .before .before .before .before .loop-test .taken) (sym (c .before .before .before .read-fault .ensures) ∙ ap (faultTold (now (c .before .before .before .before .before .before .before .before .before .before .args .s))) (c .before .fault .given .1)), ap (λ (x : Job). withFaults x (set (c .before .before .before .before .before .loop .job .faults) (c .before .before .before .before .before .loop .i) (record { fault = c .before .fault .given .0 .0 }))) (c .before .before .before .before .before .loop .inv .1 .1)))
 
--- src/lib.rt:216:5
 read-end-requires : tie.Need-read-end-requires Inv-loop μ-loop
 read-end-requires c κs = tt
 
--- src/lib.rt:194:1
 returns-2 : tie.Need-returns-2 Inv-loop μ-loop
 returns-2 c = c .read-end .ensures ∙ ap (λ (x : Answer (Parsed Job)). due (valueRead x)) (sym (fromFaults-done (c .before .before .before .before .before .before .before .args .before) (from (now (c .before .before .before .before .before .before .before .args .s)) (c .before .before .before .before .before .before .before .args .at)) (c .before .before .loop .job) (from (now (c .before .before .before .before .before .before .before .args .s)) (c .before .before .loop .c)) (c .before .before .loop .inv .1 .0 ∙ entries-end (λ i. fault (c .before .before .before .before .before .before .before .args .before .inputs) (lines (c .before .before .before .before .before .before .before .args .before))) (c .before .before .before .before .before .before .before .args .before .«fault_count») (c .before .before .loop .i) (c .before .before .loop .job .faults) (from (now (c .before .before .before .before .before .before .before .args .s)) (c .before .before .loop .c)) (c .before .loop-test .left)) (c .before .before .loop .inv .1 .1)))
 

@@ -1,3 +1,4 @@
+-- `reading::read_gates` meets its contract.
 use borrow.Author.Needs.{needs}
 use native.Mathlib.Omega.{arith}
 use native.Mathlib.Nat.{sub-zero}
@@ -16,11 +17,6 @@ use Rattle.reading.specs.Told.{due, gateTold}
 use Rattle.reading.proofs.Entries.{entries-end, entries-stop, entries-next, fromGates-stop, fromGates-done}
 use Rattle.reading.proofs.read_gates.Statement.{statement}
 use Rattle.reading.proofs.read_gates.Tie as tie
-use Rattle.reading.proofs.read_gates.Reads as reads
-use Rattle.reading.proofs.read_gates.Lts as lts
-use Rattle.reading.proofs.read_gate.Reads as read-gate-reads
-use Rattle.reading.proofs.read_output.Reads as read-output-reads
-use Rattle.reading.proofs.refused.Reads as refused-reads
 
 abbrev Inv-loop : tie.InvT-loop
 Inv-loop s n g job₀ c₀ q₀ job c q = (q ≤ g) × ((entriesFrom (λ i. gate (n + i)) g 0 (job₀ .gates) (from s c₀) ≡ entriesFrom (λ i. gate (n + i)) (g - q) q (job .gates) (from s c)) × (withGates job₀ (job .gates) ≡ job))
@@ -28,70 +24,54 @@ Inv-loop s n g job₀ c₀ q₀ job c q = (q ≤ g) × ((entriesFrom (λ i. gate
 abbrev μ-loop : tie.MeasureT-loop
 μ-loop s n g job₀ c₀ q₀ job c q = g - q
 
--- src/lib.rt:116:13
 cast-n : tie.Need-cast-n Inv-loop μ-loop
 cast-n c = search needs
 
--- src/lib.rt:117:13
 cast-g : tie.Need-cast-g Inv-loop μ-loop
 cast-g c = search needs
 
--- src/lib.rt:121:5
 loop-holds : tie.Need-loop-holds Inv-loop μ-loop
 loop-holds c = (zero≤, (ap (λ (k : ℕ). entriesFrom (λ i. gate (c .before .before .before .args .before .inputs + i)) k 0 (c .before .before .before .args .before .gates) (from (now (c .before .before .before .args .s)) (c .before .before .before .args .at))) (sym (sub-zero (c .before .before .before .args .before .«gate_count»))), refl))
 
--- src/lib.rt:122:31
 add-read-gate : tie.Need-add-read-gate Inv-loop μ-loop
 add-read-gate c = search needs
 
--- src/lib.rt:122:15
 read-gate-requires : tie.Need-read-gate-requires Inv-loop μ-loop
 read-gate-requires c κs = tt
 
--- src/lib.rt:123:29
 enum-known-gate : tie.Need-enum-known-gate Inv-loop μ-loop
 enum-known-gate c = search needs
 
--- src/lib.rt:124:17
 mul-t16 : tie.Need-mul-t16 Inv-loop μ-loop
 unfolding maxGates
 mul-t16 c = omega arith
 
--- src/lib.rt:124:17
 element-set-from-job : tie.Need-element-set-from-job Inv-loop μ-loop
 unfolding maxGates
 element-set-from-job c = omega arith
 
--- src/lib.rt:127:31
 enum-known-cause : tie.Need-enum-known-cause Inv-loop μ-loop
 enum-known-cause c = search needs
 
--- src/lib.rt:128:17
 refused-requires : tie.Need-refused-requires Inv-loop μ-loop
 refused-requires c κs = tt
 
--- src/lib.rt:128:17
 returns : tie.Need-returns Inv-loop μ-loop
 returns c = c .refused .ensures ∙ ap (λ (x : Answer (Parsed Job)). due (valueRead x)) (sym (fromGates-stop (c .before .before .before .before .before .before .before .before .before .before .args .before) (from (now (c .before .before .before .before .before .before .before .before .before .before .args .s)) (c .before .before .before .before .before .before .before .before .before .before .args .at)) (c .before .before .before .before .before .before .loop .inv .1 .0 ∙ entries-stop (λ i. gate (c .before .before .before .before .before .before .before .before .before .before .args .before .inputs + i)) (c .before .before .before .before .before .before .before .before .before .before .args .before .«gate_count») (c .before .before .before .before .before .before .loop .q) (c .before .before .before .before .before .before .loop .job .gates) (from (now (c .before .before .before .before .before .before .before .before .before .before .args .s)) (c .before .before .before .before .before .before .loop .c)) (c .before .before .before .before .before .loop-test .taken) (sym (c .before .before .before .before .read-gate .ensures) ∙ ap (gateTold (now (c .before .before .before .before .before .before .before .before .before .before .args .s))) (c .before .before .cause .given .1)))))
 
--- src/lib.rt:131:9
 add-q : tie.Need-add-q Inv-loop μ-loop
 unfolding maxGates
 add-q c = omega arith
 
--- src/lib.rt:121:5
 loop-less : tie.Need-loop-less Inv-loop μ-loop
 loop-less c = omega arith
 
--- src/lib.rt:121:5
 loop-again : tie.Need-loop-again Inv-loop μ-loop
 loop-again c = (omega arith, (c .before .before .before .before .before .loop .inv .1 .0 ∙ entries-next (λ i. gate (c .before .before .before .before .before .before .before .before .before .args .before .inputs + i)) (c .before .before .before .before .before .before .before .before .before .args .before .«gate_count») (c .before .before .before .before .before .loop .q) (c .before .before .before .before .before .loop .job .gates) (from (now (c .before .before .before .before .before .before .before .before .before .args .s)) (c .before .before .before .before .before .loop .c)) (c .before .before .before .before .loop-test .taken) (sym (c .before .before .before .read-gate .ensures) ∙ ap (gateTold (now (c .before .before .before .before .before .before .before .before .before .args .s))) (c .before .gate .given .1)), ap (λ (x : Job). withGates x (set (c .before .before .before .before .before .loop .job .gates) (c .before .before .before .before .before .loop .q) (record { gate = c .before .gate .given .0 .0 }))) (c .before .before .before .before .before .loop .inv .1 .1)))
 
--- src/lib.rt:133:5
 read-output-requires : tie.Need-read-output-requires Inv-loop μ-loop
 read-output-requires c κs = tt
 
--- src/lib.rt:112:1
 returns-2 : tie.Need-returns-2 Inv-loop μ-loop
 returns-2 c = c .read-output .ensures ∙ ap (λ (x : Answer (Parsed Job)). due (valueRead x)) (sym (fromGates-done (c .before .before .before .before .before .before .args .before) (from (now (c .before .before .before .before .before .before .args .s)) (c .before .before .before .before .before .before .args .at)) (c .before .before .loop .job) (from (now (c .before .before .before .before .before .before .args .s)) (c .before .before .loop .c)) (c .before .before .loop .inv .1 .0 ∙ entries-end (λ i. gate (c .before .before .before .before .before .before .args .before .inputs + i)) (c .before .before .before .before .before .before .args .before .«gate_count») (c .before .before .loop .q) (c .before .before .loop .job .gates) (from (now (c .before .before .before .before .before .before .args .s)) (c .before .before .loop .c)) (c .before .loop-test .left)) (c .before .before .loop .inv .1 .1)))
 

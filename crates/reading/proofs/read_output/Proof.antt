@@ -1,3 +1,4 @@
+-- `reading::read_output` meets its contract.
 use native.Mathlib.Omega.{arith}
 use mathlib.Core.Path.{refl, sym, ap, _∙_}
 use denote.Ref.{now}
@@ -8,63 +9,45 @@ use Rattle.reading.specs.Reading.{fromOutput}
 use borrow.Author.Needs.{needs}
 use Rattle.reading.proofs.read_output.Statement.{statement}
 use Rattle.reading.proofs.read_output.Tie as tie
-use Rattle.reading.proofs.read_output.Reads as reads
-use Rattle.reading.proofs.read_output.Lts as lts
-use Rattle.bits.proofs.read_field.Reads as read-field-reads
-use Rattle.reading.proofs.read_fault_count.Reads as read-fault-count-reads
-use Rattle.reading.proofs.refused.Reads as refused-reads
 
--- src/lib.rt:140:33
 read-field-requires : tie.Need-read-field-requires
 read-field-requires c κs = search needs
 
--- src/lib.rt:140:22
 enum-known-line : tie.Need-enum-known-line
 enum-known-line c = search needs
 
--- src/lib.rt:141:24
 enum-told : tie.Need-enum-told
 enum-told c = search needs
 
--- src/lib.rt:141:9
 refused-requires : tie.Need-refused-requires
 refused-requires c κs = search needs
 
--- src/lib.rt:141:9
 returns : tie.Need-returns
 unfolding fromOutput lineBits
 returns c = c .refused .ensures ∙ simp (field-cut (now (c .before .before .before .before .before .args .s)) _ 7 refl (sym (c .before .before .before .read-field .ensures) ∙ c .before .enum-told .given .1))
 
--- src/lib.rt:143:8
 cast-if1 : tie.Need-cast-if1
 cast-if1 c = search needs
 
--- src/lib.rt:143:33
 cast-if1-2 : tie.Need-cast-if1-2
 cast-if1-2 c = search needs
 
--- src/lib.rt:143:8
 add-if1 : tie.Need-add-if1
 add-if1 c = search needs
 
--- src/lib.rt:144:9
 refused-requires-2 : tie.Need-refused-requires-2
 refused-requires-2 c κs = search needs
 
--- src/lib.rt:144:9
 returns-2 : tie.Need-returns-2
 unfolding fromOutput lineBits
 returns-2 c = c .refused2 .ensures ∙ simp (field-value (now (c .before .before .before .before .before .before .before .before .before .args .s)) _ 7 _ _ (sym (c .before .before .before .before .before .before .before .read-field .ensures) ∙ c .before .before .before .before .before .line .given .1), le-ltb _ _ (c .before .if1 .taken))
 
--- src/lib.rt:147:18
 cast-job : tie.Need-cast-job
 cast-job c = omega (arith, field-lt (now (c .before .before .before .before .before .before .before .before .args .s)) _ 7 _ _ (sym (c .before .before .before .before .before .before .read-field .ensures) ∙ c .before .before .before .before .line .given .1))
 
--- src/lib.rt:148:5
 read-fault-count-requires : tie.Need-read-fault-count-requires
 read-fault-count-requires c κs = search needs
 
--- src/lib.rt:137:1
 returns-3 : tie.Need-returns-3
 unfolding fromOutput lineBits
 returns-3 c = c .read-fault-count .ensures ∙ simp (field-value (now (c .before .before .before .before .before .before .before .before .before .args .s)) _ 7 _ _ (sym (c .before .before .before .before .before .before .before .read-field .ensures) ∙ c .before .before .before .before .before .line .given .1), lt-ltb _ _ (c .before .if1 .left))

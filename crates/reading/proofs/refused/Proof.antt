@@ -1,3 +1,4 @@
+-- `reading::refused` meets its contract.
 use mathlib.Core.Path.{ap}
 use Rattle.bits.specs.Answer.{number}
 use Rattle.bits.specs.Answer.Answer.{refused}
@@ -5,15 +6,10 @@ use Rattle.job.specs.declared.Job.{Job}
 use borrow.Author.Needs.{needs}
 use Rattle.reading.proofs.refused.Statement.{statement}
 use Rattle.reading.proofs.refused.Tie as tie
-use Rattle.reading.proofs.refused.Reads as reads
-use Rattle.reading.proofs.refused.Lts as lts
-use Rattle.job.proofs.empty_job.Reads as empty-job-reads
 
--- src/lib.rt:27:14
 empty-job-requires : tie.Need-empty-job-requires
 empty-job-requires c κs = search needs
 
--- src/lib.rt:22:1
 returns : tie.Need-returns
 returns c = ap (λ (j : Job). record { answer = refused (number (c .before .args .cause)); job = j }) (c .empty-job .ensures)
 

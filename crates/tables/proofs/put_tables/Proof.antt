@@ -1,3 +1,4 @@
+-- `tables::put_tables` meets its contract.
 use borrow.Author.Needs.{needs}
 use native.Mathlib.Omega.{arith}
 use Prim.Native.Nat.{_+_, _-_, _<_}
@@ -7,11 +8,6 @@ use borrow.Author.Count.{falls}
 use Rattle.tables.proofs.Putting.{Putting, sound-kept, table-inside, putting-start, putting-room, putting-length, putting-next, putting-end}
 use Rattle.tables.proofs.put_tables.Statement.{statement}
 use Rattle.tables.proofs.put_tables.Tie as tie
-use Rattle.tables.proofs.put_tables.Reads as reads
-use Rattle.tables.proofs.put_tables.Lts as lts
-use Rattle.tables.proofs.circuit.good_circuit.Reads as good-circuit-reads
-use Rattle.tables.proofs.copy.Reads as copy-reads
-use Rattle.tables.proofs.table_row.Reads as table-row-reads
 
 abbrev Inv-loop : tie.InvT-loop
 Inv-loop out₀ rows₀ job shape circuits bytes c₀ out rows c = Putting job shape out₀ rows₀ out rows c
@@ -19,55 +15,42 @@ Inv-loop out₀ rows₀ job shape circuits bytes c₀ out rows c = Putting job s
 abbrev μ-loop : tie.MeasureT-loop
 μ-loop out₀ rows₀ job shape circuits bytes c₀ out rows c = circuits - c
 
--- src/lib.rt:123:20
 cast-circuits : tie.Need-cast-circuits Inv-loop μ-loop
 cast-circuits c = search needs
 
--- src/lib.rt:123:20
 add-circuits : tie.Need-add-circuits Inv-loop μ-loop
 add-circuits c = search needs
 
--- src/lib.rt:125:5
 good-circuit-requires : tie.Need-good-circuit-requires Inv-loop μ-loop
 good-circuit-requires c κs = c .before .before .before .before .pre .0
 
--- src/lib.rt:127:5
 loop-holds : tie.Need-loop-holds Inv-loop μ-loop
 loop-holds c = putting-start (c .before .before .before .before .before .before .before .args .job) (c .before .before .before .before .before .before .before .args .shape) (now (c .before .before .before .before .before .before .before .args .out)) (c .before .before .good-circuit .last .0) (sound-kept (c .before .before .before .before .before .before .before .args .job) (c .before .before .before .before .before .before .before .args .shape) (now (c .before .before .before .before .before .before .before .args .rows)) (c .before .before .good-circuit .last .0) (c .before .before .before .before .before .before .before .pre .0) (c .before .before .good-circuit .kept .0)) (c .before .before .good-circuit .ensures) (c .before .before .before .before .before .before .before .pre .1)
 
--- src/lib.rt:128:13
 table-row-requires : tie.Need-table-row-requires Inv-loop μ-loop
 table-row-requires c κs = (c .before .before .loop .inv .sound, c .before .before .loop .inv .good, omega (arith, c .before .loop-test .taken))
 
--- src/lib.rt:129:19
 mul-copy : tie.Need-mul-copy Inv-loop μ-loop
 mul-copy c = omega (arith, putting-room (c .before .before .before .before .before .before .before .before .before .before .before .before .before .before .args .job) (c .before .before .before .before .before .before .before .before .before .before .before .before .before .before .args .shape) (now (c .before .before .before .before .before .before .before .before .before .before .before .before .before .before .args .out)) (c .before .before .before .before .before .before .before .before .before .good-circuit .last .0) (c .before .before .before .before .before .before .loop .out) (c .before .before .before .before .before .before .loop .rows) (c .before .before .before .before .before .before .loop .c) (c .before .before .before .before .before .before .loop .inv) (c .before .before .before .before .before .loop-test .taken), putting-length (c .before .before .before .before .before .before .before .before .before .before .before .before .before .before .args .job) (c .before .before .before .before .before .before .before .before .before .before .before .before .before .before .args .shape) (now (c .before .before .before .before .before .before .before .before .before .before .before .before .before .before .args .out)) (c .before .before .before .before .before .before .before .before .before .good-circuit .last .0) (c .before .before .before .before .before .before .loop .out) (c .before .before .before .before .before .before .loop .rows) (c .before .before .before .before .before .before .loop .c) (c .before .before .before .before .before .before .loop .inv), c .before .before .before .before .before .before .before .before .before .before .before .before .before .before .good .0 .0)
 
--- src/lib.rt:129:9
 copy-requires : tie.Need-copy-requires Inv-loop μ-loop
 copy-requires c κs = (putting-room (c .before .before .before .before .before .before .before .before .before .before .before .before .before .before .before .args .job) (c .before .before .before .before .before .before .before .before .before .before .before .before .before .before .before .args .shape) (now (c .before .before .before .before .before .before .before .before .before .before .before .before .before .before .before .args .out)) (c .before .before .before .before .before .before .before .before .before .before .good-circuit .last .0) (c .before .before .before .before .before .before .before .loop .out) (c .before .before .before .before .before .before .before .loop .rows) (c .before .before .before .before .before .before .before .loop .c) (c .before .before .before .before .before .before .before .loop .inv) (c .before .before .before .before .before .before .loop-test .taken), table-inside (c .before .before .before .before .before .before .before .before .before .before .before .before .before .before .before .args .job) (c .before .before .before .before .before .before .before .before .before .before .before .before .before .before .before .args .shape) (c .before .before .before .before .before .before .before .loop .rows) _ _ _ (c .before .before .before .before .before .before .before .loop .inv .sound) (c .before .before .before .before .table-row .ensures))
 
--- src/lib.rt:130:9
 add-c : tie.Need-add-c Inv-loop μ-loop
 add-c c = omega (arith, c .before .before .before .before .before .before .before .before .before .loop-test .taken)
 
--- src/lib.rt:127:5
 loop-less : tie.Need-loop-less Inv-loop μ-loop
 loop-less c = falls _ _ (c .before .before .before .before .before .before .before .before .before .loop-test .taken)
 
--- src/lib.rt:127:5
 loop-again : tie.Need-loop-again Inv-loop μ-loop
 loop-again c = putting-next (c .before .before .before .before .before .before .before .before .before .before .before .before .before .before .before .before .before .before .args .job) (c .before .before .before .before .before .before .before .before .before .before .before .before .before .before .before .before .before .before .args .shape) (now (c .before .before .before .before .before .before .before .before .before .before .before .before .before .before .before .before .before .before .args .out)) (c .before .before .before .before .before .before .before .before .before .before .before .before .before .good-circuit .last .0) (c .before .before .before .before .before .before .before .before .before .before .loop .out) (c .before .before .before .before .before .before .before .before .before .before .loop .rows) (c .before .before .before .before .before .before .before .before .before .before .loop .c) (c .before .before .before .before .before .before .before .before .before .before .loop .inv) _ _ (c .before .before .before .before .before .before .before .table-row .last .0) (c .before .before .before .before .before .before .before .before .before .loop-test .taken) (c .before .before .before .before .before .before .before .table-row .ensures) (c .before .before .before .before .before .before .before .table-row .kept .0) (c .before .before .copy .ensures)
 
--- src/lib.rt:119:1
 same-length : tie.Need-same-length Inv-loop μ-loop
 same-length c = putting-length (c .before .before .before .before .before .before .before .before .before .args .job) (c .before .before .before .before .before .before .before .before .before .args .shape) (now (c .before .before .before .before .before .before .before .before .before .args .out)) (c .before .before .before .before .good-circuit .last .0) (c .before .loop .out) (c .before .loop .rows) (c .before .loop .c) (c .before .loop .inv)
 
--- src/lib.rt:119:1
 same-length-2 : tie.Need-same-length-2 Inv-loop μ-loop
 same-length-2 c = c .before .loop .inv .long ∙ c .before .before .before .before .good-circuit .kept .0
 
--- src/lib.rt:119:1
 returns : tie.Need-returns Inv-loop μ-loop
 returns c = putting-end (c .before .before .before .before .before .before .before .before .before .args .job) (c .before .before .before .before .before .before .before .before .before .args .shape) (now (c .before .before .before .before .before .before .before .before .before .args .out)) (c .before .before .before .before .good-circuit .last .0) (c .before .loop .out) (c .before .loop .rows) (c .before .loop .c) (c .before .loop .inv) (c .loop-test .left)
 

@@ -1,3 +1,4 @@
+-- `tables::table` meets its contract.
 use native.Mathlib.Omega.{arith}
 use Prim.Native.Nat.{ℕ, _+_, _*_, _≤_, _<_}
 use mathlib.Core.Path.{sym, ap, subst, _∙_}
@@ -13,62 +14,45 @@ use Rattle.tables.proofs.Delivered.{sound-of}
 use borrow.Author.Needs.{needs}
 use Rattle.tables.proofs.table.Statement.{statement}
 use Rattle.tables.proofs.table.Tie as tie
-use Rattle.tables.proofs.table.Reads as reads
-use Rattle.tables.proofs.table.Lts as lts
-use Rattle.reading.proofs.read.Reads as read-reads
-use Rattle.tables.proofs.put_table.Reads as put-table-reads
-use Rattle.tables.proofs.step.shape_of.Reads as shape-of-reads
 
--- src/lib.rt:44:9
 read-requires : tie.Need-read-requires
 read-requires c κs = search needs
 
--- src/lib.rt:46:29
 enum-known-outcome : tie.Need-enum-known-outcome
 enum-known-outcome c = search needs
 
--- src/lib.rt:47:9
 returns : tie.Need-returns
 returns c = let a = c .before .before .before .before .before .before .args in let r = c .before .before .before .read in table-unread (now (a .bytes)) (now (a .out)) (a .circuit) (told-refused (r .result) (reading (now (a .bytes))) (r .ensures) _ (c .before .outcome .given .1))
 
 enum-told : tie.Need-enum-told
 enum-told c = search needs
 
--- src/lib.rt:50:9
 cast-if1 : tie.Need-cast-if1
 cast-if1 c = search needs
 
--- src/lib.rt:51:9
 returns-2 : tie.Need-returns-2
 returns-2 c = let a = c .before .before .before .before .before .before .before .before .args in let r = c .before .before .before .before .before .read in let done = c .before .before .before .enum-told in table-number (now (a .bytes)) (now (a .out)) (a .circuit) (r .result .job) (told-done (r .result) (reading (now (a .bytes))) (r .ensures) (done .given .1)) (c .if1 .taken)
 
--- src/lib.rt:53:32
 cast-shape-of : tie.Need-cast-shape-of
 cast-shape-of c = search needs
 
--- src/lib.rt:53:9
 shape-of-requires : tie.Need-shape-of-requires
 unfolding maxInputs
 shape-of-requires c κs = let a = c .before .before .before .before .before .before .before .before .before .args in let r = c .before .before .before .before .before .before .read in let done = c .before .before .before .before .enum-told in omega (arith, (told-valid (r .result) (now (a .bytes)) (r .ensures) (done .given .1)) .few)
 
--- src/lib.rt:55:9
 returns-3 : tie.Need-returns-3
 returns-3 c = let a = c .before .before .before .before .before .before .before .before .before .before .before .before .args in let r = c .before .before .before .before .before .before .before .before .before .read in let done = c .before .before .before .before .before .before .before .enum-told in table-memory (now (a .bytes)) (now (a .out)) (a .circuit) (r .result .job) (told-done (r .result) (reading (now (a .bytes))) (r .ensures) (done .given .1)) (c .before .before .before .before .if1 .left) (subst (λ (k : ℕ). length (now (a .out)) < k) (ap (λ (x : Shape). x .bytes) (c .before .before .shape-of .ensures)) (c .if2 .taken))
 
--- src/lib.rt:58:20
 slice-aggregate-put-table : tie.Need-slice-aggregate-put-table
 slice-aggregate-put-table c = search needs
 
--- src/lib.rt:58:5
 put-table-requires : tie.Need-put-table-requires
 unfolding maxInputs maxGates maxTableBytes rowBytes
 put-table-requires c κs = let a = c .before .before .before .before .before .before .before .before .before .before .before .before .before .before .args in let r = c .before .before .before .before .before .before .before .before .before .before .before .read in let done = c .before .before .before .before .before .before .before .before .before .enum-told in (sound-of (r .result .job) _ _ (told-valid (r .result) (now (a .bytes)) (r .ensures) (done .given .1)) (c .before .before .before .before .shape-of .ensures) (length-replicate {A = ℕ} 4608 0), c .before .before .before .before .before .before .if1 .left, subst (λ (k : ℕ). k ≤ length (now (a .out))) (ap (λ (x : Shape). x .bytes) (c .before .before .before .before .shape-of .ensures)) (c .before .before .if2 .left))
 
--- src/lib.rt:41:1
 same-length : tie.Need-same-length
 same-length c = search needs
 
--- src/lib.rt:41:1
 returns-4 : tie.Need-returns-4
 returns-4 c = let a = c .before .before .before .before .before .before .before .before .before .before .before .before .before .before .before .before .before .before .args in let r = c .before .before .before .before .before .before .before .before .before .before .before .before .before .before .before .read in let done = c .before .before .before .before .before .before .before .before .before .before .before .before .before .enum-told in table-done (now (a .bytes)) (now (a .out)) (a .circuit) (r .result .job) (told-done (r .result) (reading (now (a .bytes))) (r .ensures) (done .given .1)) _ (c .before .before .before .before .before .before .before .before .before .before .if1 .left) (subst (λ (k : ℕ). k ≤ length (now (a .out))) (ap (λ (x : Shape). x .bytes) (c .before .before .before .before .before .before .before .before .shape-of .ensures)) (c .before .before .before .before .before .before .if2 .left)) (c .before .before .before .put-table .ensures)
 

@@ -1,3 +1,4 @@
+-- `tables::table_row` meets its contract.
 use native.Mathlib.Omega.{arith}
 use Prim.Native.Nat.{_-_, _<_}
 use mathlib.Core.Path.{sym, ap, _∙_}
@@ -7,44 +8,32 @@ use Rattle.tables.proofs.Delivered.{row-inside, table-good, table-fault
 use borrow.Author.Needs.{needs}
 use Rattle.tables.proofs.table_row.Statement.{statement}
 use Rattle.tables.proofs.table_row.Tie as tie
-use Rattle.tables.proofs.table_row.Reads as reads
-use Rattle.tables.proofs.table_row.Lts as lts
-use Rattle.tables.proofs.circuit.faulty_circuit.Reads as faulty-circuit-reads
 
--- src/lib.rt:101:16
 cast-result : tie.Need-cast-result
 cast-result c = search needs
 
--- src/lib.rt:101:16
 mul-result : tie.Need-mul-result
 mul-result c = omega (arith, row-inside (c .before .before .before .args .t2) (c .before .before .before .args .shape) (now (c .before .before .before .args .rows)) (c .before .before .before .args .t2 .output) (c .before .before .before .pre .0) (c .before .before .before .pre .0 .valid .output))
 
--- src/lib.rt:101:9
 returns : tie.Need-returns
 returns c = table-good (c .before .before .before .args .t2) (c .before .before .before .args .shape) (now (c .before .before .before .args .rows)) (c .before .before .before .pre .0) (c .before .before .before .pre .1) (c .before .if1 .taken)
 
--- src/lib.rt:103:28
 sub-entry : tie.Need-sub-entry
 sub-entry c = search needs
 
--- src/lib.rt:103:17
 mul-entry : tie.Need-mul-entry
 mul-entry c = search needs
 
--- src/lib.rt:103:17
 element-copy-out-entry : tie.Need-element-copy-out-entry
 unfolding maxFaults
 element-copy-out-entry c = omega (arith, c .before .before .pre .0 .valid .faults-few)
 
--- src/lib.rt:105:5
 faulty-circuit-requires : tie.Need-faulty-circuit-requires
 faulty-circuit-requires c κs = (c .before .before .before .before .pre .0, c .before .before .before .before .pre .1, fixes (c .before .before .before .before .args .t2) (c .before .before .before .before .args .circuit - 1) (c .before .before .before .before .pre .0 .valid) (omega arith))
 
--- src/lib.rt:96:1
 same-length : tie.Need-same-length
 same-length c = search needs
 
--- src/lib.rt:96:1
 returns-2 : tie.Need-returns-2
 returns-2 c = table-faulty (c .before .before .before .before .before .before .before .args .t2) _ _ (c .before .before .before .before .before .before .before .args .circuit) (c .before .before .before .before .before .if1 .left) (c .before .before .faulty-circuit .ensures)
 

@@ -1,3 +1,4 @@
+-- `tables::tables` meets its contract.
 use native.Mathlib.Omega.{arith}
 use Prim.Native.Nat.{ℕ, _+_, _*_, _≤_, _<_}
 use mathlib.Core.Path.{sym, ap, subst, _∙_}
@@ -13,74 +14,54 @@ use Rattle.tables.proofs.Delivered.{sound-of, table-count-fits}
 use borrow.Author.Needs.{needs}
 use Rattle.tables.proofs.tables.Statement.{statement}
 use Rattle.tables.proofs.tables.Tie as tie
-use Rattle.tables.proofs.tables.Reads as reads
-use Rattle.tables.proofs.tables.Lts as lts
-use Rattle.reading.proofs.read.Reads as read-reads
-use Rattle.tables.proofs.put_tables.Reads as put-tables-reads
-use Rattle.tables.proofs.step.shape_of.Reads as shape-of-reads
 
--- src/lib.rt:66:9
 read-requires : tie.Need-read-requires
 read-requires c κs = search needs
 
--- src/lib.rt:68:29
 enum-known-outcome : tie.Need-enum-known-outcome
 enum-known-outcome c = search needs
 
--- src/lib.rt:69:9
 returns : tie.Need-returns
 returns c = let a = c .before .before .before .before .before .before .args in let r = c .before .before .before .read in tables-unread (now (a .bytes)) (now (a .out)) (told-refused (r .result) (reading (now (a .bytes))) (r .ensures) _ (c .before .outcome .given .1))
 
 enum-told : tie.Need-enum-told
 enum-told c = search needs
 
--- src/lib.rt:72:18
 cast-faults : tie.Need-cast-faults
 cast-faults c = search needs
 
--- src/lib.rt:73:32
 cast-shape-of : tie.Need-cast-shape-of
 cast-shape-of c = search needs
 
--- src/lib.rt:73:9
 shape-of-requires : tie.Need-shape-of-requires
 unfolding maxInputs
 shape-of-requires c κs = let a = c .before .before .before .before .before .before .before .before .args in let r = c .before .before .before .before .before .read in let done = c .before .before .before .enum-told in omega (arith, (told-valid (r .result) (now (a .bytes)) (r .ensures) (done .given .1)) .few)
 
--- src/lib.rt:74:21
 add-if1 : tie.Need-add-if1
 add-if1 c = search needs
 
--- src/lib.rt:74:20
 mul-if1 : tie.Need-mul-if1
 mul-if1 c = let a = c .before .before .before .before .before .before .before .before .before .before .args in let r = c .before .before .before .before .before .before .before .read in let done = c .before .before .before .before .before .enum-told in rw (ap (λ (x : Shape). x .bytes) (c .before .shape-of .ensures)) (table-count-fits (r .result .job) (told-valid (r .result) (now (a .bytes)) (r .ensures) (done .given .1)))
 
--- src/lib.rt:75:9
 returns-2 : tie.Need-returns-2
 returns-2 c = let a = c .before .before .before .before .before .before .before .before .before .before .before .args in let r = c .before .before .before .before .before .before .before .before .read in let done = c .before .before .before .before .before .before .enum-told in tables-memory (now (a .bytes)) (now (a .out)) (r .result .job) (told-done (r .result) (reading (now (a .bytes))) (r .ensures) (done .given .1)) (subst (λ (k : ℕ). length (now (a .out)) < (r .result .job .«fault_count» + 1) * k) (ap (λ (x : Shape). x .bytes) (c .before .before .shape-of .ensures)) (c .if1 .taken))
 
--- src/lib.rt:78:21
 slice-aggregate-put-tables : tie.Need-slice-aggregate-put-tables
 slice-aggregate-put-tables c = search needs
 
--- src/lib.rt:78:5
 put-tables-requires : tie.Need-put-tables-requires
 unfolding maxInputs maxGates maxTableBytes rowBytes
 put-tables-requires c κs = let a = c .before .before .before .before .before .before .before .before .before .before .before .before .before .args in let r = c .before .before .before .before .before .before .before .before .before .before .read in let done = c .before .before .before .before .before .before .before .before .enum-told in (sound-of (r .result .job) _ _ (told-valid (r .result) (now (a .bytes)) (r .ensures) (done .given .1)) (c .before .before .before .before .shape-of .ensures) (length-replicate {A = ℕ} 4608 0), subst (λ (k : ℕ). (r .result .job .«fault_count» + 1) * k ≤ length (now (a .out))) (ap (λ (x : Shape). x .bytes) (c .before .before .before .before .shape-of .ensures)) (c .before .before .if1 .left))
 
--- src/lib.rt:80:17
 cast-t10 : tie.Need-cast-t10
 cast-t10 c = search needs
 
--- src/lib.rt:81:16
 cast-t11 : tie.Need-cast-t11
 cast-t11 c = search needs
 
--- src/lib.rt:63:1
 same-length : tie.Need-same-length
 same-length c = search needs
 
--- src/lib.rt:63:1
 returns-3 : tie.Need-returns-3
 returns-3 c = let a = c .before .before .before .before .before .before .before .before .before .before .before .before .before .before .before .before .before .before .before .args in let r = c .before .before .before .before .before .before .before .before .before .before .before .before .before .before .before .before .read in let done = c .before .before .before .before .before .before .before .before .before .before .before .before .before .before .enum-told in tables-done (now (a .bytes)) (now (a .out)) (r .result .job) (told-done (r .result) (reading (now (a .bytes))) (r .ensures) (done .given .1)) _ (subst (λ (k : ℕ). (r .result .job .«fault_count» + 1) * k ≤ length (now (a .out))) (ap (λ (x : Shape). x .bytes) (c .before .before .before .before .before .before .before .before .before .before .shape-of .ensures)) (c .before .before .before .before .before .before .before .before .if1 .left)) (c .before .before .before .before .before .put-tables .ensures)
 

@@ -1,3 +1,4 @@
+-- `writing::order_ok` meets its contract.
 use borrow.Author.Needs.{needs}
 use Rattle.writing.proofs.order_ok.Statement.{statement}
 use Rattle.writing.proofs.order_ok.Tie as tie

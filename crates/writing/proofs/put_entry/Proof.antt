@@ -1,3 +1,4 @@
+-- `writing::put_entry` meets its contract.
 use mathlib.Core.List.{_++_}
 use borrow.Author.Needs.{needs}
 use lib.Dec.{lit≤}

@@ -1,3 +1,4 @@
+-- `writing::put_job` meets its contract.
 use mathlib.Core.Path.{_∙_}
 use borrow.Author.Needs.{needs}
 use lib.ListN.{take}

@@ -1,3 +1,4 @@
+-- `writing::put_spare` meets its contract.
 use native.Mathlib.Omega.{arith}
 use borrow.Author.Needs.{needs}
 use Rattle.writing.proofs.Putting.{spare-fits, spare-inside, spare-put, spare-none}
