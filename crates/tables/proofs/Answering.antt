@@ -1,5 +1,6 @@
 -- What the two operations answer and leave, case by case (specs/Operations.antt).
 --
+--   kept, put                                              of any operation: a refusal leaves the memory as it was, success fills it from the start
 --   table-unread, table-number, table-memory, table-done   the table of one circuit: reading's refusals, 11, 10, success
 --   tables-unread, tables-memory, tables-done              the tables of all circuits: reading's refusals, 10, success
 use Prim.Native.Nat.{ℕ, _+_, _*_, _≤_, _<_}
@@ -19,11 +20,11 @@ use Rattle.tables.specs.declared.Counts.{Counts}
 use Rattle.tables.proofs.Delivered.{splice-start}
 
 -- a refusal leaves the memory as it was
-kept : {A : Type 0} (a : Answer (Fills A)) (k : ℕ) (out : List ℕ) → a ≡ refused k → record { answer = refused k; memory = out } ≡ leaves a out
+pub kept : {A : Type 0} (a : Answer (Fills A)) (k : ℕ) (out : List ℕ) → a ≡ refused k → record { answer = refused k; memory = out } ≡ leaves a out
 kept {A} a k out e = ap (λ (x : Answer (Fills A)). leaves x out) (sym e)
 
 -- success fills the memory from the start
-put : {A : Type 0} (a : Answer (Fills A)) (v : A) (new out after : List ℕ) → a ≡ gives (record { value = v; filled = new }) → after ≡ splice out 0 new
+pub put : {A : Type 0} (a : Answer (Fills A)) (v : A) (new out after : List ℕ) → a ≡ gives (record { value = v; filled = new }) → after ≡ splice out 0 new
     → record { answer = gives v; memory = after } ≡ leaves a out
 put {A} a v new out after e p =
     ap (λ (m : List ℕ). record { answer = gives v; memory = m }) (p ∙ splice-start out new) ∙ ap (λ (x : Answer (Fills A)). leaves x out) (sym e)

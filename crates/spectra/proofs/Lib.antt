@@ -1,0 +1,13 @@
+pub mod Answering
+pub mod Bounds
+pub mod Combining
+pub mod Eight
+pub mod Filling
+pub mod Halves
+pub mod Inverse
+pub mod Shapes
+pub mod Subnumbers
+pub mod Sums
+pub mod Transforming
+pub mod Undone
+pub mod Unique

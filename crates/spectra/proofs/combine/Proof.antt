@@ -1,0 +1,88 @@
+-- `spectra::combine` meets its contract. The loop has written one sum for each turn.
+use Prim.Native.Nat.{_-_}
+use native.Mathlib.Omega.{arith}
+use borrow.Author.Count.{falls}
+use Rattle.tables.proofs.Splice.{written-length}
+use Rattle.spectra.proofs.Combining.{Combining, combining-none, combining-fits, combining-more, combining-all}
+use Rattle.spectra.proofs.combine.Statement.{statement}
+use Rattle.spectra.proofs.combine.Tie as tie
+use Rattle.spectra.proofs.combine.Reads as reads
+use Rattle.spectra.proofs.combine.Lts as lts
+use Rattle.spectra.proofs.reduced.Reads as reduced-reads
+
+abbrev Inv-loop : tie.InvT-loop
+Inv-loop out₀ half kind i₀ out i = Combining kind half out₀ out i
+
+abbrev μ-loop : tie.MeasureT-loop
+μ-loop out₀ half kind i₀ out i = half - i
+
+loop-holds : tie.Need-loop-holds Inv-loop μ-loop
+loop-holds c = combining-none (c .before .args .kind) (c .before .pre .0)
+
+mul-reduced : tie.Need-mul-reduced Inv-loop μ-loop
+mul-reduced c = omega (arith, c .before .before .before .pre .0)
+
+slice-read-reduced : tie.Need-slice-read-reduced Inv-loop μ-loop
+slice-read-reduced c = omega (arith, written-length (c .before .before .loop .inv), c .before .before .before .before .pre .0)
+
+add-reduced : tie.Need-add-reduced Inv-loop μ-loop
+add-reduced c = omega (arith, c .before .before .before .before .pre .0)
+
+mul-reduced-2 : tie.Need-mul-reduced-2 Inv-loop μ-loop
+mul-reduced-2 c = omega (arith, c .before .before .before .before .pre .0)
+
+slice-read-reduced-2 : tie.Need-slice-read-reduced-2 Inv-loop μ-loop
+slice-read-reduced-2 c = omega (arith, written-length (c .before .before .before .loop .inv), c .before .before .before .before .before .pre .0)
+
+add-reduced-2 : tie.Need-add-reduced-2 Inv-loop μ-loop
+add-reduced-2 c = combining-fits (c .before .before .before .before .before .args .kind) (c .before .before .before .loop .inv) (c .before .before .loop-test .taken) (c .before .before .before .before .before .pre .1)
+
+reduced-requires : tie.Need-reduced-requires Inv-loop μ-loop
+reduced-requires c κs = tt
+
+add-out : tie.Need-add-out Inv-loop μ-loop
+add-out c = omega (arith, c .before .before .before .before .before .before .pre .0)
+
+mul-out : tie.Need-mul-out Inv-loop μ-loop
+mul-out c = omega (arith, c .before .before .before .before .before .before .pre .0)
+
+slice-write-out : tie.Need-slice-write-out Inv-loop μ-loop
+slice-write-out c = omega (arith, written-length (c .before .before .before .before .loop .inv), c .before .before .before .before .before .before .pre .0)
+
+add-i : tie.Need-add-i Inv-loop μ-loop
+add-i c = omega (arith, c .before .before .before .before .before .before .pre .0)
+
+loop-less : tie.Need-loop-less Inv-loop μ-loop
+loop-less c = falls _ _ (c .before .before .before .loop-test .taken)
+
+loop-again : tie.Need-loop-again Inv-loop μ-loop
+loop-again c = combining-more (c .before .before .before .before .before .before .args .kind) (c .before .before .before .before .loop .inv) (c .before .before .before .loop-test .taken) _ (c .reduced .ensures)
+
+same-length : tie.Need-same-length Inv-loop μ-loop
+same-length c = written-length (c .before .loop .inv)
+
+returns : tie.Need-returns Inv-loop μ-loop
+returns c = combining-all (c .before .before .before .args .kind) (c .before .loop .inv) (c .before .before .before .pre .0) (c .loop-test .left)
+
+pub combine-spec : {M : Type 1} → statement M
+combine-spec =
+    tie.close
+    (tie.spec
+    Inv-loop
+    μ-loop
+    loop-holds
+    mul-reduced
+    slice-read-reduced
+    add-reduced
+    mul-reduced-2
+    slice-read-reduced-2
+    add-reduced-2
+    reduced-requires
+    add-out
+    mul-out
+    slice-write-out
+    add-i
+    loop-less
+    loop-again
+    same-length
+    returns)
