@@ -11,6 +11,7 @@
 --   length-packed      the number of a packed table's bytes
 --   packed-ext         packed tables of equal entries are equal
 --   packed-bytes       the bytes of a packed table are below 256
+--   packed-at          byte i of a packed table is the value of eight entries from entry 8 * i on, zeros past the last
 --   packed-all         the entries of a packed table's bytes, with its spare bits
 --   entry-packed       the entries of a packed table
 --   packed-entries     equal packed tables have equal entries
@@ -184,6 +185,18 @@ packed-ext n f g h = ap bytesOf (tabulate-ext n f g h)
 pub packed-bytes : (n : ℕ) (f : ℕ → ℕ) → Table n f → (i : ℕ) → getD (packed n f) i 0 < 256
 unfolding packed bytesOf
 packed-bytes n f h i = bytesTo-bytes ((length (tabulate n f) + 7) / 8) (tabulate n f) (binary-tabulate n f h) i
+
+eight-tabulate : (bits : List ℕ) (first : ℕ) → eight (drop first bits) ≡ tabulate 8 (λ t. getD bits (first + t) 0)
+eight-tabulate bits first =
+    let len : length (eight (drop first bits)) ≡ 8 = length-eight (drop first bits) in
+    ext-getD 0 (eight (drop first bits)) (tabulate 8 (λ t. getD bits (first + t) 0)) (len ∙ sym (length-tabulate 8 (λ t. getD bits (first + t) 0)))
+    (λ t h. let l : t < 8 = omega arith in
+    at-eight (drop first bits) t l ∙ getD-drop first bits t 0 ∙ sym (tabulate-at 8 (λ t. getD bits (first + t) 0) t l))
+
+pub packed-at : (n : ℕ) (f : ℕ → ℕ) (i : ℕ) → i < (n + 7) / 8 → getD (packed n f) i 0 ≡ valueFrom 0 (tabulate 8 (λ t. getD (tabulate n f) (8 * i + t) 0))
+unfolding packed bytesOf
+packed-at n f i h =
+    byte-at ((length (tabulate n f) + 7) / 8) (tabulate n f) i (rw length-tabulate h) ∙ ap (valueFrom 0) (eight-tabulate (tabulate n f) (8 * i))
 
 pub packed-all : (n : ℕ) (f : ℕ → ℕ) → Table n f → (m : ℕ) → m < 8 * ((n + 7) / 8) → entry (packed n f) m ≡ getD (tabulate n f) m 0
 unfolding packed bytesOf

@@ -1,8 +1,10 @@
 // The packed tables of a job's circuits as text on standard output: a line of counts, then a line of hexadecimal bytes
-// for each circuit. A refused job is one line with the refusal's number.
+// for each circuit. A refused job is one line with the refusal's number. And what the programs share that read text: where a
+// line or word ends, and bytes in hexadecimal.
 ghost use mathlib.Core.Path.{_≡_};
-ghost use Prim.Native.Nat.{_*_, _≤_};
+ghost use Prim.Native.Nat.{_+_, _*_, _<_, _≤_};
 ghost use lib.ListN.{length};
+ghost use Rattle.io.specs.Counts.{Counts as Within};
 ghost use Rattle.tables.specs.Form.{tableBytes};
 use bits::Refusal;
 use libc::STDOUT_FILENO;
@@ -29,8 +31,8 @@ pub fn list_tables(job: &[u8]) {
     }
 }
 
-// The line of a refused job.
-fn list_refusal(cause: Refusal) {
+// The line of a refused operation.
+pub fn list_refusal(cause: Refusal) {
     io::write_all(STDOUT_FILENO, b"refused ");
     io::print_decimal(STDOUT_FILENO, cause.number() as u64);
     io::write_all(STDOUT_FILENO, b"\n");
@@ -69,9 +71,14 @@ fn list_circuits(packed: &[u8], circuits: usize, bytes: usize)
 // The line of one circuit: its number, then the bytes of its table.
 fn list_circuit(circuit: usize, table: &[u8]) {
     io::print_decimal(STDOUT_FILENO, circuit as u64);
+    list_bytes(table);
+}
+
+// The rest of a line: each byte behind a space.
+pub fn list_bytes(bytes: &[u8]) {
     let mut i = 0;
-    while i < table.len() {
-        list_byte(table[i]);
+    while i < bytes.len() {
+        list_byte(bytes[i]);
         i += 1;
     }
     io::write_all(STDOUT_FILENO, b"\n");
@@ -81,4 +88,64 @@ fn list_circuit(circuit: usize, table: &[u8]) {
 fn list_byte(byte: u8) {
     io::write_all(STDOUT_FILENO, b" ");
     io::print_hex(STDOUT_FILENO, byte as u64, 2);
+}
+
+// A line of the input, as it is.
+pub fn list_name(line: &[u8]) {
+    io::write_all(STDOUT_FILENO, line);
+    io::write_all(STDOUT_FILENO, b"\n");
+}
+
+// The first place of a character, from `from` on, or the text's end where there is none.
+pub fn place_of(text: &[u8], from: usize, character: u8) -> usize
+    requires { ⌜ from ≤ length (now text) ⌝ }
+    ensures { λ r. ⌜ (from ≤ r) × (r ≤ length (now (text .entry))) ⌝ }
+{
+    let mut i = from;
+    while i < text.len() {
+        if text[i] == character {
+            return i;
+        }
+        i += 1;
+    }
+    i
+}
+
+// Puts the bytes that the text gives at the start of `bytes`, as far as they fit, and answers how many there are. Each takes
+// three characters: two digits and a space, which the last one lacks.
+pub fn read_hex(text: &[u8], bytes: &mut [u8]) -> usize
+    ensures { λ r. ⌜ Within r (now (bytes .exit)) ⌝ }
+{
+    let count = least((text.len() + 1) / 3, bytes.len());
+    let mut n = 0;
+    while n < count {
+        bytes[n] = hex_byte(text, 3 * n);
+        n += 1;
+    }
+    count
+}
+
+// The lesser of two numbers.
+pub fn least(a: usize, b: usize) -> usize
+    ensures { λ r. ⌜ (r ≤ a) × (r ≤ b) ⌝ }
+{
+    if a < b { a } else { b }
+}
+
+// The byte of the two digits at a place.
+fn hex_byte(text: &[u8], at: usize) -> u8
+    requires { ⌜ at + 1 < length (now text) ⌝ }
+{
+    digit(text[at]) * 16 + digit(text[at + 1])
+}
+
+// The value of a hexadecimal digit; any other character counts as 0.
+pub fn digit(character: u8) -> u8
+    ensures { λ r. ⌜ r < 16 ⌝ }
+{
+    match character {
+        b'0'..=b'9' => character - b'0',
+        b'a'..=b'f' => character - b'a' + 10,
+        _ => 0,
+    }
 }

@@ -1,83 +1,111 @@
--- What the operations answer and leave, case by case (specs/Operations.antt).
+-- What the operations on spectra answer and leave, case by case (specs/Operations.antt, specs/Filling.antt).
 --
---   spectrum-few, spectrum-many   the spectrum of a table: 2, no input or too many
---   spectrum-shape                12, no packed table
---   spectrum-polarity             13, a polarity that is not below 2 ^ n
---   spectrum-memory               10, too few places
---   spectrum-done                 success
---   spectrum-asked                what putting the spectrum asks
-use Prim.Native.Nat.{ℕ, _+_, _-_, _*_, _^_, _≤_, _<_}
-use native.Mathlib.Omega.{arith}
-use mathlib.Core.Path.{_≡_, subst}
-use mathlib.Core.Bool.{true, false}
-use mathlib.Core.List.{List}
-use borrow.Author.Tests.{le-leb, lt-leb, lt-ltb, le-ltb, eqb-true}
-use lib.Dec.{eqb}
-use lib.ListN.{length}
-use Rattle.bits.specs.Answer.{leaves}
+--   room-of                 so many places, counted by a quotient, hold so many spectra
+--   filled-polarity, filled-memory, filled-done   the spectra of tables: 13, 10, success
+--   rows-few, rows-many     the rows of tables: 2
+--   rows-shape              12
+--   rows-onward             past these checks the spectra are filled
+--   spectrum-row            the spectrum of a table is that of one row
+use Prim.Native.Nat.{ℕ, _-_, _*_, _/_, _^_, _≤_, _<_}
+use native.Mathlib.Nat.{zero-mul, one-mul, div-lt-iff-lt-mul, le-div-iff-mul-le, le-of-eq}
+use mathlib.Core.Path.{_≡_, refl, sym, ap, ap₂, subst, _∙_}
+use mathlib.Core.Bool.{Bool, true, false, _&&_}
+use mathlib.Core.List.{List, _++_}
+use borrow.Author.Tests.{eqb-true, le-leb, lt-leb, lt-ltb, le-ltb}
+use lib.Dec.{leb, eqb}
+use lib.ListN.{length, take, drop}
+use lib.Pow.{pow-pos}
+use lib.Seq.{take-all}
+use Rattle.bits.specs.Answer.{Answer, Fills, leaves, unless}
 use Rattle.bits.specs.Answer.Answer.{gives, refused}
 use Rattle.bits.specs.Packed.{entry}
-use Rattle.bits.proofs.Tests.{and-l}
+use Rattle.bits.proofs.Tests.{and-i}
+use Rattle.job.specs.Check.{inputsOk}
 use Rattle.job.specs.Layout.{maxInputs}
 use Rattle.tables.specs.Form.{tableBytes}
-use Rattle.tables.specs.Rows.{splice}
-use Rattle.tables.proofs.Answering.{kept, put}
-use Rattle.spectra.specs.Operations.{tableOk, zeroFrom, spectrumOf}
+use Rattle.spectra.specs.Filling.{rowsFit, spectraFilled}
+use Rattle.spectra.specs.Operations.{zeroFrom, tableOk, tableRow, rowsOk, polarityOk, rowSpectra, spectrumOf, rowsOf}
 use Rattle.spectra.specs.Spectrum.{spectrum}
 use Rattle.spectra.specs.declared.Kind.{Kind}
+use Rattle.tables.proofs.Answering.{kept}
+use Rattle.spectra.proofs.Filling.{length-rowSpectra}
 
-module _ (n : ℕ) (s out : List ℕ) (kind : Kind) (k : ℕ) where
-  pub spectrum-few : n < 1 → record { answer = refused 2; memory = out } ≡ leaves (spectrumOf n s kind k (length out)) out
-  unfolding spectrumOf
-  spectrum-few h = kept (spectrumOf n s kind k (length out)) 2 out (simp (lt-leb 1 n h))
+pub room-of : (n : ℕ) {size rows room : ℕ} → size ≡ 2 ^ n → rows ≤ room / size → rows * 2 ^ n ≤ room
+room-of n {size} {rows} {room} e h = le-div-iff-mul-le (pow-pos n) .0 (subst (λ (x : ℕ). rows ≤ room / x) e h)
 
-  pub spectrum-many : 1 ≤ n → 8 < n → record { answer = refused 2; memory = out } ≡ leaves (spectrumOf n s kind k (length out)) out
-  unfolding spectrumOf maxInputs
-  spectrum-many some h = kept (spectrumOf n s kind k (length out)) 2 out (simp (le-leb 1 n some, lt-leb n 8 h))
+module _ {A : Type 0} (n : ℕ) {size : ℕ} (e : size ≡ 2 ^ n) (v : A) (rows : ℕ) (s : List ℕ) (kind : Kind) (k : ℕ) (out : List ℕ) where
+  pub filled-polarity : size ≤ k → record { answer = refused 13; memory = out } ≡ leaves (spectraFilled v n rows s kind k (length out)) out
+  unfolding spectraFilled
+  filled-polarity h = kept (spectraFilled v n rows s kind k (length out)) 13 out (let l : 2 ^ n ≤ k = rw e at h in simp (le-ltb k (2 ^ n) l))
 
-  module _ (some : 1 ≤ n) (few : n ≤ 8) where
-    pub spectrum-shape : tableOk n s ≡ false → record { answer = refused 12; memory = out } ≡ leaves (spectrumOf n s kind k (length out)) out
-    unfolding spectrumOf maxInputs
-    spectrum-shape shape = kept (spectrumOf n s kind k (length out)) 12 out (simp (le-leb 1 n some, le-leb n 8 few, shape))
+  pub filled-memory : k < size → length out / size < rows
+      → record { answer = refused 10; memory = out } ≡ leaves (spectraFilled v n rows s kind k (length out)) out
+  unfolding spectraFilled
+  filled-memory h l =
+      let i : k < 2 ^ n = rw e at h in
+      let j : length out < rows * 2 ^ n = div-lt-iff-lt-mul (pow-pos n) .0 (subst (λ (x : ℕ). length out / x < rows) e l) in
+      kept (spectraFilled v n rows s kind k (length out)) 10 out (simp (lt-ltb k (2 ^ n) i, lt-leb (rows * 2 ^ n) (length out) j))
 
-    module _ {h : ℕ} (shape : tableOk n s ≡ true) (e : h ≡ 2 ^ n) where
-      pub spectrum-polarity : h ≤ k → record { answer = refused 13; memory = out } ≡ leaves (spectrumOf n s kind k (length out)) out
-      unfolding spectrumOf maxInputs
-      spectrum-polarity over =
-          kept (spectrumOf n s kind k (length out)) 13 out
-          (simp (le-leb 1 n some, le-leb n 8 few, shape, le-ltb k (2 ^ n) (subst (λ (x : ℕ). x ≤ k) e over)))
+  pub filled-done : (after : List ℕ) → k < size → rows ≤ length out / size → after ≡ rowSpectra kind n k s rows ++ drop (rows * 2 ^ n) out
+      → record { answer = gives v; memory = after } ≡ leaves (spectraFilled v n rows s kind k (length out)) out
+  unfolding spectraFilled
+  filled-done after h l p =
+      let i : k < 2 ^ n = rw e at h in
+      let j : rows * 2 ^ n ≤ length out = room-of n e l in
+      let gave : spectraFilled v n rows s kind k (length out) ≡ gives (record { value = v; filled = rowSpectra kind n k s rows }) =
+      simp (lt-ltb k (2 ^ n) i, le-leb (rows * 2 ^ n) (length out) j) in
+      ap (λ (m : List ℕ). record { answer = gives v; memory = m })
+      (p ∙ ap (λ (x : ℕ). rowSpectra kind n k s rows ++ drop x out) (sym (length-rowSpectra kind n k s rows)))
+      ∙ ap (λ (x : Answer (Fills A)). leaves x out) (sym gave)
 
-      module _ (below : k < h) where
-        pub spectrum-memory : length out < h → record { answer = refused 10; memory = out } ≡ leaves (spectrumOf n s kind k (length out)) out
-        unfolding spectrumOf maxInputs
-        spectrum-memory short =
-            kept (spectrumOf n s kind k (length out)) 10 out
-            (simp (
-              le-leb 1 n some,
-              le-leb n 8 few,
-              shape,
-              lt-ltb k (2 ^ n) (subst (λ (x : ℕ). k < x) e below),
-              lt-leb (2 ^ n) (length out) (subst (λ (x : ℕ). length out < x) e short),
-            ))
+module _ (n rows : ℕ) (s : List ℕ) (kind : Kind) (k : ℕ) (out : List ℕ) where
+  pub rows-few : n < 1 → record { answer = refused 2; memory = out } ≡ leaves (rowsOf n rows s kind k (length out)) out
+  unfolding rowsOf
+  rows-few h = kept (rowsOf n rows s kind k (length out)) 2 out (simp (lt-leb 1 n h))
 
-        module _ (room : h ≤ length out) where
-          pub spectrum-done : (after : List ℕ) → after ≡ splice out 0 (spectrum kind n k (entry s))
-              → record { answer = gives tt; memory = after } ≡ leaves (spectrumOf n s kind k (length out)) out
-          unfolding spectrumOf maxInputs
-          spectrum-done after p =
-              put (spectrumOf n s kind k (length out)) tt (spectrum kind n k (entry s)) out after
-              (simp (
-                le-leb 1 n some,
-                le-leb n 8 few,
-                shape,
-                lt-ltb k (2 ^ n) (subst (λ (x : ℕ). k < x) e below),
-                le-leb (2 ^ n) (length out) (subst (λ (x : ℕ). x ≤ length out) e room),
-              ))
-              p
+  pub rows-many : 1 ≤ n → maxInputs < n → record { answer = refused 2; memory = out } ≡ leaves (rowsOf n rows s kind k (length out)) out
+  unfolding rowsOf
+  rows-many h l = kept (rowsOf n rows s kind k (length out)) 2 out (simp (le-leb 1 n h, lt-leb n maxInputs l))
 
-          pub spectrum-asked : (n ≤ 15) × (k < 2 ^ n) × (0 + 2 ^ n ≤ length out) × (2 ^ n ≤ 8 * length s)
-          unfolding tableOk
-          spectrum-asked =
-              let size : length s ≡ tableBytes n =
-              eqb-true (length s) (tableBytes n) (and-l (eqb (length s) (tableBytes n)) (zeroFrom (tableBytes n * 8 - 2 ^ n) (2 ^ n) s) shape) in
-              (omega arith, omega arith, omega arith, omega arith)
+  pub rows-shape : 1 ≤ n → n ≤ maxInputs → rowsFit n s rows ≡ false
+      → record { answer = refused 12; memory = out } ≡ leaves (rowsOf n rows s kind k (length out)) out
+  unfolding rowsOf rowsFit
+  rows-shape h l e = kept (rowsOf n rows s kind k (length out)) 12 out (simp (le-leb 1 n h, le-leb n maxInputs l, e))
+
+  pub rows-onward : 1 ≤ n → n ≤ maxInputs → rowsFit n s rows ≡ true
+      → leaves (spectraFilled tt n rows s kind k (length out)) out ≡ leaves (rowsOf n rows s kind k (length out)) out
+  unfolding rowsOf rowsFit spectraFilled
+  rows-onward h l e =
+      ap₂ (λ (u w : Bool). leaves (unless u 2 (unless w 12 (spectraFilled tt n rows s kind k (length out)))) out)
+      (sym (and-i (le-leb 1 n h) (le-leb n maxInputs l))) (sym e)
+
+-- the checks of a spectrum, given what the table's test says, the places it wants and the table
+checks : ℕ → Kind → ℕ → ℕ → Bool → ℕ → List ℕ → Answer (Fills (Unit {0}))
+checks n kind k room ok places s =
+    unless (inputsOk n) 2
+    (unless ok 12
+    (unless (polarityOk n k) 13
+    (unless (leb places room) 10
+    (gives (record { value = tt; filled = spectrum kind n k (entry s) })))))
+
+pub spectrum-row : (n : ℕ) (s : List ℕ) (kind : Kind) (k room : ℕ) → rowsOf n 1 s kind k room ≡ spectrumOf n s kind k room
+unfolding checks spectrumOf rowsOf rowsOk rowSpectra tableOk
+spectrum-row n s kind k room = go (eqb (length s) (tableBytes n)) refl
+  where
+    places : 1 * 2 ^ n ≡ 2 ^ n
+    places = one-mul (2 ^ n)
+
+    size : 1 * tableBytes n ≡ tableBytes n
+    size = one-mul (tableBytes n)
+
+    go : (u : Bool) → eqb (length s) (tableBytes n) ≡ u → rowsOf n 1 s kind k room ≡ spectrumOf n s kind k room
+    go true e =
+        let row : tableRow n s 0 ≡ s =
+        ap (λ (x : ℕ). take (tableBytes n) (drop x s)) (zero-mul (tableBytes n)) ∙ take-all (tableBytes n) s (le-of-eq (eqb-true (length s) (tableBytes n) e)) in
+        ap (λ (x : ℕ). checks n kind k room (eqb (length s) x && tableOk n (tableRow n s 0)) (1 * 2 ^ n) (tableRow n s 0)) size
+        ∙ ap₂ (λ (x : ℕ) (l : List ℕ). checks n kind k room (eqb (length s) (tableBytes n) && tableOk n l) x l) places row
+        ∙ ap (λ (t : Bool). checks n kind k room (t && tableOk n s) (2 ^ n) s) e
+    go false e =
+        ap (λ (x : ℕ). checks n kind k room (eqb (length s) x && tableOk n (tableRow n s 0)) (1 * 2 ^ n) (tableRow n s 0)) size
+        ∙ ap (λ (t : Bool). checks n kind k room (t && tableOk n (tableRow n s 0)) (1 * 2 ^ n) (tableRow n s 0)) e
+        ∙ sym (ap (λ (t : Bool). checks n kind k room (t && zeroFrom (tableBytes n * 8 - 2 ^ n) (2 ^ n) s) (2 ^ n) s) e)

@@ -1,13 +1,16 @@
 pub mod Answering
 pub mod Bounds
 pub mod Combining
+pub mod Delivered
 pub mod Eight
 pub mod Filling
 pub mod Halves
 pub mod Inverse
-pub mod Shapes
+pub mod Packing
 pub mod Subnumbers
 pub mod Sums
+pub mod Tested
 pub mod Transforming
+pub mod Undoing
 pub mod Undone
 pub mod Unique

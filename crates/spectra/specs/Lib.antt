@@ -1,3 +1,5 @@
+pub mod Filling
 pub mod Operations
+pub mod Packing
 pub mod Spectrum
 pub mod Transform

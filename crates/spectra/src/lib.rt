@@ -1,109 +1,29 @@
 // Reed-Muller spectra of packed truth tables, of both kinds, in every polarity (document 01, "Spectra").
-ghost use mathlib.Core.Path.{_≡_};
-ghost use Prim.Native.Nat.{_+_, _-_, _*_, _^_, _≤_, _<_};
-ghost use lib.ListN.{length, take, drop};
-ghost use mathlib.Core.List.{_++_};
+ghost use Prim.Native.Nat.{_+_, _*_, _^_, _≤_, _<_};
 ghost use Rattle.bits.specs.Answer.{outcome, leaves};
-ghost use Rattle.bits.specs.Packed.{entry};
-ghost use Rattle.tables.specs.Form.{tableBytes};
-ghost use Rattle.tables.specs.Rows.{splice};
-ghost use Rattle.spectra.specs.Operations.{spectrumOf, rowSpectra, tableOk, tableRow, zeroFrom};
-ghost use Rattle.spectra.specs.Spectrum.{spectrum, reduce};
+ghost use Rattle.bits.specs.Bits.{valueFrom};
+ghost use Rattle.bits.specs.Packed.{entry, packed, tabulate};
+ghost use Rattle.spectra.specs.Filling.{Counted, spectraFilled, rowsFit};
+ghost use Rattle.spectra.specs.Operations.{spectrumOf, undoneOf, rowsOf, jobSpectraOf, rowSpectra, tableOk, at, sameNumbers};
+ghost use Rattle.spectra.specs.Packing.{parityAt, Closed, Packs, Lent};
+ghost use Rattle.spectra.specs.Spectrum.{spectrum, reduce, recovered};
 ghost use Rattle.spectra.specs.Transform.{entriesFrom, Most, combined};
+ghost use Rattle.tables.specs.Form.{tableBytes};
+ghost use Rattle.tables.specs.Operations.{tablesTold};
+ghost use Rattle.tables.specs.Rows.{splice};
+ghost use lib.ListN.{length, take, drop};
+ghost use mathlib.Core.Bool.{true};
+ghost use mathlib.Core.List.{_++_};
+ghost use mathlib.Core.Path.{_≡_};
 use bits::Outcome;
 use bits::Refusal;
-use job::MAX_INPUTS;
+use tables::Counts;
+use tables::TablesAnswer;
 
 // The kind of a spectrum: Reed-Muller, or modified Reed-Muller.
 pub enum Kind {
     Rm,
     Mrm,
-}
-
-// The spectrum of a packed table.
-pub fn spectrum(n: usize, table: &[u8], kind: Kind, polarity: usize, out: &mut [u16]) -> Outcome
-    ensures { λ r. ⌜ record { answer = outcome r; memory = now (out .exit) } ≡ leaves (spectrumOf n (now (table .entry)) kind polarity (length (now (out .entry)))) (now (out .entry)) ⌝ }
-{
-    if n < 1 {
-        return Outcome::Refused(Refusal::InputCount);
-    }
-    if MAX_INPUTS < n {
-        return Outcome::Refused(Refusal::InputCount);
-    }
-    if !table_ok(n, table) {
-        return Outcome::Refused(Refusal::TableShape);
-    }
-    let size = places(n);
-    if size <= polarity {
-        return Outcome::Refused(Refusal::Polarity);
-    }
-    if out.len() < size {
-        return Outcome::Refused(Refusal::Memory);
-    }
-    put_spectrum(out, 0, table, n, polarity, kind);
-    Outcome::Done
-}
-
-// Whether bytes are a packed table: as many as its entries need, spare bits 0.
-fn table_ok(n: usize, table: &[u8]) -> bool
-    requires { ⌜ n ≤ 15 ⌝ }
-    ensures { λ r. ⌜ r ≡ tableOk n (now (table .entry)) ⌝ }
-{
-    let size = places(n);
-    let bytes = (size + 7) / 8;
-    let count = table.len();
-    if count != bytes {
-        return false;
-    }
-    zero_from(table, size, bytes * 8)
-}
-
-// Whether the entries from one on, up to an end, are 0.
-fn zero_from(table: &[u8], from: usize, end: usize) -> bool
-    requires { ⌜ (from ≤ end) × (end ≤ 8 * length (now table)) ⌝ }
-    ensures { λ r. ⌜ r ≡ zeroFrom (end - from) from (now (table .entry)) ⌝ }
-{
-    let mut m = from;
-    while m < end {
-        let bit = entry_at(table, m);
-        if bit != 0 {
-            return false;
-        }
-        m += 1;
-    }
-    true
-}
-
-// The spectra of tables that stand row after row, one after the other from the start of the work on.
-fn fill_rows(work: &mut [u16], tables: &[u8], n: usize, rows: usize, k: usize, kind: Kind)
-    requires { ⌜ (n ≤ 15) × (k < 2 ^ n) × (rows * 2 ^ n ≤ length (now work)) × (rows * tableBytes n ≤ length (now tables)) ⌝ }
-    ensures { λ r. ⌜ now (work .exit) ≡ rowSpectra kind n k (now (tables .entry)) rows ++ drop (rows * 2 ^ n) (now (work .entry)) ⌝ }
-{
-    let mut r = 0;
-    while r < rows {
-        fill_row(work, tables, r, n, k, kind);
-        r += 1;
-    }
-}
-
-// The spectrum of row r.
-fn fill_row(work: &mut [u16], tables: &[u8], r: usize, n: usize, k: usize, kind: Kind)
-    requires { ⌜ (n ≤ 15) × (k < 2 ^ n) × (r * 2 ^ n + 2 ^ n ≤ length (now work)) × (r * tableBytes n + tableBytes n ≤ length (now tables)) ⌝ }
-    ensures { λ _. ⌜ now (work .exit) ≡ splice (now (work .entry)) (r * 2 ^ n) (spectrum kind n k (entry (tableRow n (now (tables .entry)) r))) ⌝ }
-{
-    let size = places(n);
-    let bytes = (size + 7) / 8;
-    let from = r * bytes;
-    put_spectrum(work, r * size, &tables[from..from + bytes], n, k, kind);
-}
-
-// The spectrum of a packed table, from a place of the work on.
-fn put_spectrum(work: &mut [u16], to: usize, table: &[u8], n: usize, k: usize, kind: Kind)
-    requires { ⌜ (n ≤ 15) × (k < 2 ^ n) × (to + 2 ^ n ≤ length (now work)) × (2 ^ n ≤ 8 * length (now table)) ⌝ }
-    ensures { λ r. ⌜ now (work .exit) ≡ splice (now (work .entry)) to (spectrum kind n k (entry (now (table .entry)))) ⌝ }
-{
-    let size = places(n);
-    transform(&mut work[to..to + size], table, 0, n, k, kind);
 }
 
 // Entry m of a packed table.
@@ -194,4 +114,286 @@ fn transform(out: &mut [u16], table: &[u8], at: usize, n: usize, k: usize, kind:
         kind,
     );
     combine(out, half, kind);
+}
+
+// The bytes of a packed table of n inputs.
+fn table_bytes(n: usize) -> usize
+    requires { ⌜ n ≤ 15 ⌝ }
+    ensures { λ r. ⌜ r ≡ tableBytes n ⌝ }
+{
+    (places(n) + 7) / 8
+}
+
+// The spectra of tables that stand row after row.
+fn fill_rows(work: &mut [u16], tables: &[u8], n: usize, rows: usize, k: usize, kind: Kind)
+    requires { ⌜ (n ≤ 15) × (k < 2 ^ n) × (rows * 2 ^ n ≤ length (now work)) × (rows * tableBytes n ≤ length (now tables)) ⌝ }
+    ensures { λ r. ⌜ now (work .exit) ≡ rowSpectra kind n k (now (tables .entry)) rows ++ drop (rows * 2 ^ n) (now (work .entry)) ⌝ }
+{
+    let size = places(n);
+    let bytes = table_bytes(n);
+    let mut r = 0;
+    while r < rows {
+        transform(
+            &mut work[r * size..r * size + size],
+            &tables[r * bytes..r * bytes + bytes],
+            0,
+            n,
+            k,
+            kind,
+        );
+        r += 1;
+    }
+}
+
+// (63 + 1) circuits of at most 32 bytes.
+const ALL_TABLES_BYTES: usize = 64 * 32;
+
+// The spectra of all circuits of the job that the bytes give, with its counts: reading's refusals; 13; 10.
+pub fn job_spectra(bytes: &[u8], kind: Kind, polarity: usize, work: &mut [u16]) -> TablesAnswer
+    ensures { λ r. ⌜ record { answer = tablesTold r; memory = now (work .exit) } ≡ leaves (jobSpectraOf (now (bytes .entry)) kind polarity (length (now (work .entry)))) (now (work .entry)) ⌝ }
+{
+    let mut packed = [0u8; ALL_TABLES_BYTES];
+    let answer = tables::tables(bytes, &mut packed);
+    match answer {
+        TablesAnswer::Refused(cause) => TablesAnswer::Refused(cause),
+        TablesAnswer::Filled(counts) => fill_job(work, &packed, counts, kind, polarity),
+    }
+}
+
+// The spectra of the circuits that the counts tell, from their tables: 13; 10.
+fn fill_job(
+    work: &mut [u16],
+    packed: &[u8],
+    counts: Counts,
+    kind: Kind,
+    polarity: usize,
+) -> TablesAnswer
+    requires { ⌜ Counted counts (length (now packed)) ⌝ }
+    ensures { λ r. ⌜ record { answer = tablesTold r; memory = now (work .exit) } ≡ leaves (spectraFilled counts (counts .inputs) (counts .faults + 1) (now (packed .entry)) kind polarity (length (now (work .entry)))) (now (work .entry)) ⌝ }
+{
+    let size = places(counts.inputs);
+    let rows = counts.faults + 1;
+    if size <= polarity {
+        return TablesAnswer::Refused(Refusal::Polarity);
+    }
+    if work.len() / size < rows {
+        return TablesAnswer::Refused(Refusal::Memory);
+    }
+    fill_rows(work, packed, counts.inputs, rows, polarity, kind);
+    TablesAnswer::Filled(counts)
+}
+
+// Whether the bytes are a packed table of n inputs: as many as it has, and spare bits 0. Only n 1 and 2 have spare bits.
+fn table_ok(table: &[u8], n: usize) -> bool
+    requires { ⌜ (1 ≤ n) × (n ≤ 15) ⌝ }
+    ensures { λ r. ⌜ r ≡ tableOk n (now (table .entry)) ⌝ }
+{
+    if table.len() != table_bytes(n) {
+        return false;
+    }
+    if n == 1 {
+        return table[0] % 64 == 0;
+    }
+    if n == 2 {
+        return table[0] % 16 == 0;
+    }
+    true
+}
+
+// Whether the bytes are so many packed tables of n inputs.
+fn rows_ok(tables: &[u8], n: usize, rows: usize) -> bool
+    requires { ⌜ (1 ≤ n) × (n ≤ 15) ⌝ }
+    ensures { λ r. ⌜ r ≡ rowsFit n (now (tables .entry)) rows ⌝ }
+{
+    let bytes = table_bytes(n);
+    if tables.len() % bytes != 0 {
+        return false;
+    }
+    if tables.len() / bytes != rows {
+        return false;
+    }
+    let mut r = 0;
+    while r < rows {
+        if !table_ok(&tables[r * bytes..r * bytes + bytes], n) {
+            return false;
+        }
+        r += 1;
+    }
+    true
+}
+
+// The spectra of so many packed tables that stand row after row: 2; 12; 13; 10.
+pub fn row_spectra(
+    n: usize,
+    rows: usize,
+    tables: &[u8],
+    kind: Kind,
+    polarity: usize,
+    work: &mut [u16],
+) -> Outcome
+    ensures { λ r. ⌜ record { answer = outcome r; memory = now (work .exit) } ≡ leaves (rowsOf n rows (now (tables .entry)) kind polarity (length (now (work .entry)))) (now (work .entry)) ⌝ }
+{
+    if n < 1 {
+        return Outcome::Refused(Refusal::InputCount);
+    }
+    if 8 < n {
+        return Outcome::Refused(Refusal::InputCount);
+    }
+    if !rows_ok(tables, n, rows) {
+        return Outcome::Refused(Refusal::TableShape);
+    }
+    let size = places(n);
+    if size <= polarity {
+        return Outcome::Refused(Refusal::Polarity);
+    }
+    if work.len() / size < rows {
+        return Outcome::Refused(Refusal::Memory);
+    }
+    fill_rows(work, tables, n, rows, polarity, kind);
+    Outcome::Done
+}
+
+// The spectrum of one packed table, which is one row: 2; 12; 13; 10.
+pub fn spectrum(n: usize, table: &[u8], kind: Kind, polarity: usize, out: &mut [u16]) -> Outcome
+    ensures { λ r. ⌜ record { answer = outcome r; memory = now (out .exit) } ≡ leaves (spectrumOf n (now (table .entry)) kind polarity (length (now (out .entry)))) (now (out .entry)) ⌝ }
+{
+    row_spectra(n, 1, table, kind, polarity, out)
+}
+
+// "1 to 8 inputs": the entries and the bytes of the largest table.
+const MAX_ENTRIES: usize = 256;
+
+const MAX_TABLE_BYTES: usize = 32;
+
+// The parity of number (m xor k); past the last number 0.
+fn parity(numbers: &[u16], m: usize, k: usize) -> u8
+    requires { ⌜ Closed (length (now numbers)) k ⌝ }
+    ensures { λ r. ⌜ r ≡ at (tabulate (length (now (numbers .entry))) (parityAt (now (numbers .entry)) k)) m ⌝ }
+{
+    if m < numbers.len() {
+        (numbers[m ^ k] % 2) as u8
+    } else {
+        0
+    }
+}
+
+// Eight parities from the one at `first` on, as a byte.
+fn packed_byte(numbers: &[u16], first: usize, k: usize) -> u8
+    requires { ⌜ Closed (length (now numbers)) k × (first + 8 < 2 ^ 64) ⌝ }
+    ensures { λ r. ⌜ r ≡ valueFrom 0 (tabulate 8 (λ t. at (tabulate (length (now (numbers .entry))) (parityAt (now (numbers .entry)) k)) (first + t))) ⌝ }
+{
+    let mut byte: u8 = 0;
+    let mut m = 0;
+    while m < 8 {
+        byte = byte * 2 + parity(numbers, first + m, k);
+        m += 1;
+    }
+    byte
+}
+
+// Packs the parities of numbers, entry m that of number (m xor k).
+fn pack(table: &mut [u8], numbers: &[u16], k: usize)
+    requires { ⌜ Packs k (now numbers) (now table) ⌝ }
+    ensures { λ r. ⌜ now (table .exit) ≡ packed (length (now (numbers .entry))) (parityAt (now (numbers .entry)) k) ⌝ }
+{
+    let mut i = 0;
+    while i < table.len() {
+        table[i] = packed_byte(numbers, 8 * i, k);
+        i += 1;
+    }
+}
+
+// The one table that can have these numbers as its spectrum: modulo 2 the transform undoes itself.
+fn recover(table: &mut [u8], sums: &mut [u16], numbers: &[u16], n: usize, k: usize)
+    requires { ⌜ Lent n k (now numbers) (now table) (now sums) ⌝ }
+    ensures { λ r. ⌜ now (table .exit) ≡ packed (2 ^ n) (recovered n k (at (now (numbers .entry)))) ⌝ }
+{
+    pack(table, numbers, 0);
+    transform(sums, table, 0, n, 0, Kind::Rm);
+    pack(table, sums, k);
+}
+
+// Whether two slices hold the same numbers.
+fn same(a: &[u16], b: &[u16]) -> bool
+    ensures { λ r. ⌜ r ≡ sameNumbers (now (a .entry)) (now (b .entry)) ⌝ }
+{
+    if a.len() != b.len() {
+        return false;
+    }
+    let mut i = 0;
+    while i < a.len() {
+        if a[i] != b[i] {
+            return false;
+        }
+        i += 1;
+    }
+    true
+}
+
+// Copies a table to the start of `out`.
+fn copy(out: &mut [u8], table: &[u8])
+    requires { ⌜ length (now table) ≤ length (now out) ⌝ }
+    ensures { λ r. ⌜ now (out .exit) ≡ splice (now (out .entry)) 0 (now (table .entry)) ⌝ }
+{
+    let mut i = 0;
+    while i < table.len() {
+        out[i] = table[i];
+        i += 1;
+    }
+}
+
+// Recovers the table, makes its spectrum, and compares.
+fn undo_in(
+    table: &mut [u8],
+    sums: &mut [u16],
+    n: usize,
+    numbers: &[u16],
+    kind: Kind,
+    k: usize,
+    out: &mut [u8],
+) -> Outcome
+    requires { ⌜ (1 ≤ n) × Lent n k (now numbers) (now table) (now sums) ⌝ }
+    ensures { λ r. ⌜ record { answer = outcome r; memory = now (out .exit) } ≡ leaves (undoneOf n (now (numbers .entry)) kind k (length (now (out .entry)))) (now (out .entry)) ⌝ }
+{
+    recover(table, sums, numbers, n, k);
+    transform(sums, table, 0, n, k, kind);
+    if !same(numbers, sums) {
+        return Outcome::Refused(Refusal::NoTable);
+    }
+    if out.len() < table.len() {
+        return Outcome::Refused(Refusal::Memory);
+    }
+    copy(out, table);
+    Outcome::Done
+}
+
+// The table of a spectrum: 2; 13; 14, not exactly N numbers or no table has this spectrum; 10.
+pub fn undo(n: usize, numbers: &[u16], kind: Kind, polarity: usize, out: &mut [u8]) -> Outcome
+    ensures { λ r. ⌜ record { answer = outcome r; memory = now (out .exit) } ≡ leaves (undoneOf n (now (numbers .entry)) kind polarity (length (now (out .entry)))) (now (out .entry)) ⌝ }
+{
+    if n < 1 {
+        return Outcome::Refused(Refusal::InputCount);
+    }
+    if job::MAX_INPUTS < n {
+        return Outcome::Refused(Refusal::InputCount);
+    }
+    let size = places(n);
+    if size <= polarity {
+        return Outcome::Refused(Refusal::Polarity);
+    }
+    if numbers.len() != size {
+        return Outcome::Refused(Refusal::NoTable);
+    }
+    let bytes = (size + 7) / 8;
+    let mut table = [0u8; MAX_TABLE_BYTES];
+    let mut sums = [0u16; MAX_ENTRIES];
+    undo_in(
+        &mut table[..bytes],
+        &mut sums[..size],
+        n,
+        numbers,
+        kind,
+        polarity,
+        out,
+    )
 }

@@ -14,8 +14,8 @@ abbrev μ-loop : tie.MeasureT-loop
 loop-holds : tie.Need-loop-holds Inv-loop μ-loop
 loop-holds c = search needs
 
-line-end-requires : tie.Need-line-end-requires Inv-loop μ-loop
-line-end-requires c κs = search needs
+place-of-requires : tie.Need-place-of-requires Inv-loop μ-loop
+place-of-requires c κs = search needs
 
 sub-list-line : tie.Need-sub-list-line Inv-loop μ-loop
 sub-list-line c = search needs
@@ -48,7 +48,7 @@ list-lines-spec =
     Inv-loop
     μ-loop
     loop-holds
-    line-end-requires
+    place-of-requires
     sub-list-line
     part-list-line-start
     part-list-line-end

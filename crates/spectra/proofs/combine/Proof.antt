@@ -6,9 +6,6 @@ use Rattle.tables.proofs.Splice.{written-length}
 use Rattle.spectra.proofs.Combining.{Combining, combining-none, combining-fits, combining-more, combining-all}
 use Rattle.spectra.proofs.combine.Statement.{statement}
 use Rattle.spectra.proofs.combine.Tie as tie
-use Rattle.spectra.proofs.combine.Reads as reads
-use Rattle.spectra.proofs.combine.Lts as lts
-use Rattle.spectra.proofs.reduced.Reads as reduced-reads
 
 abbrev Inv-loop : tie.InvT-loop
 Inv-loop out₀ half kind i₀ out i = Combining kind half out₀ out i

@@ -1,3 +1,4 @@
+-- `spectra::entry_at` meets its contract.
 use borrow.Author.Needs.{needs}
 use Prim.Native.Nat.{_/_}
 use native.Mathlib.Omega.{arith}
@@ -5,30 +6,22 @@ use mathlib.Core.Path.{refl}
 use Rattle.bits.specs.Packed.{entry}
 use Rattle.spectra.proofs.entry_at.Statement.{statement}
 use Rattle.spectra.proofs.entry_at.Tie as tie
-use Rattle.spectra.proofs.entry_at.Reads as reads
-use Rattle.spectra.proofs.entry_at.Lts as lts
 
--- src/lib.rt:25:6
 shared-slice-read-result : tie.Need-shared-slice-read-result
 shared-slice-read-result c = search needs
 
--- src/lib.rt:25:6
 cast-result : tie.Need-cast-result
 cast-result c = let a = c .before .args in omega (arith, c .shared-slice-known .given (a .m / 8))
 
--- src/lib.rt:25:30
 sub-result : tie.Need-sub-result
 sub-result c = search needs
 
--- src/lib.rt:25:30
 cast-result-2 : tie.Need-cast-result-2
 cast-result-2 c = search needs
 
--- src/lib.rt:25:6
 shr-result : tie.Need-shr-result
 shr-result c = search needs
 
--- src/lib.rt:21:1
 returns : tie.Need-returns
 unfolding entry
 returns c = refl

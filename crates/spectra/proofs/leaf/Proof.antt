@@ -9,10 +9,6 @@ use Rattle.spectra.specs.Transform.{entriesFrom}
 use Rattle.spectra.proofs.Eight.{entry-inside, place-fits, bit, fits-2, fits-3, fits-4, fits-5, fits-6, fits-7, fits-8, room-for, eight-written}
 use Rattle.spectra.proofs.leaf.Statement.{statement}
 use Rattle.spectra.proofs.leaf.Tie as tie
-use Rattle.spectra.proofs.leaf.Reads as reads
-use Rattle.spectra.proofs.leaf.Lts as lts
-use Rattle.spectra.proofs.entry_at.Reads as entry-at-reads
-use Rattle.spectra.proofs.reduced.Reads as reduced-reads
 
 add-entry-at : tie.Need-add-entry-at
 add-entry-at c = omega (arith, c .before .before .pre .1, c .before .before .pre .3)

@@ -1,22 +1,17 @@
+-- `spectra::reduced` meets its contract.
 use borrow.Author.Needs.{needs}
 use Rattle.spectra.proofs.reduced.Statement.{statement}
 use Rattle.spectra.proofs.reduced.Tie as tie
-use Rattle.spectra.proofs.reduced.Reads as reads
-use Rattle.spectra.proofs.reduced.Lts as lts
 
--- src/lib.rt:33:21
 enum-told : tie.Need-enum-told
 enum-told c = search needs
 
--- src/lib.rt:34:22
 enum-told-2 : tie.Need-enum-told-2
 enum-told-2 c = search needs
 
--- src/lib.rt:29:1
 returns : tie.Need-returns
 returns c = rw (c .enum-told .given .1)
 
--- src/lib.rt:29:1
 returns-2 : tie.Need-returns-2
 returns-2 c = search needs
 

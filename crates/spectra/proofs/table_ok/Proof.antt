@@ -1,33 +1,40 @@
--- `spectra::table_ok` meets its contract.
-use borrow.Author.Needs.{needs}
+-- `table_ok` meets its contract: each way out is one law on a table.
+use native.Mathlib.Omega.{arith}
 use denote.Ref.{now}
-use Rattle.spectra.proofs.Shapes.{size-fits, end-fits, spare-asked, shape-wrong, shape-tested}
+use Rattle.spectra.proofs.Tested.{bytes-some, table-length, table-one, table-two, table-full}
+use borrow.Author.Needs.{needs}
 use Rattle.spectra.proofs.table_ok.Statement.{statement}
 use Rattle.spectra.proofs.table_ok.Tie as tie
-use Rattle.spectra.proofs.table_ok.Reads as reads
-use Rattle.spectra.proofs.table_ok.Lts as lts
-use Rattle.spectra.proofs.places.Reads as places-reads
-use Rattle.spectra.proofs.zero_from.Reads as zero-from-reads
 
-places-requires : tie.Need-places-requires
-places-requires c κs = search needs
-
-add-bytes : tie.Need-add-bytes
-add-bytes c = let a = c .before .before .args in size-fits (a .n) (now (a .table)) (c .places .ensures) (c .before .before .pre)
+table-bytes-requires : tie.Need-table-bytes-requires
+table-bytes-requires c κs = search needs
 
 returns : tie.Need-returns
-returns c = let a = c .before .before .before .args in shape-wrong (a .n) (now (a .table)) (c .before .places .ensures) (c .if1 .taken)
+returns c = table-length (c .before .before .before .args .n) (now (c .before .before .before .args .table)) (c .before .table-bytes .ensures) (c .if1 .taken)
 
-mul-zero-from : tie.Need-mul-zero-from
-mul-zero-from c = let a = c .before .before .before .args in end-fits (a .n) (now (a .table)) (c .before .places .ensures) (c .before .before .before .pre)
-
-zero-from-requires : tie.Need-zero-from-requires
-zero-from-requires c κs = let a = c .before .before .before .args in spare-asked (a .n) (now (a .table)) (c .before .places .ensures) (c .if1 .left)
+shared-slice-read-result : tie.Need-shared-slice-read-result
+shared-slice-read-result c = omega (arith, c .before .before .if1 .left, bytes-some (c .before .before .before .before .before .args .n) (c .before .before .before .table-bytes .ensures))
 
 returns-2 : tie.Need-returns-2
-returns-2 c = let a = c .before .before .before .before .args in shape-tested (a .n) (now (a .table)) (c .before .before .places .ensures) (c .before .if1 .left) (c .zero-from .ensures)
+returns-2 c = table-one (c .before .before .before .before .before .args .n) (now (c .before .before .before .before .before .args .table)) (c .before .before .before .table-bytes .ensures) (c .before .before .if1 .left) (c .before .if2 .taken)
+
+shared-slice-read-result-2 : tie.Need-shared-slice-read-result-2
+shared-slice-read-result-2 c = omega (arith, c .before .before .before .if1 .left, bytes-some (c .before .before .before .before .before .before .args .n) (c .before .before .before .before .table-bytes .ensures))
+
+returns-3 : tie.Need-returns-3
+returns-3 c = table-two (c .before .before .before .before .before .before .args .n) (now (c .before .before .before .before .before .before .args .table)) (c .before .before .before .before .table-bytes .ensures) (c .before .before .before .if1 .left) (c .before .if3 .taken)
+
+returns-4 : tie.Need-returns-4
+returns-4 c = table-full (c .before .before .before .before .before .args .n) (now (c .before .before .before .before .before .args .table)) (c .before .before .before .table-bytes .ensures) (c .before .before .if1 .left) (omega (arith, c .before .if2 .left, c .if3 .left, c .before .before .before .before .before .pre .0))
 
 pub table-ok-spec : {M : Type 1} → statement M
 table-ok-spec =
     tie.close
-    (tie.spec places-requires add-bytes returns mul-zero-from zero-from-requires returns-2)
+    (tie.spec
+    table-bytes-requires
+    returns
+    shared-slice-read-result
+    returns-2
+    shared-slice-read-result-2
+    returns-3
+    returns-4)

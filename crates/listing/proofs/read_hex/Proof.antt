@@ -1,12 +1,12 @@
--- `published_tables::read_hex` meets its contract: three characters a byte lie within the text, and stores keep the length.
+-- `listing::read_hex` meets its contract: three characters a byte lie within the text, and stores keep the length.
 use Prim.Native.Nat.{_-_}
 use native.Mathlib.Omega.{arith}
 use mathlib.Core.Path.{_≡_}
 use lib.ListN.{length}
 use borrow.Author.Needs.{needs}
 use Rattle.io.proofs.Counting.{counts}
-use Rattle.published_tables.proofs.read_hex.Statement.{statement}
-use Rattle.published_tables.proofs.read_hex.Tie as tie
+use Rattle.listing.proofs.read_hex.Statement.{statement}
+use Rattle.listing.proofs.read_hex.Tie as tie
 
 abbrev Inv-loop : tie.InvT-loop
 Inv-loop text bytes₀ count n₀ bytes n = length bytes ≡ length bytes₀

@@ -1,18 +1,15 @@
--- `listing::list_circuit` is safe and ends: the measure is the number of bytes that are left.
+-- `listing::list_bytes` is safe and ends: the measure is the number of bytes that are left.
 use Prim.Native.Nat.{_-_}
 use lib.ListN.{length}
 use borrow.Author.Needs.{needs}
-use Rattle.listing.proofs.list_circuit.Statement.{statement}
-use Rattle.listing.proofs.list_circuit.Tie as tie
+use Rattle.listing.proofs.list_bytes.Statement.{statement}
+use Rattle.listing.proofs.list_bytes.Tie as tie
 
 abbrev Inv-loop : tie.InvT-loop
-Inv-loop circuit table i₀ t4 i = Unit {0}
+Inv-loop bytes i₀ t3 i = Unit {0}
 
 abbrev μ-loop : tie.MeasureT-loop
-μ-loop circuit table i₀ t4 i = length table - i
-
-print-decimal-requires : tie.Need-print-decimal-requires Inv-loop μ-loop
-print-decimal-requires c κs = search needs
+μ-loop bytes i₀ t3 i = length bytes - i
 
 loop-holds : tie.Need-loop-holds Inv-loop μ-loop
 loop-holds c = search needs
@@ -41,13 +38,12 @@ write-all-requires c κs = search needs
 returns : tie.Need-returns Inv-loop μ-loop
 returns c = search needs
 
-pub list-circuit-spec : {M : Type 1} → statement M
-list-circuit-spec =
+pub list-bytes-spec : {M : Type 1} → statement M
+list-bytes-spec =
     tie.close
     (tie.spec
     Inv-loop
     μ-loop
-    print-decimal-requires
     loop-holds
     shared-slice-read-list-byte
     list-byte-requires

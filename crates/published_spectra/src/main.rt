@@ -1,0 +1,199 @@
+// Works out the spectra that are published, and undoes some of them, and writes the answers to be compared.
+//
+// Standard input has a line for each task. `s N K HH HH ..` gives a table of N inputs and a polarity K: its RM and MRM spectra
+// are written. `u KIND N K C C ..` gives a spectrum, of the kind `rm` or `mrm`: its table is written. A line that begins with
+// `#` names the next task, and is written as it is.
+ghost use Prim.Native.Nat.{_≤_};
+ghost use lib.ListN.{length};
+ghost use Rattle.io.specs.Counts.{Counts};
+use bits::Outcome;
+use libc::STDIN_FILENO;
+use libc::STDOUT_FILENO;
+use spectra::Kind;
+
+const MAX_INPUTS: usize = 8;
+
+// The entries of a table of 8 inputs.
+const MAX_ENTRIES: usize = 256;
+
+// The bytes that hold them.
+const MAX_TABLE_BYTES: usize = 32;
+
+// The largest number of 16 bits.
+const MAX_NUMBER: usize = 65535;
+
+fn main() {
+    let mut text = io::large_buffer();
+    let n = io::read_full(STDIN_FILENO, &mut text);
+    list_lines(&text[..n]);
+}
+
+// Each line of the text in turn.
+fn list_lines(text: &[u8]) {
+    let mut at = 0;
+    while at < text.len() {
+        let end = listing::place_of(text, at, b'\n');
+        list_line(&text[at..end]);
+        at = end + 1;
+    }
+}
+
+// Writes a name as it is, and the answer to a task.
+fn list_line(line: &[u8]) {
+    if line.len() == 0 {
+        return;
+    }
+    match line[0] {
+        b'#' => listing::list_name(line),
+        b's' => list_spectra(line),
+        b'u' => list_undone(line),
+        _ => (),
+    }
+}
+
+// The RM and the MRM spectrum of the table that the line gives.
+fn list_spectra(line: &[u8]) {
+    let inputs_at = next_word(line, 0);
+    let polarity_at = next_word(line, inputs_at);
+    let table_at = next_word(line, polarity_at);
+    let inputs = number_at(line, inputs_at);
+    let polarity = number_at(line, polarity_at);
+    let mut table = [0u8; MAX_TABLE_BYTES];
+    let bytes = listing::read_hex(&line[table_at..], &mut table);
+    list_spectrum(inputs, &table[..bytes], Kind::Rm, polarity);
+    list_spectrum(inputs, &table[..bytes], Kind::Mrm, polarity);
+}
+
+// The table of the spectrum that the line gives.
+fn list_undone(line: &[u8]) {
+    let kind_at = next_word(line, 0);
+    let inputs_at = next_word(line, kind_at);
+    let polarity_at = next_word(line, inputs_at);
+    let numbers_at = next_word(line, polarity_at);
+    let kind = read_kind(line, kind_at);
+    let inputs = number_at(line, inputs_at);
+    let polarity = number_at(line, polarity_at);
+    let mut numbers = [0u16; MAX_ENTRIES];
+    let count = read_numbers(line, numbers_at, &mut numbers);
+    list_table(inputs, &numbers[..count], kind, polarity);
+}
+
+// The line of a spectrum: its kind, then its coefficients.
+fn list_spectrum(inputs: usize, table: &[u8], kind: Kind, polarity: usize) {
+    let mut numbers = [0u16; MAX_ENTRIES];
+    let outcome = spectra::spectrum(inputs, table, kind, polarity, &mut numbers);
+    match outcome {
+        Outcome::Done => list_coefficients(kind, &numbers, entries(inputs)),
+        Outcome::Refused(cause) => listing::list_refusal(cause),
+    }
+}
+
+// The line of the table that a spectrum gives back.
+fn list_table(inputs: usize, numbers: &[u16], kind: Kind, polarity: usize) {
+    let mut table = [0u8; MAX_TABLE_BYTES];
+    let outcome = spectra::undo(inputs, numbers, kind, polarity, &mut table);
+    match outcome {
+        Outcome::Done => list_packed(&table, (entries(inputs) + 7) / 8),
+        Outcome::Refused(cause) => listing::list_refusal(cause),
+    }
+}
+
+// The entries of a table; none where there are too many inputs.
+fn entries(inputs: usize) -> usize
+    ensures { λ r. ⌜ r ≤ 256 ⌝ }
+{
+    if MAX_INPUTS < inputs { 0 } else { 1 << inputs }
+}
+
+// The line of the first `count` numbers.
+fn list_coefficients(kind: Kind, numbers: &[u16], count: usize)
+    requires { ⌜ count ≤ length (now numbers) ⌝ }
+{
+    list_kind(kind);
+    list_numbers(&numbers[..count]);
+}
+
+// The line of the first `count` bytes.
+fn list_packed(table: &[u8], count: usize)
+    requires { ⌜ count ≤ length (now table) ⌝ }
+{
+    io::write_all(STDOUT_FILENO, b"table");
+    listing::list_bytes(&table[..count]);
+}
+
+// The word of a kind of spectrum.
+fn list_kind(kind: Kind) {
+    match kind {
+        Kind::Rm => io::write_all(STDOUT_FILENO, b"rm"),
+        Kind::Mrm => io::write_all(STDOUT_FILENO, b"mrm"),
+    }
+    ;
+}
+
+// The rest of a line: each number behind a space.
+fn list_numbers(numbers: &[u16]) {
+    let mut i = 0;
+    while i < numbers.len() {
+        list_number(numbers[i]);
+        i += 1;
+    }
+    io::write_all(STDOUT_FILENO, b"\n");
+}
+
+// A space and a number.
+fn list_number(number: u16) {
+    io::write_all(STDOUT_FILENO, b" ");
+    io::print_decimal(STDOUT_FILENO, number as u64);
+}
+
+// Where the word begins that follows the one at a place; the line's end where there is none.
+fn next_word(line: &[u8], from: usize) -> usize
+    requires { ⌜ from ≤ length (now line) ⌝ }
+    ensures { λ r. ⌜ r ≤ length (now (line .entry)) ⌝ }
+{
+    let end = listing::place_of(line, from, b' ');
+    listing::least(end + 1, line.len())
+}
+
+// The kind of spectrum that the word at a place names.
+fn read_kind(line: &[u8], at: usize) -> Kind {
+    if at < line.len() {
+        if line[at] == b'm' {
+            return Kind::Mrm;
+        }
+    }
+    Kind::Rm
+}
+
+// Puts the numbers from a place on at the start of `numbers`, as far as they fit, and answers how many there are.
+fn read_numbers(line: &[u8], from: usize, numbers: &mut [u16]) -> usize
+    requires { ⌜ from ≤ length (now line) ⌝ }
+    ensures { λ r. ⌜ Counts r (now (numbers .exit)) ⌝ }
+{
+    let mut at = from;
+    let mut count = 0;
+    while count < numbers.len() {
+        if at == line.len() {
+            return count;
+        }
+        numbers[count] = number_at(line, at) as u16;
+        at = next_word(line, at);
+        count += 1;
+    }
+    count
+}
+
+// The decimal number at a place, up to the word's end; at most 65535.
+fn number_at(line: &[u8], from: usize) -> usize
+    requires { ⌜ from ≤ length (now line) ⌝ }
+    ensures { λ r. ⌜ r ≤ 65535 ⌝ }
+{
+    let end = listing::place_of(line, from, b' ');
+    let mut value = 0;
+    let mut i = from;
+    while i < end {
+        value = listing::least(value * 10 + listing::digit(line[i]) as usize, MAX_NUMBER);
+        i += 1;
+    }
+    value
+}

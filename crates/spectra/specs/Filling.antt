@@ -1,0 +1,31 @@
+-- What the operations on spectra do once the tables are known to be tables.
+--
+--   rowsFit          the bytes are so many tables
+--   spectraFilled    the refusals 13 and 10, and then the spectra of so many tables, with a value
+--   Counted          the counts of a job whose tables lie within so many bytes
+use Prim.Native.Nat.{ℕ, _+_, _*_, _^_, _≤_}
+use mathlib.Core.Bool.{Bool, _&&_}
+use mathlib.Core.List.{List}
+use lib.Dec.{leb, eqb}
+use lib.ListN.{length}
+use Rattle.bits.specs.Answer.{Answer, Fills, unless}
+use Rattle.bits.specs.Answer.Answer.{gives}
+use Rattle.job.specs.Layout.{maxInputs, maxFaults}
+use Rattle.tables.specs.Form.{tableBytes}
+use Rattle.tables.specs.declared.Counts.{Counts}
+use Rattle.spectra.specs.Operations.{polarityOk, rowsOk, rowSpectra}
+use Rattle.spectra.specs.declared.Kind.{Kind}
+
+unfoldable pub rowsFit : ℕ → List ℕ → ℕ → Bool
+rowsFit n s rows = eqb (length s) (rows * tableBytes n) && rowsOk n s rows
+
+unfoldable pub spectraFilled : {A : Type 0} → A → ℕ → ℕ → List ℕ → Kind → ℕ → ℕ → Answer (Fills A)
+spectraFilled v n rows s kind k room =
+    unless (polarityOk n k) 13
+    (unless (leb (rows * 2 ^ n) room) 10
+    (gives (record { value = v; filled = rowSpectra kind n k s rows })))
+
+pub record Counted (counts : Counts) (room : ℕ) : Type 0 where
+  pub few : counts .inputs ≤ maxInputs
+  pub faults-few : counts .faults ≤ maxFaults
+  pub fits : (counts .faults + 1) * tableBytes (counts .inputs) ≤ room
