@@ -7,6 +7,7 @@ pub mod Filling
 pub mod Halves
 pub mod Inverse
 pub mod Packing
+pub mod WorkPlaces
 pub mod Subnumbers
 pub mod Sums
 pub mod Tested

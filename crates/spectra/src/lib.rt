@@ -236,7 +236,7 @@ pub fn row_spectra(
     if n < 1 {
         return Outcome::Refused(Refusal::InputCount);
     }
-    if 8 < n {
+    if job::MAX_INPUTS < n {
         return Outcome::Refused(Refusal::InputCount);
     }
     if !rows_ok(tables, n, rows) {
