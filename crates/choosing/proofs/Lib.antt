@@ -1,0 +1,6 @@
+pub mod Pairs
+pub mod Agreement
+pub mod Taking
+pub mod Dropping
+pub mod Bounded
+pub mod Signature
