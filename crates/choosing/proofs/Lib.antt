@@ -4,3 +4,9 @@ pub mod Taking
 pub mod Dropping
 pub mod Bounded
 pub mod Signature
+pub mod Scanned
+pub mod Indexed
+pub mod Compared
+pub mod Sought
+pub mod Handed
+pub mod Whole

@@ -1,1 +1,3 @@
+pub mod Locating
 pub mod Method
+pub mod Scanning

@@ -1,0 +1,41 @@
+-- The tables of a job's circuits are tables: they have their length, and spare bits 0.
+--
+--   table-whole   a circuit's table passes the test of a table
+--   rows-whole    and so do rows that are circuits' tables
+use Prim.Native.Nat.{ℕ, zero, suc, _+_, _*_, _-_, _/_, _^_, _≤_, _<_}
+use native.Mathlib.Omega.{arith}
+use mathlib.Core.Path.{_≡_, refl, sym, ap, _∙_}
+use mathlib.Core.Bool.{Bool, true}
+use mathlib.Core.List.{List}
+use borrow.Author.Tests.{eq-eqb}
+use lib.ListN.{length}
+use Rattle.bits.specs.Packed.{entry}
+use Rattle.bits.proofs.Packed.{packed-all, tabulate-past}
+use Rattle.bits.proofs.Tests.{and-i}
+use Rattle.job.specs.Check.{Valid}
+use Rattle.job.specs.declared.Job.{Job}
+use Rattle.tables.specs.Circuit.{circuitEntry, circuitTable}
+use Rattle.tables.specs.Form.{tableBytes}
+use Rattle.tables.proofs.Delivered.{length-table}
+use Rattle.spectra.specs.Operations.{zeroFrom, tableOk, tableRow, rowsOk}
+use Rattle.spectra.proofs.Delivered.{entry-bit}
+
+zero-from : (w m : ℕ) (s : List ℕ) → ((i : ℕ) → m ≤ i → i < m + w → entry s i ≡ 0) → zeroFrom w m s ≡ true
+unfolding zeroFrom
+zero-from zero m s h = refl
+zero-from (suc w) m s h =
+    and-i (eq-eqb (entry s m) 0 (h m (omega arith) (omega arith))) (zero-from w (suc m) s (λ i a b. h i (omega arith) (omega arith)))
+
+pub table-whole : (j : Job) (c : ℕ) → Valid j → tableOk (j .inputs) (circuitTable j c) ≡ true
+unfolding tableOk circuitTable
+table-whole j c v =
+    and-i (eq-eqb (length (circuitTable j c)) (tableBytes (j .inputs)) (length-table j c))
+    (zero-from (tableBytes (j .inputs) * 8 - 2 ^ (j .inputs)) (2 ^ (j .inputs)) (circuitTable j c)
+    (λ i a b. packed-all (2 ^ (j .inputs)) (circuitEntry j c) (λ m _. entry-bit j c m v) i (omega arith)
+    ∙ tabulate-past (2 ^ (j .inputs)) (circuitEntry j c) i a))
+
+pub rows-whole : (j : Job) (s : List ℕ) (d : ℕ) → Valid j → ((c : ℕ) → c < d → tableRow (j .inputs) s c ≡ circuitTable j c) → rowsOk (j .inputs) s d ≡ true
+unfolding rowsOk
+rows-whole j s zero v same = refl
+rows-whole j s (suc d) v same =
+    and-i (rows-whole j s d v (λ c h. same c (omega arith))) (ap (tableOk (j .inputs)) (same d (omega arith)) ∙ table-whole j d v)
