@@ -1,12 +1,5 @@
-pub mod Pairs
-pub mod Agreement
-pub mod Taking
-pub mod Dropping
-pub mod Bounded
-pub mod Signature
-pub mod Scanned
-pub mod Indexed
-pub mod Compared
-pub mod Sought
-pub mod Handed
-pub mod Whole
+pub mod Arrays
+pub mod Equality
+pub mod Indices
+pub mod Ordered
+pub mod Decided

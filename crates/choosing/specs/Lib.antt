@@ -1,3 +1,2 @@
-pub mod Locating
-pub mod Method
-pub mod Scanning
+pub mod Choosing
+pub mod Looking

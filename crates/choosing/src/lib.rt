@@ -1,210 +1,212 @@
-// Signatures, the few coefficients that tell the circuits of a job apart, and locating a unit from its readings (document 01,
-// "Choosing" and "Locating").
-ghost use Prim.Native.Nat.{_+_, _*_, _^_, _≤_, _<_};
+// Signatures: the few coefficients that tell the circuits of a job apart (document 01, "Choosing").
+ghost use Prim.Native.Nat.{_+_, _^_, _≤_, _<_};
 ghost use mathlib.Core.Path.{_≡_};
-ghost use mathlib.Core.Bool.{cond, _&&_};
+ghost use mathlib.Core.Bool.{cond};
+ghost use mathlib.Core.List.{[]};
+ghost use lib.Count.{ones};
 ghost use lib.Dec.{eqb};
-ghost use lib.ListN.{length, take};
-ghost use Rattle.bits.specs.Answer.{leaves};
-ghost use Rattle.bits.specs.Answer.Answer.{gives};
-ghost use Rattle.tables.specs.Form.{tableBytes};
-ghost use Rattle.spectra.specs.Filling.{Counted};
-ghost use Rattle.spectra.specs.Operations.{sameNumbers};
-ghost use Rattle.choosing.specs.Locating.{locatedOf, locatedTold, location, agreeing, indicesOk};
-ghost use Rattle.choosing.specs.Scanning.{numbersAt, workAgrees, locationOf, rowsLocated, Readable};
-use bits::Outcome;
+ghost use lib.ListN.{length, set};
+ghost use Rattle.job.specs.Layout.{maxInputs};
+ghost use Rattle.picking.specs.Labels.{Holds};
+ghost use Rattle.picking.specs.Matrix.{cell, maxRows, signatureOf};
+ghost use Rattle.choosing.specs.Choosing.{mark, scanTo, scanOrder, chosenOf, chose, verdictTold};
+ghost use Rattle.choosing.specs.declared.Purpose.the-variants.{Detecting};
+ghost use Rattle.choosing.specs.declared.Verdict.the-variants.{Refused};
+ghost use Rattle.choosing.specs.Looking.{maxPlaces, Listed, Filled, choiceIn, verdictOf, answerOf};
 use bits::Refusal;
+use picking::Found;
+use picking::Signature;
 use spectra::Kind;
 use tables::Counts;
 use tables::TablesAnswer;
 
-// The one agreeing circuit; the lowest agreeing circuit and how many agree; none; or the refusal.
-pub enum Located {
-    Alone(usize),
-    Several(usize, usize),
-    Nowhere,
+// To tell every two circuits apart, or the good one from each fault.
+pub enum Purpose {
+    Isolating,
+    Detecting,
+}
+
+// The counts of the job whose signature is chosen; the first needed pair of circuits that are alike; or the refusal.
+pub enum Verdict {
+    Done(Counts),
+    Alike(usize, usize),
     Refused(Refusal),
 }
 
-// (63 + 1) circuits of at most 32 bytes.
-const ALL_TABLES_BYTES: usize = 64 * 32;
-
-// The number of coefficients of n inputs.
-fn places(n: usize) -> usize
-    requires { ⌜ n ≤ 15 ⌝ }
-    ensures { λ r. ⌜ r ≡ 2 ^ n ⌝ }
-{
-    1 << n
+// The signature is empty beside a pair or a refusal.
+pub struct Chosen {
+    pub verdict: Verdict,
+    pub signature: Signature,
 }
 
-// The bytes of a packed table of n inputs.
-fn table_bytes(n: usize) -> usize
-    requires { ⌜ n ≤ 15 ⌝ }
-    ensures { λ r. ⌜ r ≡ tableBytes n ⌝ }
-{
-    (places(n) + 7) / 8
+// The most coefficients of a circuit, 2 to the power 8.
+const MAX_PLACES: usize = 256;
+
+// A mark for each circuit: those with different marks are to be told apart.
+struct Marks {
+    of: [u8; picking::MAX_ROWS],
 }
 
-// Whether all indices are below the number of coefficients of n inputs.
-fn indices_ok(indices: &[u16], n: usize) -> bool
-    requires { ⌜ n ≤ 15 ⌝ }
-    ensures { λ r. ⌜ r ≡ indicesOk n (now (indices .entry)) ⌝ }
+// The order of each index.
+struct Orders {
+    of: [u8; MAX_PLACES],
+}
+
+// Indices by order, then by value.
+struct Scan {
+    count: usize,
+    of: [u16; MAX_PLACES],
+}
+
+// 0 for the good circuit, 1 for a faulty one.
+fn is_faulty(c: usize) -> u8
+    ensures { λ r. ⌜ r ≡ mark Detecting c ⌝ }
 {
-    let size = places(n);
-    let mut i = 0;
-    while i < indices.len() {
-        if size <= indices[i] as usize {
-            return false;
-        }
-        i += 1;
+    if c == 0 {
+        return 0;
     }
-    true
+    1
 }
 
-// Whether the numbers of the work at the indices, from the place `start` on, are the readings.
-fn agrees(work: &[u16], indices: &[u16], readings: &[u16], n: usize, start: usize) -> bool
-    requires { ⌜ Readable n (now indices) (now readings) × (start + 2 ^ n ≤ length (now work)) ⌝ }
-    ensures { λ r. ⌜ r ≡ sameNumbers (numbersAt (now (work .entry)) start (now (indices .entry))) (now (readings .entry)) ⌝ }
+fn mark_of(purpose: Purpose, c: usize) -> u8
+    requires { ⌜ c < maxRows ⌝ }
+    ensures { λ r. ⌜ r ≡ mark purpose c ⌝ }
 {
-    let mut i = 0;
-    while i < indices.len() {
-        if work[start + indices[i] as usize] != readings[i] {
-            return false;
-        }
-        i += 1;
+    match purpose {
+        Purpose::Isolating => c as u8,
+        Purpose::Detecting => is_faulty(c),
     }
-    true
 }
 
-// One more for a circuit that agrees.
-fn counted(count: usize, agreed: bool) -> usize
-    requires { ⌜ count + 1 < 2 ^ 64 ⌝ }
-    ensures { λ r. ⌜ r ≡ count + cond agreed 1 0 ⌝ }
+fn marks_of(purpose: Purpose) -> Marks
+    ensures { λ r. ⌜ Holds maxRows (mark purpose) (r .of) ⌝ }
 {
-    if agreed {
-        return count + 1;
+    let mut of = [0u8; picking::MAX_ROWS];
+    let mut c = 0;
+    while c < picking::MAX_ROWS {
+        of[c] = mark_of(purpose, c);
+        c += 1;
+    }
+    Marks { of }
+}
+
+// The order of an index is its number of ones.
+fn all_orders() -> Orders
+    ensures { λ r. ⌜ Holds maxPlaces ones (r .of) ⌝ }
+{
+    let mut of = [0u8; MAX_PLACES];
+    let mut e = 0;
+    while e < MAX_PLACES {
+        of[e] = u32::count_ones(e as u32) as u8;
+        e += 1;
+    }
+    Orders { of }
+}
+
+// Adds an index to the list if it has the order that is looked at.
+fn add_index(scan: &mut [u16], count: usize, index: usize, order: usize, wanted: usize) -> usize
+    requires { ⌜ (index < maxPlaces) × (order ≡ wanted → count < length (now scan)) ⌝ }
+    ensures { λ r. ⌜ (r ≡ count + cond (eqb order wanted) 1 0) × (now (scan .exit) ≡ cond (eqb order wanted) (set (now (scan .entry)) count index) (now (scan .entry))) ⌝ }
+{
+    if order != wanted {
+        return count;
+    }
+    scan[count] = index as u16;
+    count + 1
+}
+
+// Adds the indices below `size` of one order to the list of those of lower order.
+fn add_order(scan: &mut [u16], orders: &[u8], size: usize, wanted: usize, start: usize) -> usize
+    requires { ⌜ (size ≤ maxPlaces) × (size ≤ length (now scan)) × (length (now orders) ≡ maxPlaces) × Holds maxPlaces ones (now orders) × Listed (scanTo size wanted) start (now scan) ⌝ }
+    ensures { λ r. ⌜ Listed (scanTo size (wanted + 1)) r (now (scan .exit)) × (length (now (scan .exit)) ≡ length (now (scan .entry))) ⌝ }
+{
+    let mut count = start;
+    let mut e = 0;
+    while e < size {
+        count = add_index(scan, count, e, orders[e] as usize, wanted);
+        e += 1;
     }
     count
 }
 
-// The lowest agreeing circuit: circuit c where it is the first.
-fn lowest_of(lowest: usize, count: usize, c: usize, agreed: bool) -> usize
-    ensures { λ r. ⌜ r ≡ cond (agreed && eqb count 0) c lowest ⌝ }
+// The indices of n inputs, by order, then by value.
+fn scan_order(n: usize) -> Scan
+    requires { ⌜ n ≤ maxInputs ⌝ }
+    ensures { λ r. ⌜ Listed (scanOrder n) (r .count) (r .of) ⌝ }
 {
-    if !agreed {
-        return lowest;
-    }
-    if count == 0 {
-        return c;
-    }
-    lowest
-}
-
-// What so many agreeing circuits tell.
-fn told(lowest: usize, count: usize) -> Located
-    ensures { λ r. ⌜ locatedTold r ≡ gives (locationOf lowest count) ⌝ }
-{
-    if count == 0 {
-        return Located::Nowhere;
-    }
-    if count == 1 {
-        return Located::Alone(lowest);
-    }
-    Located::Several(lowest, count)
-}
-
-// Which rows of the work, of 2 to the power n numbers each, agree with the readings.
-fn scan(work: &[u16], indices: &[u16], readings: &[u16], n: usize, rows: usize) -> Located
-    requires { ⌜ (n ≤ 15) × Readable n (now indices) (now readings) × (rows * 2 ^ n ≤ length (now work)) ⌝ }
-    ensures { λ r. ⌜ locatedTold r ≡ gives (location (agreeing (workAgrees (now (work .entry)) n (now (indices .entry)) (now (readings .entry))) rows)) ⌝ }
-{
-    let size = places(n);
-    let mut lowest = 0;
+    let size = 1 << n;
+    let orders = all_orders();
+    let mut of = [0u16; MAX_PLACES];
     let mut count = 0;
-    let mut c = 0;
-    while c < rows {
-        let agreed = agrees(work, indices, readings, n, c * size);
-        lowest = lowest_of(lowest, count, c, agreed);
-        count = counted(count, agreed);
-        c += 1;
+    let mut order = 0;
+    while order <= n {
+        count = add_order(&mut of, &orders.of, size, order, count);
+        order += 1;
     }
-    told(lowest, count)
+    Scan { count, of }
 }
 
-// Which of the tables that stand row after row agree with the readings: 13; 16; 17; then as the spectra of the rows.
-fn locate_rows(
-    n: usize,
-    rows: usize,
-    tables: &[u8],
-    kind: Kind,
-    polarity: usize,
-    indices: &[u16],
-    readings: &[u16],
-    work: &mut [u16],
-) -> Located
-    requires { ⌜ n ≤ 15 ⌝ }
-    ensures { λ r. ⌜ record { answer = locatedTold r; memory = now (work .exit) } ≡ leaves (rowsLocated n rows (now (tables .entry)) kind polarity (now (indices .entry)) (now (readings .entry)) (length (now (work .entry)))) (now (work .entry)) ⌝ }
+// Beside a refusal the signature is empty.
+fn refused(cause: Refusal) -> Chosen
+    ensures { λ r. ⌜ r ≡ record { verdict = Refused cause; signature = signatureOf [] } ⌝ }
 {
-    if places(n) <= polarity {
-        return Located::Refused(Refusal::Polarity);
-    }
-    if !indices_ok(indices, n) {
-        return Located::Refused(Refusal::Index);
-    }
-    if indices.len() != readings.len() {
-        return Located::Refused(Refusal::ReadingCount);
-    }
-    let outcome = spectra::row_spectra(n, rows, tables, kind, polarity, work);
-    match outcome {
-        Outcome::Refused(cause) => Located::Refused(cause),
-        Outcome::Done => scan(work, indices, readings, n, rows),
+    Chosen {
+        verdict: Verdict::Refused(cause),
+        signature: Signature {
+            count: 0,
+            entries: [0u16; picking::MAX_ENTRIES],
+        },
     }
 }
 
-// The tables of the counted circuits stand at the start of the packed bytes.
-fn locate_counted(
-    packed: &[u8],
-    counts: Counts,
-    kind: Kind,
-    polarity: usize,
-    indices: &[u16],
-    readings: &[u16],
-    work: &mut [u16],
-) -> Located
-    requires { ⌜ Counted counts (length (now packed)) ⌝ }
-    ensures { λ r. ⌜ record { answer = locatedTold r; memory = now (work .exit) } ≡ leaves (rowsLocated (counts .inputs) (counts .faults + 1) (take ((counts .faults + 1) * tableBytes (counts .inputs)) (now (packed .entry))) kind polarity (now (indices .entry)) (now (readings .entry)) (length (now (work .entry)))) (now (work .entry)) ⌝ }
+// The verdict that the method's choice gives. The matrix always fits, so that `Unfit` stands for no answer of `choose`.
+fn concluded(counts: Counts, found: Found, signature: Signature) -> Chosen
+    ensures { λ r. ⌜ r ≡ record { verdict = verdictOf counts found; signature = signature } ⌝ }
 {
-    let rows = counts.faults + 1;
-    let end = rows * table_bytes(counts.inputs);
-    locate_rows(
-        counts.inputs,
-        rows,
-        &packed[..end],
-        kind,
-        polarity,
-        indices,
-        readings,
-        work,
-    )
+    match found {
+        Found::Told => Chosen {
+            verdict: Verdict::Done(counts),
+            signature,
+        },
+        Found::Alike(a, b) => Chosen {
+            verdict: Verdict::Alike(a, b),
+            signature,
+        },
+        Found::Unfit => Chosen {
+            verdict: Verdict::Refused(Refusal::Memory),
+            signature,
+        },
+    }
 }
 
-// Which circuits of a job agree with readings at a list of indices; the work then holds the spectra of all circuits.
-pub fn locate(
+// What the method chooses from the spectra in the work.
+fn choose_filled(work: &[u16], counts: Counts, purpose: Purpose) -> Chosen
+    requires { ⌜ Filled counts (length (now work)) ⌝ }
+    ensures { λ r. ⌜ r ≡ answerOf (choiceIn purpose counts (cell (now (work .entry)) (2 ^ (counts .inputs)))) ⌝ }
+{
+    let marks = marks_of(purpose);
+    let scan = scan_order(counts.inputs);
+    let count = scan.count;
+    let indices = scan.of;
+    let size = 1 << counts.inputs;
+    let choice = picking::choose(work, size, counts.faults + 1, &marks.of, &indices[..count]);
+    let found = choice.found;
+    concluded(counts, found, choice.signature)
+}
+
+// The signature that tells the circuits of a job apart: reading's refusals; 13; 10; 15 with the first needed pair that is alike.
+pub fn choose(
     bytes: &[u8],
+    purpose: Purpose,
     kind: Kind,
     polarity: usize,
-    indices: &[u16],
-    readings: &[u16],
     work: &mut [u16],
-) -> Located
-    ensures { λ r. ⌜ record { answer = locatedTold r; memory = now (work .exit) } ≡ leaves (locatedOf (now (bytes .entry)) kind polarity (now (indices .entry)) (now (readings .entry)) (length (now (work .entry)))) (now (work .entry)) ⌝ }
+) -> Chosen
+    ensures { λ r. ⌜ record { answer = verdictTold (r .verdict); signature = r .signature; memory = now (work .exit) } ≡ chose (chosenOf purpose (now (bytes .entry)) kind polarity (length (now (work .entry)))) (now (work .entry)) ⌝ }
 {
-    let mut packed = [0u8; ALL_TABLES_BYTES];
-    let answer = tables::tables(bytes, &mut packed);
+    let answer = spectra::job_spectra(bytes, kind, polarity, work);
     match answer {
-        TablesAnswer::Refused(cause) => Located::Refused(cause),
-        TablesAnswer::Filled(counts) => {
-            locate_counted(&packed, counts, kind, polarity, indices, readings, work)
-        }
+        TablesAnswer::Refused(cause) => refused(cause),
+        TablesAnswer::Filled(counts) => choose_filled(work, counts, purpose),
     }
 }

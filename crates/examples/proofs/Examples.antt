@@ -11,13 +11,20 @@ use Rattle.bits.specs.Bits.{bytesTo, bytesOf}
 use Rattle.bits.specs.Packed.{tabulate, packed, entry}
 use Rattle.spectra.specs.Operations.{zeroFrom, tableOk, spectrumOf, sameNumbers, isSpectrum, undoneOf}
 use Rattle.spectra.specs.Spectrum.{inside, sumTo, subsetSum, coefficient, spectrum, recovered}
-use Rattle.examples.specs.Examples.{holds, allHold, examples}
+use Rattle.tables.specs.Answers.{answers, answer}
+use Rattle.tables.specs.Circuit.{inputValue, gateValue, ownValue, valuesTo, bridged, fixedBy, fixingOf, circuitEntry, circuitTable}
+use Rattle.picking.specs.Labels.{passing}
+use Rattle.method.specs.Method.{without, someBelow, agree, somePair, useful, full, takes, drops, signature, pairWith, pairFrom}
+use Rattle.choosing.specs.Choosing.{scanTo, chosenOf}
+use lib.Count.{onesIn, ones}
+use Rattle.examples.specs.Examples.{holds, allHold, jobA, examples}
 
 pub examples-hold : allHold examples ≡ true
 unfolding
     holds
     allHold
     examples
+    jobA
     bitsOf
     valueFrom
     valueOf
@@ -47,5 +54,7 @@ unfolding
     fromOutput
     fromGates
     wholeJob
+    answers answer inputValue gateValue ownValue valuesTo bridged fixedBy fixingOf circuitEntry circuitTable
+    passing without someBelow agree somePair useful full takes drops signature pairWith pairFrom scanTo chosenOf onesIn ones
     reading bytesTo bytesOf tabulate packed entry zeroFrom tableOk spectrumOf sameNumbers isSpectrum undoneOf inside sumTo subsetSum coefficient spectrum recovered
 examples-hold = refl

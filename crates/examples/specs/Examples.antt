@@ -1,7 +1,8 @@
--- The examples of document 01, "Proved examples, P1 to P10", that the definitions cover so far.
+-- The examples of document 01, "Proved examples, P1 to P10".
 --
 --   Example    a call and what it is to answer
 --   holds      the definitions answer so
+--   jobA       "job A" of the report program
 --   examples   the list
 use Prim.Native.Nat.{ℕ, _^_}
 use mathlib.Core.Bool.{Bool, true, false, _&&_}
@@ -14,6 +15,10 @@ use Rattle.reading.specs.Reading.{reading}
 use Rattle.spectra.specs.Operations.{spectrumOf, undoneOf, sameNumbers}
 use Rattle.spectra.specs.declared.Kind.{Kind}
 use Rattle.spectra.specs.declared.Kind.the-variants.{Rm, Mrm}
+use Rattle.choosing.specs.Choosing.{Finding, Choice, chosenOf}
+use Rattle.choosing.specs.Choosing.Finding.{chosen, alike}
+use Rattle.choosing.specs.declared.Purpose.{Purpose}
+use Rattle.choosing.specs.declared.Purpose.the-variants.{Isolating, Detecting}
 
 pub data Example : Type 0 where
   -- the bytes are refused with a number
@@ -26,6 +31,10 @@ pub data Example : Type 0 where
   undoes : ℕ → List ℕ → Kind → ℕ → List ℕ → Example
   -- or is refused with a number
   undoes-not : ℕ → List ℕ → Kind → ℕ → ℕ → Example
+  -- the signature chosen for the job that the bytes give, for a purpose and of a kind, in polarity 0
+  chooses : Purpose → List ℕ → Kind → List ℕ → Example
+  -- or the pair of circuits that are alike
+  chooses-not : Purpose → List ℕ → Kind → ℕ → ℕ → Example
 
 abbrev pub isRefused : {A : Type 0} → Answer A → ℕ → Bool
 isRefused (gives a) k = false
@@ -39,6 +48,18 @@ abbrev pub fillsWith : Answer (Fills (Unit {0})) → List ℕ → Bool
 fillsWith (gives w) numbers = sameNumbers (w .filled) numbers
 fillsWith (refused e) numbers = false
 
+abbrev pub isSignature : Finding → List ℕ → List ℕ → Bool
+isSignature (chosen e) entries numbers = sameNumbers entries numbers
+isSignature (alike a b) entries numbers = false
+
+abbrev pub isPair : Finding → ℕ → ℕ → Bool
+isPair (chosen e) a b = false
+isPair (alike c d) a b = eqb c a && eqb d b
+
+abbrev pub choosesSo : Answer (Fills Choice) → (Choice → Bool) → Bool
+choosesSo (gives w) test = test (w .value)
+choosesSo (refused e) test = false
+
 -- the lent memory has just the room that is needed, 2 ^ n places or bytes being enough
 unfoldable pub holds : Example → Bool
 holds (refuses s k) = isRefused (reading s) k
@@ -46,17 +67,23 @@ holds (counts s n g f) = hasCounts (reading s) n g f
 holds (transforms n s kind k numbers) = fillsWith (spectrumOf n s kind k (2 ^ n)) numbers
 holds (undoes n numbers kind k s) = fillsWith (undoneOf n numbers kind k (2 ^ n)) s
 holds (undoes-not n numbers kind k e) = isRefused (undoneOf n numbers kind k (2 ^ n)) e
+holds (chooses purpose s kind numbers) = choosesSo (chosenOf purpose s kind 0 16) (λ c. isSignature (c .finding) (c .entries) numbers)
+holds (chooses-not purpose s kind a b) = choosesSo (chosenOf purpose s kind 0 16) (λ c. isPair (c .finding) a b)
 
 unfoldable pub allHold : List Example → Bool
 allHold [] = true
 allHold (e ∷ es) = holds e && allHold es
 
+unfoldable pub jobA : List ℕ
+jobA = 0x20 ∷ 0x20 ∷ 0x00 ∷ 0x10 ∷ 0x41 ∷ 0x80 ∷ 0x00 ∷ 0x20 ∷ 0x00 ∷ 0x20 ∷ 0x40 ∷ 0x80 ∷ []
+
 unfoldable pub examples : List Example
 examples =
     -- P1
     refuses [] 1
-    -- P2, its counts
+    -- P2
     ∷ counts (0x10 ∷ 0x00 ∷ 0x00 ∷ []) 1 0 0
+    ∷ chooses Isolating (0x10 ∷ 0x00 ∷ 0x00 ∷ []) Mrm []
     -- P3
     ∷ refuses (0x10 ∷ 0x00 ∷ 0x00 ∷ 0x00 ∷ []) 9
     -- P4
@@ -68,4 +95,11 @@ examples =
     -- P7
     ∷ undoes-not 1 (1 ∷ 0 ∷ []) Mrm 0 14
     ∷ undoes 1 (1 ∷ 2 ∷ []) Mrm 0 (0xc0 ∷ [])
+    -- P8
+    ∷ chooses Isolating jobA Rm (1 ∷ 2 ∷ 3 ∷ [])
+    ∷ chooses Isolating jobA Mrm (1 ∷ 3 ∷ [])
+    -- P9
+    ∷ chooses Detecting jobA Rm (3 ∷ [])
+    -- P10
+    ∷ chooses-not Isolating (0x20 ∷ 0x20 ∷ 0x00 ∷ 0x10 ∷ 0x40 ∷ 0xc0 ∷ 0x00 ∷ 0x80 ∷ []) Mrm 0 1
     ∷ []

@@ -5,7 +5,6 @@
 // `#` names the next task, and is written as it is.
 ghost use Prim.Native.Nat.{_≤_};
 ghost use lib.ListN.{length};
-ghost use Rattle.io.specs.Counts.{Counts};
 use bits::Outcome;
 use libc::STDIN_FILENO;
 use libc::STDOUT_FILENO;
@@ -19,9 +18,6 @@ const MAX_ENTRIES: usize = 256;
 // The bytes that hold them.
 const MAX_TABLE_BYTES: usize = 32;
 
-// The largest number of 16 bits.
-const MAX_NUMBER: usize = 65535;
-
 fn main() {
     let mut text = io::large_buffer();
     let n = io::read_full(STDIN_FILENO, &mut text);
@@ -32,7 +28,7 @@ fn main() {
 fn list_lines(text: &[u8]) {
     let mut at = 0;
     while at < text.len() {
-        let end = listing::place_of(text, at, b'\n');
+        let end = words::place_of(text, at, b'\n');
         list_line(&text[at..end]);
         at = end + 1;
     }
@@ -44,7 +40,7 @@ fn list_line(line: &[u8]) {
         return;
     }
     match line[0] {
-        b'#' => listing::list_name(line),
+        b'#' => words::list_name(line),
         b's' => list_spectra(line),
         b'u' => list_undone(line),
         _ => (),
@@ -53,28 +49,28 @@ fn list_line(line: &[u8]) {
 
 // The RM and the MRM spectrum of the table that the line gives.
 fn list_spectra(line: &[u8]) {
-    let inputs_at = next_word(line, 0);
-    let polarity_at = next_word(line, inputs_at);
-    let table_at = next_word(line, polarity_at);
-    let inputs = number_at(line, inputs_at);
-    let polarity = number_at(line, polarity_at);
+    let inputs_at = words::next_word(line, 0);
+    let polarity_at = words::next_word(line, inputs_at);
+    let table_at = words::next_word(line, polarity_at);
+    let inputs = words::number_at(line, inputs_at);
+    let polarity = words::number_at(line, polarity_at);
     let mut table = [0u8; MAX_TABLE_BYTES];
-    let bytes = listing::read_hex(&line[table_at..], &mut table);
+    let bytes = words::read_hex(&line[table_at..], &mut table);
     list_spectrum(inputs, &table[..bytes], Kind::Rm, polarity);
     list_spectrum(inputs, &table[..bytes], Kind::Mrm, polarity);
 }
 
 // The table of the spectrum that the line gives.
 fn list_undone(line: &[u8]) {
-    let kind_at = next_word(line, 0);
-    let inputs_at = next_word(line, kind_at);
-    let polarity_at = next_word(line, inputs_at);
-    let numbers_at = next_word(line, polarity_at);
-    let kind = read_kind(line, kind_at);
-    let inputs = number_at(line, inputs_at);
-    let polarity = number_at(line, polarity_at);
+    let kind_at = words::next_word(line, 0);
+    let inputs_at = words::next_word(line, kind_at);
+    let polarity_at = words::next_word(line, inputs_at);
+    let numbers_at = words::next_word(line, polarity_at);
+    let kind = listing::read_kind(line, kind_at);
+    let inputs = words::number_at(line, inputs_at);
+    let polarity = words::number_at(line, polarity_at);
     let mut numbers = [0u16; MAX_ENTRIES];
-    let count = read_numbers(line, numbers_at, &mut numbers);
+    let count = words::read_numbers(line, numbers_at, &mut numbers);
     list_table(inputs, &numbers[..count], kind, polarity);
 }
 
@@ -110,7 +106,7 @@ fn list_coefficients(kind: Kind, numbers: &[u16], count: usize)
     requires { ⌜ count ≤ length (now numbers) ⌝ }
 {
     list_kind(kind);
-    list_numbers(&numbers[..count]);
+    words::list_numbers(&numbers[..count]);
 }
 
 // The line of the first `count` bytes.
@@ -118,7 +114,7 @@ fn list_packed(table: &[u8], count: usize)
     requires { ⌜ count ≤ length (now table) ⌝ }
 {
     io::write_all(STDOUT_FILENO, b"table");
-    listing::list_bytes(&table[..count]);
+    words::list_bytes(&table[..count]);
 }
 
 // The word of a kind of spectrum.
@@ -128,72 +124,4 @@ fn list_kind(kind: Kind) {
         Kind::Mrm => io::write_all(STDOUT_FILENO, b"mrm"),
     }
     ;
-}
-
-// The rest of a line: each number behind a space.
-fn list_numbers(numbers: &[u16]) {
-    let mut i = 0;
-    while i < numbers.len() {
-        list_number(numbers[i]);
-        i += 1;
-    }
-    io::write_all(STDOUT_FILENO, b"\n");
-}
-
-// A space and a number.
-fn list_number(number: u16) {
-    io::write_all(STDOUT_FILENO, b" ");
-    io::print_decimal(STDOUT_FILENO, number as u64);
-}
-
-// Where the word begins that follows the one at a place; the line's end where there is none.
-fn next_word(line: &[u8], from: usize) -> usize
-    requires { ⌜ from ≤ length (now line) ⌝ }
-    ensures { λ r. ⌜ r ≤ length (now (line .entry)) ⌝ }
-{
-    let end = listing::place_of(line, from, b' ');
-    listing::least(end + 1, line.len())
-}
-
-// The kind of spectrum that the word at a place names.
-fn read_kind(line: &[u8], at: usize) -> Kind {
-    if at < line.len() {
-        if line[at] == b'm' {
-            return Kind::Mrm;
-        }
-    }
-    Kind::Rm
-}
-
-// Puts the numbers from a place on at the start of `numbers`, as far as they fit, and answers how many there are.
-fn read_numbers(line: &[u8], from: usize, numbers: &mut [u16]) -> usize
-    requires { ⌜ from ≤ length (now line) ⌝ }
-    ensures { λ r. ⌜ Counts r (now (numbers .exit)) ⌝ }
-{
-    let mut at = from;
-    let mut count = 0;
-    while count < numbers.len() {
-        if at == line.len() {
-            return count;
-        }
-        numbers[count] = number_at(line, at) as u16;
-        at = next_word(line, at);
-        count += 1;
-    }
-    count
-}
-
-// The decimal number at a place, up to the word's end; at most 65535.
-fn number_at(line: &[u8], from: usize) -> usize
-    requires { ⌜ from ≤ length (now line) ⌝ }
-    ensures { λ r. ⌜ r ≤ 65535 ⌝ }
-{
-    let end = listing::place_of(line, from, b' ');
-    let mut value = 0;
-    let mut i = from;
-    while i < end {
-        value = listing::least(value * 10 + listing::digit(line[i]) as usize, MAX_NUMBER);
-        i += 1;
-    }
-    value
 }

@@ -15,7 +15,7 @@ fn main() {
 fn list_lines(text: &[u8]) {
     let mut at = 0;
     while at < text.len() {
-        let end = listing::place_of(text, at, b'\n');
+        let end = words::place_of(text, at, b'\n');
         list_line(&text[at..end]);
         at = end + 1;
     }
@@ -27,10 +27,10 @@ fn list_line(line: &[u8]) {
         return;
     }
     if line[0] == b'#' {
-        listing::list_name(line);
+        words::list_name(line);
         return;
     }
     let mut job = [0u8; MAX_INPUT_BYTES];
-    let n = listing::read_hex(line, &mut job);
+    let n = words::read_hex(line, &mut job);
     listing::list_tables(&job[..n]);
 }

@@ -2,6 +2,7 @@
 --
 --   joined-at           in lists of one length joined in a row, element j of list r stands at r × length + j
 --   rowSpectra-at       work place r × N + j holds coefficient j of row r
+--   length-circuitSpectra   the spectra of so many circuits are so many times N numbers
 --   circuitSpectra-at   work place c × N + j holds coefficient j of circuit c
 use Prim.Native.Nat.{ℕ, zero, suc, _+_, _*_, _^_, _≤_, _<_}
 use native.Mathlib.Nat.{not-suc-le-zero, zero-mul, suc-mul, mul-le-mul-right}
@@ -56,6 +57,12 @@ module _ (kind : Kind) (k : ℕ) where
       joined-at (rowSpectra kind n k s) (λ i. spectrum kind n k (entry (tableRow n s i))) (2 ^ n) refl (λ i. refl)
       (λ i. length-spectrum kind n k (entry (tableRow n s i))) rows r j l h
       ∙ spectrum-at kind n k (entry (tableRow n s r)) j h
+
+  pub length-circuitSpectra : (x : Job) (count : ℕ) → length (circuitSpectra kind k x count) ≡ count * 2 ^ (x .inputs)
+  unfolding circuitSpectra
+  length-circuitSpectra x count =
+      length-joined (circuitSpectra kind k x) (λ i. spectrum kind (x .inputs) k (circuitEntry x i)) (2 ^ (x .inputs)) refl (λ i. refl)
+      (λ i. length-spectrum kind (x .inputs) k (circuitEntry x i)) count
 
   pub circuitSpectra-at : (x : Job) (count c j : ℕ) → c < count → j < 2 ^ (x .inputs)
       → getD (circuitSpectra kind k x count) (c * 2 ^ (x .inputs) + j) 0 ≡ coefficient kind (x .inputs) k (circuitEntry x c) j

@@ -1,0 +1,271 @@
+-- Choosing over the filled work is choosing for the job (specs/Choosing.antt, specs/Looking.antt).
+--
+--   all-indices      the indices looked at lie within a row
+--   filled-fits      the spectra in the work are a matrix for the method
+--   filled-choice, filled-answer   what the method picks, with the marks of a purpose, is the choice
+--   choice-of-job    the choice over coefficients that are the job's is the job's choice
+--   chosen-unfilled  a refusal of the spectra is choosing's
+--   chosen-room      where they are filled, the work holds them
+--   chosen-filled    and the choice over the work is choosing's answer
+use Prim.Native.Nat.{ℕ, zero, suc, _+_, _*_, _^_, _≤_, _<_}
+use native.Mathlib.Nat.{le-refl}
+use native.Mathlib.Omega.{arith}
+use mathlib.Core.Path.{_≡_, refl, sym, ap, ap₂, subst, _∙_}
+use mathlib.Core.Bool.{Bool, true, false, not, _&&_}
+use mathlib.Core.Logic.{_⊎_, inl, inr, ⊎-elim}
+use mathlib.Core.List.{List, [], _∷_, _++_, List·Memᴰ, List·Memᴰ·head, List·Memᴰ·tail}
+use borrow.Author.Tests.{le-leb, lt-ltb, leb-true, ltb-true}
+use lib.Dec.{leb, ltb, eqb}
+use lib.ListN.{length, getD, drop, length-append, List·getD-append}
+use lib.Pow.{pow-pos}
+use Rattle.bits.specs.Answer.{Answer, Fills, Leaves, leaves, number, unless, onward}
+use Rattle.bits.specs.Answer.Answer.{gives, refused}
+use Rattle.bits.specs.declared.Refusal.{Refusal}
+use Rattle.bits.proofs.Answers.{gives-same, never-gives}
+use Rattle.bits.proofs.Tests.{and-i}
+use Rattle.job.specs.Check.{Valid}
+use Rattle.job.specs.Layout.{maxInputs, maxFaults}
+use Rattle.job.specs.declared.Job.{Job}
+use Rattle.reading.specs.Reading.{reading}
+use Rattle.reading.proofs.Valid.{reading-valid}
+use Rattle.tables.specs.Operations.{countsOf, tablesTold}
+use Rattle.tables.specs.declared.Counts.{Counts}
+use Rattle.tables.specs.declared.TablesAnswer.{TablesAnswer}
+use Rattle.tables.specs.declared.TablesAnswer.the-variants as tables
+use Rattle.spectra.specs.Operations.{polarityOk, circuitSpectra, jobSpectraOf}
+use Rattle.spectra.specs.declared.Kind.{Kind}
+use Rattle.spectra.proofs.WorkPlaces.{length-circuitSpectra, circuitSpectra-at}
+use Rattle.picking.specs.Labels.{Holds}
+use Rattle.picking.specs.Matrix.{cell, apart, allBelow, fits, maxRows, picked, pickedBy, choiceOf, signatureOf}
+use Rattle.method.specs.Method.{agree, signature, firstPair, Pair}
+use Rattle.method.specs.Method.Pair.{nobody, pair}
+use Rattle.picking.specs.declared.Choice.{Choice as Picking}
+use Rattle.picking.proofs.Columns.{cell-within}
+use Rattle.method.proofs.Firsts.{firstPair-same}
+use Rattle.method.proofs.Pairs.{by-test}
+use Rattle.method.proofs.Unchanged.{agree-same, signature-same}
+use Rattle.choosing.specs.Choosing.{mark, needed, scanOrder, coefOf, choiceBy, choice, Choice, Finding, chosenOf, chose, Chose, sameTables, verdictTold}
+use Rattle.choosing.specs.Choosing.Finding.{chosen, alike}
+use Rattle.choosing.specs.Looking.{Filled, choiceIn, verdictOf, verdictFor, answerOf}
+use Rattle.choosing.specs.declared.Chosen.{Chosen}
+use Rattle.choosing.specs.declared.Purpose.{Purpose}
+use Rattle.choosing.specs.declared.Verdict.the-variants.{Refused}
+use Rattle.choosing.proofs.Equality.{alike-tables}
+use Rattle.choosing.proofs.Indices.{scan-below}
+
+all-within : (width : ℕ) (l : List ℕ) → ((e : ℕ) → List·Memᴰ e l → e < width) → allBelow width l ≡ true
+unfolding allBelow
+all-within width [] h = refl
+all-within width (e ∷ l) h =
+    and-i (lt-ltb e width (h e (List·Memᴰ·head refl))) (all-within width l (λ x m. h x (List·Memᴰ·tail m)))
+
+pub all-indices : (n : ℕ) → allBelow (2 ^ n) (scanOrder n) ≡ true
+all-indices n = all-within (2 ^ n) (scanOrder n) (λ e m. scan-below n m)
+
+-- no more circuits than rows: 63 + 1
+faults-rows : (f : ℕ) → f ≤ maxFaults → f + 1 ≤ maxRows
+unfolding maxFaults maxRows
+faults-rows f h = omega arith
+
+module _ (counts : Counts) (work marks : List ℕ) (enough : Filled counts (length work)) (long : length marks ≡ maxRows) where
+  abbrev n : ℕ
+  n = counts .inputs
+
+  abbrev rows : ℕ
+  rows = counts .faults + 1
+
+  pub filled-fits : fits work (2 ^ n) rows marks (scanOrder n) ≡ true
+  unfolding fits
+  filled-fits =
+      let few : rows ≤ maxRows = faults-rows (counts .faults) (enough .faults-few) in
+      let some : 1 ≤ 2 ^ n = pow-pos n in
+      simp (
+        le-leb 1 rows (omega arith),
+        le-leb rows maxRows few,
+        le-leb rows (length marks) (omega (arith, few, long)),
+        le-leb 1 (2 ^ n) some,
+        le-leb (rows * 2 ^ n) (length work) (enough .enough),
+        all-indices n,
+      )
+
+  module _ (purpose : Purpose) (held : Holds maxRows (mark purpose) marks) where
+    marked : (a b : ℕ) → a < b → b < rows → apart marks a b ≡ needed purpose a b
+    marked a b h k =
+        let few : rows ≤ maxRows = faults-rows (counts .faults) (enough .faults-few) in
+        ap₂ (λ (x y : ℕ). not (eqb x y)) (held a (omega arith)) (held b (omega arith))
+
+    told : (p : Pair) (l : List ℕ)
+        → record { verdict = verdictOf counts (choiceOf (pickedBy p l) .found); signature = choiceOf (pickedBy p l) .signature }
+        ≡ answerOf (choiceBy p counts l)
+    told nobody l = refl
+    told (pair a b) l = refl
+
+    fitted : picked work (2 ^ n) rows marks (scanOrder n)
+        ≡ pickedBy (firstPair rows (λ a b. apart marks a b && agree (cell work (2 ^ n)) (scanOrder n) a b))
+        (signature (cell work (2 ^ n)) rows (apart marks) (scanOrder n))
+    unfolding picked
+    fitted = simp filled-fits
+
+    pub filled-choice : (c : Picking) → c ≡ choiceOf (picked work (2 ^ n) rows marks (scanOrder n))
+        → record { verdict = verdictOf counts (c .found); signature = c .signature } ≡ answerOf (choiceIn purpose counts (cell work (2 ^ n)))
+    filled-choice c e =
+        ap (λ (x : Picking). record { verdict = verdictOf counts (x .found); signature = x .signature })
+        (e ∙ ap choiceOf fitted)
+        ∙ told (firstPair rows (λ a b. apart marks a b && agree (cell work (2 ^ n)) (scanOrder n) a b))
+        (signature (cell work (2 ^ n)) rows (apart marks) (scanOrder n))
+        ∙ ap₂ (λ (p : Pair) (l : List ℕ). answerOf (choiceBy p counts l))
+        (firstPair-same rows (λ a b. apart marks a b && agree (cell work (2 ^ n)) (scanOrder n) a b)
+        (λ a b. needed purpose a b && agree (cell work (2 ^ n)) (scanOrder n) a b)
+        (λ a b h k. ap (λ (t : Bool). t && agree (cell work (2 ^ n)) (scanOrder n) a b) (marked a b h k)))
+        (signature-same (cell work (2 ^ n)) (cell work (2 ^ n)) rows (apart marks) (needed purpose) (scanOrder n) (λ c e h m. refl) marked)
+
+    pub filled-answer : (c : Picking) (places : ℕ) (list : List ℕ) → places ≡ 2 ^ n → list ≡ scanOrder n
+        → c ≡ choiceOf (picked work places rows marks list)
+        → record { verdict = verdictOf counts (c .found); signature = c .signature } ≡ answerOf (choiceIn purpose counts (cell work (2 ^ n)))
+    filled-answer c places list p q e =
+        filled-choice c (e ∙ ap₂ (λ (x : ℕ) (l : List ℕ). choiceOf (picked work x rows marks l)) p q)
+
+-- ---- the job
+
+module _ (purpose : Purpose) (kind : Kind) (k : ℕ) (j : Job) where
+  abbrev size : ℕ
+  size = 2 ^ (j .inputs)
+
+  abbrev circuits : ℕ
+  circuits = j .«fault_count» + 1
+
+  pub choice-of-job : (coef : ℕ → ℕ → ℕ) → Valid j → k < size
+      → ((c e : ℕ) → c < circuits → e < size → coef c e ≡ coefOf kind k j c e)
+      → choiceIn purpose (countsOf j) coef ≡ choice purpose kind k j
+  choice-of-job coef v h same =
+      ap₂ (λ (p : Pair) (l : List ℕ). choiceBy p (countsOf j) l)
+      (firstPair-same circuits (λ a b. needed purpose a b && agree coef (scanOrder (j .inputs)) a b) (λ a b. needed purpose a b && sameTables j a b)
+      (λ a b l m. ap (λ (t : Bool). needed purpose a b && t)
+      (agree-same coef (coefOf kind k j) (scanOrder (j .inputs)) a b
+      (λ e i. same a e (omega arith) (scan-below (j .inputs) i)) (λ e i. same b e m (scan-below (j .inputs) i))
+      ∙ alike-tables kind k j v h a b)))
+      (signature-same coef (coefOf kind k j) circuits (needed purpose) (needed purpose) (scanOrder (j .inputs))
+      (λ c e l i. same c e l (scan-below (j .inputs) i)) (λ a b l m. refl))
+
+-- ---- the operation
+
+module _ (purpose : Purpose) (s : List ℕ) (kind : Kind) (k : ℕ) (work : List ℕ) where
+  abbrev spectra : Answer (Fills Counts)
+  spectra = jobSpectraOf s kind k (length work)
+
+  abbrev chosen-so : Answer (Fills Choice)
+  chosen-so = chosenOf purpose s kind k (length work)
+
+  -- both operations refuse, with the same number
+  record Refuses : Type 0 where
+    because : ℕ
+    neither : spectra ≡ refused because
+    nothing : chosen-so ≡ refused because
+
+  -- or both are past their checks
+  record Passes : Type 0 where
+    job : Job
+    read : reading s ≡ gives job
+    below : k < 2 ^ (job .inputs)
+    enough : (job .«fault_count» + 1) * 2 ^ (job .inputs) ≤ length work
+    filled : spectra ≡ gives (record { value = countsOf job; filled = circuitSpectra kind k job (job .«fault_count» + 1) })
+    decided : chosen-so ≡ gives (record { value = choice purpose kind k job; filled = circuitSpectra kind k job (job .«fault_count» + 1) })
+
+  checks : (a : Answer Job) → reading s ≡ a → Refuses ⊎ Passes
+  unfolding jobSpectraOf chosenOf
+  checks (refused i) r = inl (record { because = i; neither = rw r; nothing = rw r })
+  checks (gives j) r =
+      by-test (ltb k (2 ^ (j .inputs)))
+      (λ p. by-test (leb ((j .«fault_count» + 1) * 2 ^ (j .inputs)) (length work))
+      (λ q. inr (record {
+        job = j;
+        read = r;
+        below = ltb-true k (2 ^ (j .inputs)) p;
+        enough = leb-true ((j .«fault_count» + 1) * 2 ^ (j .inputs)) (length work) q;
+        filled = simp (r, p, q);
+        decided = simp (r, p, q);
+      }))
+      (λ q. inl (record { because = 10; neither = simp (r, p, q); nothing = simp (r, p, q) })))
+      (λ p. inl (record { because = 13; neither = simp (r, p); nothing = simp (r, p) }))
+
+  abbrev both : Refuses ⊎ Passes
+  both = checks (reading s) refl
+
+  lifted : Answer Counts → Answer Finding
+  lifted (gives counts) = gives (chosen counts)
+  lifted (refused i) = refused i
+
+  unchosen : Leaves Counts → Chose
+  unchosen l = record { answer = lifted (l .answer); signature = signatureOf []; memory = l .memory }
+
+  pub chosen-unfilled : (r : TablesAnswer) (after : List ℕ) (cause : Refusal) (c : Chosen) → record { answer = tablesTold r; memory = after } ≡ leaves spectra work
+      → r ≡ tables.Refused cause → c ≡ record { verdict = Refused cause; signature = signatureOf [] }
+      → record { answer = verdictTold (c .verdict); signature = c .signature; memory = after } ≡ chose (chosenOf purpose s kind k (length work)) work
+  unfolding unchosen lifted
+  chosen-unfilled r after cause c p e f =
+      let q : record { answer = refused (number cause); memory = after } ≡ leaves spectra work =
+      ap (λ (x : TablesAnswer). record { answer = tablesTold x; memory = after }) (sym e) ∙ p in
+      ap (λ (x : Chosen). record { answer = verdictTold (x .verdict); signature = x .signature; memory = after }) f
+      ∙ ⊎-elim
+      (λ (w : Refuses). ap unchosen (q ∙ ap (λ (x : Answer (Fills Counts)). leaves x work) (w .neither))
+      ∙ sym (ap (λ (x : Answer (Fills Choice)). chose x work) (w .nothing)))
+      (λ (w : Passes). absurd
+      (never-gives (ap (λ (x : Leaves Counts). x .answer) (q ∙ ap (λ (x : Answer (Fills Counts)). leaves x work) (w .filled)))))
+      both
+
+  -- what the work holds once it is filled
+  record Holder (after : List ℕ) (counts : Counts) : Type 0 where
+    past : Passes
+    counted : counts ≡ countsOf (past .job)
+    held : after ≡ circuitSpectra kind k (past .job) (past .job .«fault_count» + 1)
+        ++ drop (length (circuitSpectra kind k (past .job) (past .job .«fault_count» + 1))) work
+
+  holder : (r : TablesAnswer) (after : List ℕ) (counts : Counts) → record { answer = tablesTold r; memory = after } ≡ leaves spectra work
+      → r ≡ tables.Filled counts → Holder after counts
+  holder r after counts p e =
+      let q : record { answer = gives counts; memory = after } ≡ leaves spectra work =
+      ap (λ (x : TablesAnswer). record { answer = tablesTold x; memory = after }) (sym e) ∙ p in
+      ⊎-elim
+      (λ (w : Refuses). absurd
+      (never-gives (sym (ap (λ (x : Leaves Counts). x .answer) (q ∙ ap (λ (x : Answer (Fills Counts)). leaves x work) (w .neither))))))
+      (λ (w : Passes).
+      let h = q ∙ ap (λ (x : Answer (Fills Counts)). leaves x work) (w .filled) in
+      record { past = w; counted = gives-same (ap (λ (x : Leaves Counts). x .answer) h); held = ap (λ (x : Leaves Counts). x .memory) h })
+      both
+
+  pub chosen-room : (r : TablesAnswer) (after : List ℕ) (counts : Counts) → record { answer = tablesTold r; memory = after } ≡ leaves spectra work
+      → r ≡ tables.Filled counts → Filled counts (length after)
+  chosen-room r after counts p e =
+      let w = holder r after counts p e in
+      let j = w .past .job in
+      let v = reading-valid s j (w .past .read) in
+      let long : length after ≡ (j .«fault_count» + 1) * 2 ^ (j .inputs) + length (drop (length (circuitSpectra kind k j (j .«fault_count» + 1))) work) =
+      ap length (w .held) ∙ length-append (circuitSpectra kind k j (j .«fault_count» + 1)) _
+      ∙ ap (λ (x : ℕ). x + length (drop (length (circuitSpectra kind k j (j .«fault_count» + 1))) work)) (length-circuitSpectra kind k j (j .«fault_count» + 1)) in
+      subst (λ (x : Counts). Filled x (length after)) (sym (w .counted))
+      (record { inputs-few = v .few; faults-few = v .faults-few; enough = omega arith })
+
+  found-told : (f : Finding) → verdictTold (verdictFor f) ≡ gives f
+  found-told (chosen counts) = refl
+  found-told (alike a b) = refl
+
+  pub chosen-filled : (r : TablesAnswer) (after : List ℕ) (counts : Counts) (c : Chosen) → record { answer = tablesTold r; memory = after } ≡ leaves spectra work
+      → r ≡ tables.Filled counts → c ≡ answerOf (choiceIn purpose counts (cell after (2 ^ (counts .inputs))))
+      → record { answer = verdictTold (c .verdict); signature = c .signature; memory = after } ≡ chose (chosenOf purpose s kind k (length work)) work
+  chosen-filled r after counts c p e f =
+      let w = holder r after counts p e in
+      let j = w .past .job in
+      let v = reading-valid s j (w .past .read) in
+      let filled = circuitSpectra kind k j (j .«fault_count» + 1) in
+      let long : length filled ≡ (j .«fault_count» + 1) * 2 ^ (j .inputs) = length-circuitSpectra kind k j (j .«fault_count» + 1) in
+      let at : (c e : ℕ) → c < j .«fault_count» + 1 → e < 2 ^ (j .inputs) → cell after (2 ^ (j .inputs)) c e ≡ coefOf kind k j c e =
+      λ c e h l. ap (λ (m : List ℕ). getD m (c * 2 ^ (j .inputs) + e) 0) (w .held)
+      ∙ List·getD-append filled _ 0 (c * 2 ^ (j .inputs) + e) (subst (λ (x : ℕ). c * 2 ^ (j .inputs) + e < x) (sym long) (cell-within h l (le-refl _)))
+      ∙ circuitSpectra-at kind k j (j .«fault_count» + 1) c e h l in
+      let same : c ≡ answerOf (choice purpose kind k j) =
+      f ∙ ap (λ (x : Counts). answerOf (choiceIn purpose x (cell after (2 ^ (x .inputs))))) (w .counted)
+      ∙ ap answerOf (choice-of-job purpose kind k j (cell after (2 ^ (j .inputs))) v (w .past .below) at) in
+      ap₂ (λ (x : Chosen) (m : List ℕ). record { answer = verdictTold (x .verdict); signature = x .signature; memory = m }) same (w .held)
+      ∙ ap (λ (a : Answer Finding). record { answer = a; signature = signatureOf (choice purpose kind k j .entries); memory = filled ++ drop (length filled) work })
+      (found-told (choice purpose kind k j .finding))
+      ∙ sym (ap (λ (x : Answer (Fills Choice)). chose x work) (w .past .decided))

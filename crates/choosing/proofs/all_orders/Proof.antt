@@ -1,0 +1,54 @@
+-- `choosing::all_orders` meets its contract.
+use native.Mathlib.Omega.{arith}
+use Prim.Native.Nat.{_-_}
+use mathlib.Core.Path.{refl}
+use lib.Count.{ones}
+use borrow.Author.Count.{falls}
+use Rattle.choosing.proofs.Arrays.{order-fits, Holding, holding-none, holding-next, places-held}
+use Rattle.choosing.proofs.all_orders.Statement.{statement}
+use Rattle.choosing.proofs.all_orders.Tie as tie
+
+abbrev Inv-loop : tie.InvT-loop
+Inv-loop of₀ e₀ of e = Holding 256 ones e of
+
+abbrev μ-loop : tie.MeasureT-loop
+μ-loop of₀ e₀ of e = 256 - e
+
+loop-holds : tie.Need-loop-holds Inv-loop μ-loop
+loop-holds c = holding-none ones _ refl
+
+cast-of : tie.Need-cast-of Inv-loop μ-loop
+cast-of c = omega (arith, c .loop-test .taken)
+
+cast-of-2 : tie.Need-cast-of-2 Inv-loop μ-loop
+cast-of-2 c = order-fits (c .before .loop .e) (c .loop-test .taken)
+
+array-write-of : tie.Need-array-write-of Inv-loop μ-loop
+array-write-of c = c .loop-test .taken
+
+add-e : tie.Need-add-e Inv-loop μ-loop
+add-e c = omega (arith, c .loop-test .taken)
+
+loop-less : tie.Need-loop-less Inv-loop μ-loop
+loop-less c = falls _ _ (c .loop-test .taken)
+
+loop-again : tie.Need-loop-again Inv-loop μ-loop
+loop-again c = holding-next (c .before .loop .inv) (c .loop-test .taken) refl
+
+returns : tie.Need-returns Inv-loop μ-loop
+returns c = places-held (c .before .loop .inv) (c .loop-test .left)
+
+pub all-orders-spec : {M : Type 1} → statement M
+all-orders-spec =
+    tie.close
+    (tie.spec
+    Inv-loop
+    μ-loop
+    loop-holds
+    cast-of
+    cast-of-2
+    array-write-of
+    add-e
+    loop-less
+    loop-again
+    returns)

@@ -1,0 +1,57 @@
+-- `choosing::choose_filled` meets its contract.
+use native.Mathlib.Omega.{arith}
+use mathlib.Core.Path.{_∙_}
+use Rattle.job.specs.Layout.{maxInputs, maxFaults}
+use Rattle.spectra.proofs.Transforming.{one-fits}
+use Rattle.picking.specs.Matrix.{maxRows}
+use Rattle.choosing.proofs.Decided.{filled-answer}
+use Rattle.choosing.proofs.Ordered.{listed-within, listed-length}
+use Rattle.choosing.proofs.choose_filled.Statement.{statement}
+use Rattle.choosing.proofs.choose_filled.Tie as tie
+
+marks-of-requires : tie.Need-marks-of-requires
+marks-of-requires c κs = tt
+
+scan-order-requires : tie.Need-scan-order-requires
+scan-order-requires c κs = c .before .before .pre .inputs-few
+
+shl-size : tie.Need-shl-size
+unfolding maxInputs
+shl-size c = omega (arith, c .before .before .before .before .before .pre .inputs-few)
+
+add-choose : tie.Need-add-choose
+unfolding maxFaults
+add-choose c = omega (arith, c .before .before .before .before .before .before .pre .faults-few)
+
+array-share-prefix-indices : tie.Need-array-share-prefix-indices
+array-share-prefix-indices c = listed-within (c .before .before .before .before .before .before .scan-order .ensures)
+
+slice-aggregate-choose : tie.Need-slice-aggregate-choose
+slice-aggregate-choose c = listed-length (c .before .before .before .before .before .before .before .scan-order .ensures)
+
+choose-requires : tie.Need-choose-requires
+choose-requires c κs = tt
+
+concluded-requires : tie.Need-concluded-requires
+concluded-requires c κs = tt
+
+returns : tie.Need-returns
+unfolding maxInputs maxRows
+returns c =
+    c .concluded .ensures
+    ∙ filled-answer (c .before .before .before .before .before .before .before .before .before .before .before .before .args .counts) (c .before .before .before .before .before .before .before .before .before .before .before .before .args .work .now) (c .before .before .before .before .before .before .before .before .before .before .marks-of .result .of) (c .before .before .before .before .before .before .before .before .before .before .before .before .pre) (c .before .before .before .choose-arg2 .given .0) (c .before .before .before .before .before .before .before .before .before .before .before .before .args .purpose) (c .before .before .before .before .before .before .before .before .before .before .marks-of .ensures)
+    (c .before .choose .result) _ _ (one-fits (c .before .before .before .before .before .before .before .before .before .before .before .before .args .counts .inputs) (omega (arith, c .before .before .before .before .before .before .before .before .before .before .before .before .pre .inputs-few))) (c .before .before .before .before .before .before .before .before .before .scan-order .ensures .held) (c .before .choose .ensures)
+
+pub choose-filled-spec : {M : Type 1} → statement M
+choose-filled-spec =
+    tie.close
+    (tie.spec
+    marks-of-requires
+    scan-order-requires
+    shl-size
+    add-choose
+    array-share-prefix-indices
+    slice-aggregate-choose
+    choose-requires
+    concluded-requires
+    returns)

@@ -1,0 +1,50 @@
+-- `choosing::marks_of` meets its contract.
+use native.Mathlib.Omega.{arith}
+use Prim.Native.Nat.{_-_}
+use mathlib.Core.Path.{refl}
+use borrow.Author.Count.{falls}
+use Rattle.choosing.specs.Choosing.{mark}
+use Rattle.choosing.proofs.Arrays.{Holding, holding-none, holding-next, rows-within, rows-held}
+use Rattle.choosing.proofs.marks_of.Statement.{statement}
+use Rattle.choosing.proofs.marks_of.Tie as tie
+
+abbrev Inv-loop : tie.InvT-loop
+Inv-loop purpose of₀ c₀ of c = Holding 64 (mark purpose) c of
+
+abbrev μ-loop : tie.MeasureT-loop
+μ-loop purpose of₀ c₀ of c = 64 - c
+
+loop-holds : tie.Need-loop-holds Inv-loop μ-loop
+loop-holds c = holding-none (mark (c .args .purpose)) _ refl
+
+mark-of-requires : tie.Need-mark-of-requires Inv-loop μ-loop
+mark-of-requires c κs = rows-within (c .loop-test .taken)
+
+array-write-of : tie.Need-array-write-of Inv-loop μ-loop
+array-write-of c = c .before .loop-test .taken
+
+add-c : tie.Need-add-c Inv-loop μ-loop
+add-c c = omega (arith, c .before .loop-test .taken)
+
+loop-less : tie.Need-loop-less Inv-loop μ-loop
+loop-less c = falls _ _ (c .before .loop-test .taken)
+
+loop-again : tie.Need-loop-again Inv-loop μ-loop
+loop-again c = holding-next (c .before .before .loop .inv) (c .before .loop-test .taken) (c .mark-of .ensures)
+
+returns : tie.Need-returns Inv-loop μ-loop
+returns c = rows-held (c .before .loop .inv) (c .loop-test .left)
+
+pub marks-of-spec : {M : Type 1} → statement M
+marks-of-spec =
+    tie.close
+    (tie.spec
+    Inv-loop
+    μ-loop
+    loop-holds
+    mark-of-requires
+    array-write-of
+    add-c
+    loop-less
+    loop-again
+    returns)

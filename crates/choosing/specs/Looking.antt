@@ -1,0 +1,58 @@
+-- How the code lists the indices in the order of looking, and hands the spectra to the method.
+--
+--   maxPlaces   the most coefficients of a circuit
+--   Listed      a list stands at the start of an array, and so many places are taken
+--   Filled      the counts are a job's, and its spectra lie within the work
+--   choiceIn    the choice over any coefficients of the counted circuits
+--   answerOf    the answer that stands for a choice
+use Prim.Native.Nat.{ℕ, _+_, _*_, _^_, _≤_}
+use mathlib.Core.Path.{_≡_}
+use mathlib.Core.Bool.{_&&_}
+use mathlib.Core.List.{List}
+use lib.ListN.{length, take}
+use Rattle.job.specs.Layout.{maxInputs, maxFaults}
+use Rattle.tables.specs.declared.Counts.{Counts}
+use Rattle.bits.specs.declared.Refusal.the-variants.{Memory}
+use Rattle.picking.specs.Matrix.{signatureOf}
+use Rattle.method.specs.Method.{agree, signature, firstPair}
+use Rattle.picking.specs.declared.Found.{Found}
+use Rattle.picking.specs.declared.Found.the-variants.{Told, Unfit}
+use Rattle.picking.specs.declared.Found.the-variants as found
+use Rattle.choosing.specs.Choosing.{Choice, Finding, choiceBy, needed, scanOrder}
+use Rattle.choosing.specs.Choosing.Finding.{chosen, alike}
+use Rattle.choosing.specs.declared.Chosen.{Chosen}
+use Rattle.choosing.specs.declared.Purpose.{Purpose}
+use Rattle.choosing.specs.declared.Verdict.{Verdict}
+use Rattle.choosing.specs.declared.Verdict.the-variants.{Done, Alike, Refused}
+
+-- 2 to the power 8
+unfoldable pub maxPlaces : ℕ
+unfolding maxInputs
+maxPlaces = 2 ^ maxInputs
+
+pub record Listed (list : List ℕ) (count : ℕ) (places : List ℕ) : Type 0 where
+  pub counted : count ≡ length list
+  pub held : take count places ≡ list
+
+pub record Filled (counts : Counts) (room : ℕ) : Type 0 where
+  pub inputs-few : counts .inputs ≤ maxInputs
+  pub faults-few : counts .faults ≤ maxFaults
+  pub enough : (counts .faults + 1) * 2 ^ (counts .inputs) ≤ room
+
+abbrev pub choiceIn : Purpose → Counts → (ℕ → ℕ → ℕ) → Choice
+choiceIn purpose counts coef =
+    choiceBy (firstPair (counts .faults + 1) (λ a b. needed purpose a b && agree coef (scanOrder (counts .inputs)) a b)) counts
+    (signature coef (counts .faults + 1) (needed purpose) (scanOrder (counts .inputs)))
+
+-- the matrix always fits
+abbrev pub verdictOf : Counts → Found → Verdict
+verdictOf counts Told = Done counts
+verdictOf counts (found.Alike a b) = Alike a b
+verdictOf counts Unfit = Refused Memory
+
+abbrev pub verdictFor : Finding → Verdict
+verdictFor (chosen counts) = Done counts
+verdictFor (alike a b) = Alike a b
+
+abbrev pub answerOf : Choice → Chosen
+answerOf c = record { verdict = verdictFor (c .finding); signature = signatureOf (c .entries) }

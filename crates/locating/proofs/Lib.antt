@@ -1,0 +1,6 @@
+pub mod Scanned
+pub mod Indexed
+pub mod Compared
+pub mod Sought
+pub mod Handed
+pub mod Whole

@@ -1,0 +1,106 @@
+-- What taking takes, over any scan.
+--
+--   takes-keeps    what was taken stays, in its order, in front
+--   takes-tell     a needed pair that agrees on what is taken in the end agrees on what was taken before, and on the whole scan
+--   takes-told     so what is taken tells apart every needed pair that the scan tells apart
+--   takes-full     if the whole scan is full, so is what is taken
+--   takes-useful   a useful entry is taken
+--   takes-idle     another is passed over
+--   takes-stop     once what is taken is full, nothing more is taken
+--   takes-from     every entry taken was taken before, or is in the scan
+use Prim.Native.Nat.{ℕ, _<_}
+use mathlib.Core.Path.{_≡_, refl, sym, ap, _∙_}
+use mathlib.Core.Bool.{Bool, true, false, not, cond, _&&_}
+use mathlib.Core.Logic.{_⊎_, inl, inr, ⊎-elim}
+use mathlib.Core.List.{List, [], _∷_, _++_, append-assoc, append-nil, List·Memᴰ, List·Memᴰ·head, List·Memᴰ·tail, List·Memᴰ·append-cases, List·Memᴰ·eq-of-singleton}
+use borrow.Author.Tests.{not-false}
+use lib.Dec.{eqb}
+use Rattle.bits.proofs.Tests.{and-i, clash}
+use Rattle.method.specs.Method.{agree, useful, full, takes}
+use Rattle.method.proofs.Pairs.{by-test, by-cond, somePair-none, none-somePair, full-all}
+use Rattle.method.proofs.Agreement.{agree-first, agree-at, full-more}
+
+and-false : (a b : Bool) → a ≡ true → a && b ≡ false → b ≡ false
+and-false true b p q = q
+and-false false b p q = absurd (clash p refl)
+
+module _ {E : Type 0} (coef : ℕ → E → ℕ) (rows : ℕ) (needed : ℕ → ℕ → Bool) where
+  pub takes-keeps : (taken scan : List E) → (tail : List E) × (takes coef rows needed taken scan ≡ taken ++ tail)
+  unfolding takes
+  takes-keeps taken [] = ([], sym (append-nil taken))
+  takes-keeps taken (e ∷ scan) =
+      by-cond (λ m. (tail : List E) × (takes coef rows needed m scan ≡ taken ++ tail)) (useful coef rows needed taken e) (taken ++ (e ∷ [])) taken
+      (λ u.
+      let r : (tail : List E) × (takes coef rows needed (taken ++ (e ∷ [])) scan ≡ taken ++ (e ∷ []) ++ tail) = takes-keeps (taken ++ (e ∷ [])) scan in
+      (e ∷ r .0, r .1 ∙ append-assoc taken (e ∷ []) (r .0)))
+      (λ u. takes-keeps taken scan)
+
+  -- at an entry that isn't useful, a needed pair that agrees on what is taken agrees
+  idle-agree : (taken : List E) (e : E) (a b : ℕ) → useful coef rows needed taken e ≡ false → a < b → b < rows → needed a b ≡ true
+      → agree coef taken a b ≡ true → eqb (coef a e) (coef b e) ≡ true
+  unfolding useful
+  idle-agree taken e a b u h k n t =
+      not-false (eqb (coef a e) (coef b e))
+      (and-false (agree coef taken a b) (not (eqb (coef a e) (coef b e))) t
+      (somePair-none coef rows needed (λ a b. agree coef taken a b && not (eqb (coef a e) (coef b e))) u a b h k n))
+
+  pub takes-tell : (taken scan : List E) (a b : ℕ) → a < b → b < rows → needed a b ≡ true → agree coef (takes coef rows needed taken scan) a b ≡ true
+      → (agree coef taken a b ≡ true) × (agree coef scan a b ≡ true)
+  unfolding takes agree
+  takes-tell taken [] a b h k n t = (t, refl)
+  takes-tell taken (e ∷ scan) a b h k n t =
+      by-cond (λ m. agree coef (takes coef rows needed m scan) a b ≡ true → (agree coef taken a b ≡ true) × (eqb (coef a e) (coef b e) && agree coef scan a b ≡ true))
+      (useful coef rows needed taken e) (taken ++ (e ∷ [])) taken
+      (λ u t.
+      let r : (agree coef (taken ++ (e ∷ [])) a b ≡ true) × (agree coef scan a b ≡ true) = takes-tell (taken ++ (e ∷ [])) scan a b h k n t in
+      (agree-first coef taken (e ∷ []) a b (r .0), and-i (agree-at coef taken e a b (r .0)) (r .1)))
+      (λ u t.
+      let r : (agree coef taken a b ≡ true) × (agree coef scan a b ≡ true) = takes-tell taken scan a b h k n t in
+      (r .0, and-i (idle-agree taken e a b u h k n (r .0)) (r .1)))
+      t
+
+  pub takes-told : (taken scan : List E) (a b : ℕ) → a < b → b < rows → needed a b ≡ true → agree coef scan a b ≡ false
+      → agree coef (takes coef rows needed taken scan) a b ≡ false
+  takes-told taken scan a b h k n f =
+      by-test (agree coef (takes coef rows needed taken scan) a b)
+      (λ t. absurd (clash (takes-tell taken scan a b h k n t .1) f))
+      (λ g. g)
+
+  pub takes-full : (taken scan : List E) → full coef rows needed scan ≡ true → full coef rows needed (takes coef rows needed taken scan) ≡ true
+  takes-full taken scan f =
+      full-more coef rows needed scan (takes coef rows needed taken scan) (λ a b h k n t. takes-tell taken scan a b h k n t .1) f
+
+  pub takes-useful : (taken : List E) (e : E) (scan : List E) → useful coef rows needed taken e ≡ true
+      → takes coef rows needed taken (e ∷ scan) ≡ takes coef rows needed (taken ++ (e ∷ [])) scan
+  unfolding takes
+  takes-useful taken e scan u = ap (λ (t : Bool). takes coef rows needed (cond t (taken ++ (e ∷ [])) taken) scan) u
+
+  pub takes-idle : (taken : List E) (e : E) (scan : List E) → useful coef rows needed taken e ≡ false
+      → takes coef rows needed taken (e ∷ scan) ≡ takes coef rows needed taken scan
+  unfolding takes
+  takes-idle taken e scan u = ap (λ (t : Bool). takes coef rows needed (cond t (taken ++ (e ∷ [])) taken) scan) u
+
+  full-idle : (taken : List E) (e : E) → full coef rows needed taken ≡ true → useful coef rows needed taken e ≡ false
+  unfolding useful
+  full-idle taken e f =
+      none-somePair coef rows needed (λ a b. agree coef taken a b && not (eqb (coef a e) (coef b e)))
+      (λ a b h k n. ap (λ (t : Bool). t && not (eqb (coef a e) (coef b e))) (full-all coef rows needed taken f a b h k n))
+
+  pub takes-stop : (taken scan : List E) → full coef rows needed taken ≡ true → takes coef rows needed taken scan ≡ taken
+  unfolding takes
+  takes-stop taken [] f = refl
+  takes-stop taken (e ∷ scan) f = takes-idle taken e scan (full-idle taken e f) ∙ takes-stop taken scan f
+
+  one-more : (taken : List E) (e : E) (scan : List E) {x : E} → List·Memᴰ x taken ⊎ List·Memᴰ x (e ∷ []) → List·Memᴰ x taken ⊎ List·Memᴰ x (e ∷ scan)
+  one-more taken e scan (inl p) = inl p
+  one-more taken e scan (inr p) = inr (List·Memᴰ·head (List·Memᴰ·eq-of-singleton p))
+
+  pub takes-from : (taken scan : List E) {x : E} → List·Memᴰ x (takes coef rows needed taken scan) → List·Memᴰ x taken ⊎ List·Memᴰ x scan
+  unfolding takes
+  takes-from taken [] m = inl m
+  takes-from taken (e ∷ scan) {x} m =
+      by-cond (λ m. List·Memᴰ x (takes coef rows needed m scan) → List·Memᴰ x taken ⊎ List·Memᴰ x (e ∷ scan))
+      (useful coef rows needed taken e) (taken ++ (e ∷ [])) taken
+      (λ u m. ⊎-elim (λ p. one-more taken e scan (List·Memᴰ·append-cases taken p)) (λ p. inr (List·Memᴰ·tail p)) (takes-from (taken ++ (e ∷ [])) scan m))
+      (λ u m. ⊎-elim (λ p. inl p) (λ p. inr (List·Memᴰ·tail p)) (takes-from taken scan m))
+      m

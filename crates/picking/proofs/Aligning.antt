@@ -1,0 +1,61 @@
+-- The entries kept are moved to the front of a signature (specs/Matrix.antt, `signatureOf`).
+--
+--   Aligning         what a loop knows that has moved i entries
+--   aligning-none, aligning-next, aligning-all   its start, its step and its end
+--   aligning-from    the place of the next entry
+--   aligning-to      the place that it is moved to
+use Prim.Native.Nat.{ℕ, suc, _+_, _-_, _≤_, _<_}
+use native.Mathlib.Numerals.{add-one}
+use native.Mathlib.Omega.{arith}
+use mathlib.Core.Path.{_≡_, refl, sym, ap, ap₂, _∙_}
+use mathlib.Core.List.{List, _∷_, _++_}
+use lib.ListN.{length, take, drop, getD, set, replicate, length-drop}
+use lib.Seq.{length-take-le, take-all, set-at, getD-drop}
+use Rattle.picking.specs.Matrix.{maxEntries, zeros, signatureOf}
+use Rattle.picking.specs.declared.Signature.{Signature}
+use Rattle.picking.proofs.Resting.{front-place}
+
+pub record Aligning (start : ℕ) (kept entries : List ℕ) (i : ℕ) : Type 0 where
+  pub within : i ≤ length kept - start
+  pub so-far : entries ≡ take i (drop start kept) ++ zeros (maxEntries - i)
+
+pub aligning-none : (start : ℕ) (kept : List ℕ) → Aligning start kept (replicate 63 0) 0
+unfolding maxEntries zeros
+aligning-none start kept = record { within = omega arith; so-far = refl }
+
+zeros-next : {i : ℕ} → i < maxEntries → zeros (maxEntries - i) ≡ 0 ∷ zeros (maxEntries - suc i)
+unfolding zeros
+zeros-next {i} h = let e : maxEntries - i ≡ suc (maxEntries - suc i) = omega arith in ap zeros e
+
+module _ {start : ℕ} {kept entries : List ℕ} {i : ℕ} (w : Aligning start kept entries i) (first : start ≤ maxEntries) (size : length kept ≡ maxEntries) where
+  pub aligning-from : i < length kept - start → start + i < length kept
+  aligning-from h = omega arith
+
+  pub aligning-to : i < length kept - start → i < 63
+  unfolding maxEntries
+  aligning-to h = omega arith
+
+  pub aligning-next : i < length kept - start → Aligning start kept (set entries i (getD kept (start + i) 0)) (i + 1)
+  aligning-next h =
+      let long : length (drop start kept) ≡ length kept - start = length-drop start kept in
+      let inside : i < length (drop start kept) = omega arith in
+      let part : i ≤ length (drop start kept) = omega arith in
+      let room : i < maxEntries = omega arith in
+      record {
+        within = omega arith;
+        so-far =
+            ap (λ (l : List ℕ). set l i (getD kept (start + i) 0)) (w .so-far ∙ ap (λ (l : List ℕ). take i (drop start kept) ++ l) (zeros-next room))
+            ∙ set-at (take i (drop start kept)) 0 (zeros (maxEntries - suc i)) (getD kept (start + i) 0) i (length-take-le i (drop start kept) part)
+            ∙ ap (λ (x : ℕ). take i (drop start kept) ++ (x ∷ zeros (maxEntries - suc i))) (sym (getD-drop start kept i 0))
+            ∙ sym (front-place i (drop start kept) (zeros (maxEntries - suc i)) 0 inside)
+            ∙ ap (λ (n : ℕ). take n (drop start kept) ++ zeros (maxEntries - n)) (sym (add-one i));
+      }
+
+  pub aligning-all : length kept - start ≤ i → _≡_ {A = Signature} (record { count = length kept - start; entries = entries }) (signatureOf (drop start kept))
+  aligning-all h =
+      let long : length kept - start ≡ length (drop start kept) = sym (length-drop start kept) in
+      let full : length (drop start kept) ≤ i = omega arith in
+      let same : i ≡ length (drop start kept) = omega (arith, w .within) in
+      let moved : entries ≡ drop start kept ++ zeros (maxEntries - length (drop start kept)) =
+      w .so-far ∙ ap₂ (λ (l : List ℕ) (n : ℕ). l ++ zeros (maxEntries - n)) (take-all i (drop start kept) full) same in
+      λ j. record { count = long j; entries = moved j }

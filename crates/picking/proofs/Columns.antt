@@ -1,0 +1,55 @@
+-- Columns filled row after row: a number for each row (specs/Labels.antt).
+--
+--   column-start    a column of zeros
+--   Filling         what a loop knows that has filled c rows
+--   filling-none, filling-next, filling-all   its start, its step and its end
+--   filling-room    there is room for another row
+--   cell-within     a row's number at an entry lies within the work
+use Prim.Native.Nat.{ℕ, suc, _+_, _*_, _≤_, _<_}
+use native.Mathlib.Nat.{mul-le-mul-right, suc-mul}
+use native.Mathlib.Omega.{arith}
+use mathlib.Core.Path.{_≡_, refl, _∙_}
+use mathlib.Core.List.{List}
+use borrow.Author.Count.{below-none, below-more}
+use lib.ListN.{length, getD, set, replicate, length-set, getD-replicate}
+use lib.Seq.{getD-set-same, getD-set-other}
+use Rattle.picking.specs.Matrix.{maxRows}
+use Rattle.picking.specs.Labels.{Holds}
+
+pub column-start : Holds maxRows (λ c. 0) (replicate 64 0)
+unfolding maxRows
+column-start c h = getD-replicate 64 c 0 0 h
+
+pub record Filling (rows : ℕ) (f : ℕ → ℕ) (of : List ℕ) (c : ℕ) : Type 0 where
+  pub within : c ≤ rows
+  pub whole : length of ≡ maxRows
+  pub done : Holds c f of
+
+pub filling-none : (rows : ℕ) (f : ℕ → ℕ) → Filling rows f (replicate 64 0) 0
+unfolding maxRows
+filling-none rows f = record { within = omega arith; whole = refl; done = below-none (λ (k : ℕ). getD (replicate 64 0) k 0 ≡ f k) }
+
+module _ {rows : ℕ} {f : ℕ → ℕ} {of : List ℕ} {c : ℕ} (w : Filling rows f of c) where
+  pub filling-room : rows ≤ maxRows → c < rows → c < 64
+  unfolding maxRows
+  filling-room h l = omega arith
+
+  pub filling-next : {v : ℕ} → rows ≤ maxRows → c < rows → v ≡ f c → Filling rows f (set of c v) (c + 1)
+  filling-next {v} h l e =
+      record {
+        within = omega arith;
+        whole = length-set of c v ∙ w .whole;
+        done =
+            below-more (λ (k : ℕ). getD (set of c v) k 0 ≡ f k) c
+            (λ k m. getD-set-other of c k v 0 (λ (e : k ≡ c). absurd (omega arith)) ∙ w .done k m)
+            (getD-set-same of c v 0 (omega (arith, w .whole)) ∙ e);
+      }
+
+  pub filling-all : rows ≤ c → Holds rows f of
+  filling-all h k l = w .done k (omega arith)
+
+pub cell-within : {width rows c entry room : ℕ} → c < rows → entry < width → rows * width ≤ room → c * width + entry < room
+cell-within {width} {rows} {c} h l r =
+    let m : suc c * width ≤ rows * width = mul-le-mul-right width h in
+    let s : suc c * width ≡ c * width + width = suc-mul c width in
+    omega arith

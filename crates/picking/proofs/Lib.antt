@@ -1,0 +1,14 @@
+pub mod Labelled
+pub mod Marked
+pub mod Partners
+pub mod Columns
+pub mod Refined
+pub mod Strays
+pub mod Within
+pub mod Fits
+pub mod Flagging
+pub mod Seeking
+pub mod Continued
+pub mod Resting
+pub mod Aligning
+pub mod Whole

@@ -1,0 +1,151 @@
+-- Labels refined by values: the lowest row that has both (specs/Labels.antt).
+--
+--   Matching        what a loop knows that seeks the lowest number from a place on: none before k passes
+--   matching-none, matching-found, matching-next, matching-all   its start, its ways out and its step
+--   both-found, both-labels, both-values                         whether two rows have the same label and value, by comparing
+--   refined         the lowest rows that have both are labels
+use Prim.Native.Nat.{ℕ, zero, suc, _+_, _-_, _≤_, _<_}
+use native.Mathlib.Nat.{eq-or-lt-of-le, le-antisymm}
+use native.Mathlib.Numerals.{add-one}
+use native.Mathlib.Omega.{arith}
+use mathlib.Core.Path.{_≡_, refl, sym, ap, subst, _∙_}
+use mathlib.Core.Bool.{Bool, true, false, cond, _&&_, and-false}
+use mathlib.Core.Logic.{⊎-elim}
+use mathlib.Core.List.{List}
+use borrow.Author.Tests.{eqb-true, eq-eqb, ne-eqb}
+use lib.Dec.{eqb}
+use lib.ListN.{getD}
+use Rattle.bits.proofs.Tests.{and-l, and-r, and-i, clash}
+use Rattle.picking.specs.Labels.{Holds, Low, Labels, both, lowestFrom}
+use Rattle.method.proofs.Pairs.{by-test, by-cond}
+
+-- ---- the lowest number that passes
+
+module _ (test : ℕ → Bool) where
+  lowest-from : (left k : ℕ) → k ≤ lowestFrom test left k
+  unfolding lowestFrom
+  lowest-from zero k = omega arith
+  lowest-from (suc left) k =
+      by-cond (λ (r : ℕ). k ≤ r) (test k) k (lowestFrom test left (suc k)) (λ t. omega arith) (λ f. omega (arith, lowest-from left (suc k)))
+
+  lowest-to : (left k : ℕ) → lowestFrom test left k ≤ k + left
+  unfolding lowestFrom
+  lowest-to zero k = omega arith
+  lowest-to (suc left) k =
+      by-cond (λ (r : ℕ). r ≤ k + suc left) (test k) k (lowestFrom test left (suc k)) (λ t. omega arith) (λ f. omega (arith, lowest-to left (suc k)))
+
+  lowest-passes : (left k c : ℕ) → k + left ≡ c → test c ≡ true → test (lowestFrom test left k) ≡ true
+  unfolding lowestFrom
+  lowest-passes zero k c e t = let h : c ≡ k = omega arith in subst (λ (v : ℕ). test v ≡ true) h t
+  lowest-passes (suc left) k c e t =
+      by-cond (λ (r : ℕ). test r ≡ true) (test k) k (lowestFrom test left (suc k)) (λ u. u) (λ f. lowest-passes left (suc k) c (omega arith) t)
+
+  lowest-first : (left k j : ℕ) → k ≤ j → test j ≡ true → lowestFrom test left k ≤ j
+  unfolding lowestFrom
+  lowest-first zero k j h t = h
+  lowest-first (suc left) k j h t =
+      by-cond (λ (r : ℕ). r ≤ j) (test k) k (lowestFrom test left (suc k)) (λ u. h)
+      (λ f. ⊎-elim (λ (e : k ≡ j). absurd (clash t (subst (λ (v : ℕ). test v ≡ false) e f))) (λ l. lowest-first left (suc k) j l t) (eq-or-lt-of-le h))
+
+  pub record Matching (from c k : ℕ) : Type 0 where
+    pub within : k ≤ c
+    pub rest : lowestFrom test (c - from) from ≡ lowestFrom test (c - k) k
+
+  pub matching-none : {from c : ℕ} → from ≤ c → Matching from c from
+  matching-none h = record { within = h; rest = refl }
+
+  module _ {from c k : ℕ} (w : Matching from c k) where
+    step : k < c → lowestFrom test (c - from) from ≡ cond (test k) k (lowestFrom test (c - (k + 1)) (k + 1))
+    unfolding lowestFrom
+    step h =
+        let e : c - k ≡ suc (c - (k + 1)) = omega arith in
+        w .rest ∙ ap (λ (n : ℕ). lowestFrom test n k) e
+        ∙ ap (λ (n : ℕ). cond (test k) k (lowestFrom test (c - (k + 1)) n)) (sym (add-one k))
+
+    pub matching-found : k < c → test k ≡ true → k ≡ lowestFrom test (c - from) from
+    matching-found h t = sym (step h ∙ rw t)
+
+    pub matching-next : k < c → test k ≡ false → Matching from c (k + 1)
+    matching-next h f = record { within = omega arith; rest = step h ∙ rw f }
+
+    pub matching-all : c ≤ k → c ≡ lowestFrom test (c - from) from
+    unfolding lowestFrom
+    matching-all h =
+        let e : c - k ≡ 0 = omega arith in
+        let l : k ≡ c = omega (arith, w .within) in
+        sym (w .rest ∙ ap (λ (n : ℕ). lowestFrom test n k) e ∙ l)
+
+-- ---- rows of one class with one value
+
+module _ (labels values : List ℕ) (k c : ℕ) where
+  pub both-found : getD labels k 0 ≡ getD labels c 0 → getD values k 0 ≡ getD values c 0 → both labels values k c ≡ true
+  both-found e f = and-i (eq-eqb (getD labels k 0) (getD labels c 0) e) (eq-eqb (getD values k 0) (getD values c 0) f)
+
+  pub both-labels : (getD labels k 0 ≡ getD labels c 0 → ⊥) → both labels values k c ≡ false
+  both-labels d = ap (λ (t : Bool). t && eqb (getD values k 0) (getD values c 0)) (ne-eqb (getD labels k 0) (getD labels c 0) d)
+
+  pub both-values : (getD values k 0 ≡ getD values c 0 → ⊥) → both labels values k c ≡ false
+  both-values d =
+      ap (λ (t : Bool). eqb (getD labels k 0) (getD labels c 0) && t) (ne-eqb (getD values k 0) (getD values c 0) d)
+      ∙ and-false (eqb (getD labels k 0) (getD labels c 0))
+
+  same-label : both labels values k c ≡ true → getD labels k 0 ≡ getD labels c 0
+  same-label t =
+      eqb-true (getD labels k 0) (getD labels c 0) (and-l (eqb (getD labels k 0) (getD labels c 0)) (eqb (getD values k 0) (getD values c 0)) t)
+
+  same-value : both labels values k c ≡ true → getD values k 0 ≡ getD values c 0
+  same-value t =
+      eqb-true (getD values k 0) (getD values c 0) (and-r (eqb (getD labels k 0) (getD labels c 0)) (eqb (getD values k 0) (getD values c 0)) t)
+
+module _ (rows : ℕ) (labels values : List ℕ) (low : Low rows labels) where
+  abbrev lowestOf : ℕ → ℕ
+  lowestOf c = lowestFrom (λ k. both labels values k c) (c - getD labels c 0) (getD labels c 0)
+
+  own-both : (c : ℕ) → c < rows → both labels values (lowestOf c) c ≡ true
+  own-both c h =
+      let l : getD labels c 0 ≤ c = low c h in
+      lowest-passes (λ k. both labels values k c) (c - getD labels c 0) (getD labels c 0) c (omega arith) (both-found labels values c c refl refl)
+
+  own-low : (c : ℕ) → c < rows → lowestOf c ≤ c
+  own-low c h =
+      let l : getD labels c 0 ≤ c = low c h in
+      omega (arith, lowest-to (λ k. both labels values k c) (c - getD labels c 0) (getD labels c 0))
+
+  -- of rows that have both, neither has a lower such row than the other
+  not-above : (a b : ℕ) → a < rows → b < rows → both labels values a b ≡ true → lowestOf a ≤ lowestOf b
+  not-above a b h k t =
+      let e : getD labels a 0 ≡ getD labels b 0 = same-label labels values a b t in
+      let o = own-both b k in
+      lowest-first (λ k. both labels values k a) (a - getD labels a 0) (getD labels a 0) (lowestOf b)
+      (subst (λ (x : ℕ). x ≤ lowestOf b) (sym e) (lowest-from (λ k. both labels values k b) (b - getD labels b 0) (getD labels b 0)))
+      (both-found labels values (lowestOf b) a
+      (same-label labels values (lowestOf b) b o ∙ sym e)
+      (same-value labels values (lowestOf b) b o ∙ sym (same-value labels values a b t)))
+
+  one-lowest : (a b : ℕ) → a < rows → b < rows → both labels values a b ≡ true → lowestOf a ≡ lowestOf b
+  one-lowest a b h k t =
+      le-antisymm (not-above a b h k t)
+      (not-above b a k h (both-found labels values b a (sym (same-label labels values a b t)) (sym (same-value labels values a b t))))
+
+  lowest-both : (a b : ℕ) → a < rows → b < rows → lowestOf a ≡ lowestOf b → both labels values a b ≡ true
+  lowest-both a b h k e =
+      let p = own-both a h in
+      let q = own-both b k in
+      both-found labels values a b
+      (sym (same-label labels values (lowestOf a) a p) ∙ ap (λ (x : ℕ). getD labels x 0) e ∙ same-label labels values (lowestOf b) b q)
+      (sym (same-value labels values (lowestOf a) a p) ∙ ap (λ (x : ℕ). getD values x 0) e ∙ same-value labels values (lowestOf b) b q)
+
+  pub refined : {R : List ℕ} → Holds rows lowestOf R → Labels rows (both labels values) R
+  refined {R} holds =
+      record {
+        low = λ c h. subst (λ (x : ℕ). x ≤ c) (sym (holds c h)) (own-low c h);
+        own =
+            λ c h.
+            let m : lowestOf c < rows = omega (arith, own-low c h) in
+            ap (λ (x : ℕ). getD R x 0) (holds c h) ∙ holds (lowestOf c) m ∙ one-lowest (lowestOf c) c m h (own-both c h) ∙ sym (holds c h);
+        equal =
+            λ a b h k.
+            by-test (both labels values a b)
+            (λ t. eq-eqb (getD R a 0) (getD R b 0) (holds a h ∙ one-lowest a b h k t ∙ sym (holds b k)) ∙ sym t)
+            (λ f. ne-eqb (getD R a 0) (getD R b 0) (λ e. clash (lowest-both a b h k (sym (holds a h) ∙ e ∙ holds b k)) f) ∙ sym f);
+      }

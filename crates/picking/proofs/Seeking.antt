@@ -1,0 +1,230 @@
+-- Seeking the next entry that tells an open row from its label, as the code does it (specs/Labels.antt).
+--
+--   array-length           an array's length, as the code knows it
+--   labels-within          there is a label for each row
+--   prefix-within, prefix-length   the first rows of an array are within it, and as many as asked for
+--   row-cell, label-cell   an open row's number at an entry, and its label's, stand within the work
+--   entry-below            an entry of a scan within a width
+--   Clearing         what a loop knows after i open rows: they have their labels' numbers
+--   clearing-none, clearing-stop, clearing-next, clearing-all   its start, its ways out and its step
+--   Seeking          what a loop knows at a place: the entries before it are clear
+--   seeking-none, seeking-stop, seeking-next, seeking-all       its start, its ways out and its step
+--   seek-idle        with no open row, all entries are clear
+--   passing-fit      the rows below a bound that pass a test can be read
+--   seek-rises, seek-within   the place sought is not before the first, and within the scan
+--   seek-fails       the entry there does not pass the test
+--   seek-goes        taking passes over the entries before it
+use Prim.Native.Nat.{ℕ, zero, suc, _+_, _*_, _≤_, _<_}
+use native.Mathlib.Nat.{suc-mul, mul-le-mul-right, not-suc-le-zero, le-of-suc-le-suc, le-trans}
+use native.Mathlib.Numerals.{add-one}
+use native.Mathlib.Omega.{arith}
+use mathlib.Core.Path.{_≡_, refl, sym, ap, subst, _∙_}
+use mathlib.Core.Bool.{Bool, true, false, not, cond, _&&_}
+use mathlib.Core.List.{List, [], _∷_, _++_, map}
+use borrow.Author.Tests.{ltb-true, eq-eqb, ne-eqb, not-true, not-false}
+use lib.Dec.{ltb, eqb}
+use lib.ListN.{length, take, drop, getD, length-map, length-drop, drop-of-length-le}
+use lib.Seq.{length-take-le, drop-cons, drop-drop, getD-drop}
+use Rattle.bits.proofs.Tests.{and-l, and-r}
+use Rattle.method.specs.Method.{useful, takes}
+use Rattle.picking.specs.Matrix.{allBelow, maxRows}
+use Rattle.picking.specs.Labels.{Low, passing, clear, seek, OpenFit}
+use Rattle.method.proofs.Pairs.{by-cond}
+use Rattle.method.proofs.Takes.{takes-idle}
+
+-- ---- places
+
+pub array-length : (l : List ℕ) {n : ℕ} → length (map (λ (v : ℕ). v) l) ≡ n → length l ≡ n
+array-length l e = sym (length-map l (λ (v : ℕ). v)) ∙ e
+
+pub labels-within : (l : List ℕ) {rows : ℕ} → length (map (λ (v : ℕ). v) l) ≡ maxRows → rows ≤ maxRows → rows ≤ length l
+labels-within l e h = omega (arith, array-length l e)
+
+module _ (l : List ℕ) {count rows : ℕ} (sized : length (map (λ (v : ℕ). v) l) ≡ maxRows) (few : count ≤ rows) (most : rows ≤ maxRows) where
+  pub prefix-within : count ≤ length l
+  prefix-within = omega (arith, array-length l sized)
+
+  pub prefix-length : count ≡ length (take count l)
+  prefix-length = sym (length-take-le count l prefix-within)
+
+cell-within : (c width entry room : ℕ) → suc c * width ≤ room → entry < width → c * width + entry < room
+cell-within c width entry room h k = let s : suc c * width ≡ c * width + width = suc-mul c width in omega arith
+
+module _ {work : List ℕ} {width : ℕ} {labels rows : List ℕ} (w : OpenFit work width labels rows) where
+  pub row-cell : (i entry : ℕ) → i < length rows → entry < width → getD rows i 0 * width + entry < length work
+  row-cell i entry h k = cell-within (getD rows i 0) width entry (length work) (w .filled i h) k
+
+  pub label-cell : (i entry : ℕ) → i < length rows → entry < width → getD labels (getD rows i 0) 0 * width + entry < length work
+  label-cell i entry h k =
+      let low : getD labels (getD rows i 0) 0 ≤ getD rows i 0 = w .low i h in
+      let up : suc (getD labels (getD rows i 0) 0) ≤ suc (getD rows i 0) = omega arith in
+      cell-within (getD labels (getD rows i 0) 0) width entry (length work) (le-trans (mul-le-mul-right width up) (w .filled i h)) k
+
+pub entry-below : (width : ℕ) (scan : List ℕ) (i : ℕ) → allBelow width scan ≡ true → i < length scan → getD scan i 0 < width
+unfolding allBelow
+entry-below width [] i e h = absurd (not-suc-le-zero h)
+entry-below width (x ∷ scan) zero e h = ltb-true x width (and-l (ltb x width) (allBelow width scan) e)
+entry-below width (x ∷ scan) (suc i) e h = entry-below width scan i (and-r (ltb x width) (allBelow width scan) e) (le-of-suc-le-suc h)
+
+-- ---- an entry
+
+pub record Clearing (coef : ℕ → ℕ → ℕ) (labels pending : List ℕ) (entry i : ℕ) : Type 0 where
+  pub within : i ≤ length pending
+  pub rest : clear coef labels pending entry ≡ clear coef labels (drop i pending) entry
+
+pub clearing-none : (coef : ℕ → ℕ → ℕ) (labels pending : List ℕ) (entry : ℕ) → Clearing coef labels pending entry 0
+clearing-none coef labels pending entry = record { within = omega arith; rest = refl }
+
+module _ {coef : ℕ → ℕ → ℕ} {labels pending : List ℕ} {entry i : ℕ} (w : Clearing coef labels pending entry i) where
+  next-row : i < length pending → clear coef labels pending entry
+      ≡ eqb (coef (getD pending i 0) entry) (coef (getD labels (getD pending i 0) 0) entry) && clear coef labels (drop (suc i) pending) entry
+  unfolding clear
+  next-row h = w .rest ∙ ap (λ (l : List ℕ). clear coef labels l entry) (drop-cons pending i 0 h)
+
+  pub clearing-stop : i < length pending → (coef (getD pending i 0) entry ≡ coef (getD labels (getD pending i 0) 0) entry → ⊥)
+      → false ≡ clear coef labels pending entry
+  clearing-stop h d = sym (next-row h ∙ rw (ne-eqb (coef (getD pending i 0) entry) (coef (getD labels (getD pending i 0) 0) entry) d))
+
+  pub clearing-next : i < length pending → coef (getD pending i 0) entry ≡ coef (getD labels (getD pending i 0) 0) entry
+      → Clearing coef labels pending entry (i + 1)
+  clearing-next h e =
+      record {
+        within = omega arith;
+        rest = next-row h ∙ rw (eq-eqb (coef (getD pending i 0) entry) (coef (getD labels (getD pending i 0) 0) entry) e, add-one);
+      }
+
+  pub clearing-all : length pending ≤ i → true ≡ clear coef labels pending entry
+  unfolding clear
+  clearing-all h = sym (w .rest ∙ rw (drop-of-length-le pending {i = i} h))
+
+-- ---- a scan
+
+pub record Seeking (test : ℕ → Bool) (scan : List ℕ) (from at : ℕ) : Type 0 where
+  pub within : at ≤ length scan
+  pub rest : seek test (drop from scan) from ≡ seek test (drop at scan) at
+
+pub seeking-none : (test : ℕ → Bool) (scan : List ℕ) (from : ℕ) → from ≤ length scan → Seeking test scan from from
+seeking-none test scan from h = record { within = h; rest = refl }
+
+module _ {test : ℕ → Bool} {scan : List ℕ} {from at : ℕ} (w : Seeking test scan from at) where
+  next-entry : at < length scan → seek test (drop from scan) from ≡ cond (test (getD scan at 0)) (seek test (drop (suc at) scan) (suc at)) at
+  unfolding seek
+  next-entry h = w .rest ∙ ap (λ (l : List ℕ). seek test l at) (drop-cons scan at 0 h)
+
+  pub seeking-stop : (u : Bool) → at < length scan → u ≡ test (getD scan at 0) → not u ≡ true → at ≡ seek test (drop from scan) from
+  seeking-stop u h e n =
+      sym (next-entry h ∙ ap (λ (t : Bool). cond t (seek test (drop (suc at) scan) (suc at)) at) (sym e ∙ not-true u n))
+
+  pub seeking-next : (u : Bool) → at < length scan → u ≡ test (getD scan at 0) → not u ≡ false → Seeking test scan from (at + 1)
+  seeking-next u h e n =
+      record {
+        within = omega arith;
+        rest = next-entry h ∙ ap (λ (t : Bool). cond t (seek test (drop (suc at) scan) (suc at)) at) (sym e ∙ not-false u n) ∙ rw add-one;
+      }
+
+  pub seeking-all : length scan ≤ at → at ≡ seek test (drop from scan) from
+  unfolding seek
+  seeking-all h = sym (w .rest ∙ rw (drop-of-length-le scan {i = at} h))
+
+seek-past : (test : ℕ → Bool) → ((e : ℕ) → test e ≡ true) → (scan : List ℕ) (at : ℕ) → seek test scan at ≡ at + length scan
+unfolding seek
+seek-past test all [] at = omega arith
+seek-past test all (e ∷ scan) at =
+    let r : seek test scan (suc at) ≡ suc at + length scan = seek-past test all scan (suc at) in
+    ap (λ (t : Bool). cond t (seek test scan (suc at)) at) (all e) ∙ omega arith
+
+clear-nothing : (coef : ℕ → ℕ → ℕ) (labels pending : List ℕ) → length pending ≡ 0 → (e : ℕ) → clear coef labels pending e ≡ true
+unfolding clear
+clear-nothing coef labels [] h e = refl
+clear-nothing coef labels (c ∷ more) h e = absurd (omega arith)
+
+pub seek-idle : (coef : ℕ → ℕ → ℕ) (labels pending scan : List ℕ) (from : ℕ) → length pending ≡ 0 → from ≤ length scan
+    → length scan ≡ seek (clear coef labels pending) (drop from scan) from
+seek-idle coef labels pending scan from e h =
+    let r : seek (clear coef labels pending) (drop from scan) from ≡ from + length (drop from scan) =
+    seek-past (clear coef labels pending) (clear-nothing coef labels pending e) (drop from scan) from in
+    omega (arith, length-drop from scan)
+
+-- ---- open rows
+
+abbrev Below : ℕ → List ℕ → Type 0
+Below m l = (i : ℕ) → i < length l → getD l i 0 < m
+
+below-append : (p q : List ℕ) (m : ℕ) → Below m p → Below m q → Below m (p ++ q)
+below-append [] q m f g i h = g i h
+below-append (x ∷ p) q m f g zero h = f zero (omega arith)
+below-append (x ∷ p) q m f g (suc i) h = below-append p q m (λ j k. f (suc j) (omega arith)) g i (le-of-suc-le-suc h)
+
+below-last : (t : Bool) (n : ℕ) → Below (suc n) (cond t (n ∷ []) [])
+below-last true n zero h = omega arith
+below-last true n (suc i) h = absurd (not-suc-le-zero (le-of-suc-le-suc h))
+below-last false n i h = absurd (not-suc-le-zero h)
+
+passing-below : (test : ℕ → Bool) (n : ℕ) → Below n (passing test n)
+unfolding passing
+passing-below test zero = λ i h. absurd (not-suc-le-zero h)
+passing-below test (suc n) =
+    below-append (passing test n) (cond (test n) (n ∷ []) []) (suc n)
+    (λ i h. let b : getD (passing test n) i 0 < n = passing-below test n i h in omega arith)
+    (below-last (test n) n)
+
+pub passing-fit : (work : List ℕ) (width rows : ℕ) (labels : List ℕ) (test : ℕ → Bool) (pending : List ℕ)
+    → rows * width ≤ length work → rows ≤ length labels → Low rows labels
+    → pending ≡ passing test rows → OpenFit work width labels pending
+passing-fit work width rows labels test pending h k low e =
+    subst (OpenFit work width labels) (sym e)
+    (record {
+      listed = λ i l. let b : getD (passing test rows) i 0 < rows = passing-below test rows i l in omega arith;
+      filled = λ i l. le-trans (mul-le-mul-right width (passing-below test rows i l)) h;
+      low = λ i l. low (getD (passing test rows) i 0) (passing-below test rows i l);
+    })
+
+-- ---- the place sought
+
+pub seek-rises : (test : ℕ → Bool) (scan : List ℕ) (at : ℕ) → at ≤ seek test scan at
+unfolding seek
+seek-rises test [] at = omega arith
+seek-rises test (e ∷ scan) at =
+    let h : suc at ≤ seek test scan (suc at) = seek-rises test scan (suc at) in
+    by-cond (λ k. at ≤ k) (test e) (seek test scan (suc at)) at (λ t. omega arith) (λ f. omega arith)
+
+seek-most : (test : ℕ → Bool) (scan : List ℕ) (at : ℕ) → seek test scan at ≤ at + length scan
+unfolding seek
+seek-most test [] at = omega arith
+seek-most test (e ∷ scan) at =
+    let h : seek test scan (suc at) ≤ suc at + length scan = seek-most test scan (suc at) in
+    by-cond (λ k. k ≤ at + suc (length scan)) (test e) (seek test scan (suc at)) at (λ t. omega arith) (λ f. omega arith)
+
+pub seek-within : (test : ℕ → Bool) (scan : List ℕ) (at : ℕ) → at ≤ length scan → seek test (drop at scan) at ≤ length scan
+seek-within test scan at h = omega (arith, seek-most test (drop at scan) at, length-drop at scan)
+
+module _ (test : ℕ → Bool) (scan : List ℕ) where
+  drop-next : (e : ℕ) (rest : List ℕ) (at : ℕ) → drop at scan ≡ e ∷ rest → drop (suc at) scan ≡ rest
+  drop-next e rest at p = rw (← (add-one at)) (sym (drop-drop 1 at scan) ∙ ap (drop 1) p)
+
+  fails : (rest : List ℕ) (at : ℕ) → drop at scan ≡ rest → seek test rest at < length scan → test (getD scan (seek test rest at) 0) ≡ false
+  unfolding seek
+  fails [] at p = λ h. absurd (omega (arith, length-drop at scan, ap length p))
+  fails (e ∷ rest) at p =
+      by-cond (λ k. k < length scan → test (getD scan k 0) ≡ false) (test e) (seek test rest (suc at)) at
+      (λ t h. fails rest (suc at) (drop-next e rest at p) h)
+      (λ f h.
+      let here : getD scan (at + 0) 0 ≡ e = sym (getD-drop at scan 0 0) ∙ ap (λ (l : List ℕ). getD l 0 0) p in
+      let same : at + 0 ≡ at = omega arith in
+      ap test (sym (ap (λ (k : ℕ). getD scan k 0) same) ∙ here) ∙ f)
+
+  pub seek-fails : (at : ℕ) → seek test (drop at scan) at < length scan → test (getD scan (seek test (drop at scan) at) 0) ≡ false
+  seek-fails at h = fails (drop at scan) at refl h
+
+  module _ (coef : ℕ → ℕ → ℕ) (rows : ℕ) (needed : ℕ → ℕ → Bool) (l : List ℕ)
+      (idle : (e : ℕ) → test e ≡ true → useful coef rows needed l e ≡ false) where
+    goes : (rest : List ℕ) (at : ℕ) → drop at scan ≡ rest → takes coef rows needed l rest ≡ takes coef rows needed l (drop (seek test rest at) scan)
+    unfolding seek
+    goes [] at p = ap (takes coef rows needed l) (sym p)
+    goes (e ∷ rest) at p =
+        by-cond (λ k. takes coef rows needed l (e ∷ rest) ≡ takes coef rows needed l (drop k scan)) (test e) (seek test rest (suc at)) at
+        (λ t. takes-idle coef rows needed l e rest (idle e t) ∙ goes rest (suc at) (drop-next e rest at p))
+        (λ f. ap (takes coef rows needed l) (sym p))
+
+    pub seek-goes : (at : ℕ) → takes coef rows needed l (drop at scan) ≡ takes coef rows needed l (drop (seek test (drop at scan) at) scan)
+    seek-goes at = goes (drop at scan) at refl

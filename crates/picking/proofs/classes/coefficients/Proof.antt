@@ -1,0 +1,70 @@
+-- `picking::classes::coefficients` meets its contract.
+use native.Mathlib.Omega.{arith}
+use Prim.Native.Nat.{_+_, _-_, _*_}
+use mathlib.Core.Path.{refl}
+use borrow.Author.Count.{falls}
+use Rattle.picking.specs.Matrix.{cell}
+use Rattle.picking.proofs.Columns.{Filling, filling-none, filling-room, filling-next, filling-all, cell-within}
+use Rattle.picking.proofs.classes.coefficients.Statement.{statement}
+use Rattle.picking.proofs.classes.coefficients.Tie as tie
+
+abbrev Inv-loop : tie.InvT-loop
+Inv-loop work width rows entry of₀ c₀ of c = Filling rows (λ j. cell work width j entry) of c
+
+abbrev μ-loop : tie.MeasureT-loop
+μ-loop work width rows entry of₀ c₀ of c = rows - c
+
+loop-holds : tie.Need-loop-holds Inv-loop μ-loop
+loop-holds c = filling-none _ _
+
+mul-of : tie.Need-mul-of Inv-loop μ-loop
+mul-of c = omega (arith, cell-within (c .loop-test .taken) (c .before .before .pre .2) (c .before .before .pre .1))
+
+add-of : tie.Need-add-of Inv-loop μ-loop
+add-of c = omega (arith, cell-within (c .loop-test .taken) (c .before .before .pre .2) (c .before .before .pre .1))
+
+mul-of-2 : tie.Need-mul-of-2 Inv-loop μ-loop
+mul-of-2 c = omega (arith, cell-within (c .loop-test .taken) (c .before .before .pre .2) (c .before .before .pre .1))
+
+shared-slice-read-of : tie.Need-shared-slice-read-of Inv-loop μ-loop
+shared-slice-read-of c = cell-within (c .before .loop-test .taken) (c .before .before .before .pre .2) (c .before .before .before .pre .1)
+
+cast-of : tie.Need-cast-of Inv-loop μ-loop
+cast-of c = omega (arith, c .shared-slice-known .given (c .before .before .loop .c * (c .before .before .before .args .width) + (c .before .before .before .args .entry)))
+
+mul-of-3 : tie.Need-mul-of-3 Inv-loop μ-loop
+mul-of-3 c = omega (arith, filling-room (c .before .before .loop .inv) (c .before .before .before .pre .0) (c .before .loop-test .taken))
+
+array-write-of : tie.Need-array-write-of Inv-loop μ-loop
+array-write-of c = filling-room (c .before .before .loop .inv) (c .before .before .before .pre .0) (c .before .loop-test .taken)
+
+add-c : tie.Need-add-c Inv-loop μ-loop
+add-c c = omega (arith, c .before .loop-test .taken)
+
+loop-less : tie.Need-loop-less Inv-loop μ-loop
+loop-less c = falls _ _ (c .before .loop-test .taken)
+
+loop-again : tie.Need-loop-again Inv-loop μ-loop
+loop-again c = filling-next (c .before .before .loop .inv) (c .before .before .before .pre .0) (c .before .loop-test .taken) refl
+
+returns : tie.Need-returns Inv-loop μ-loop
+returns c = filling-all (c .before .loop .inv) (c .loop-test .left)
+
+pub coefficients-spec : {M : Type 1} → statement M
+coefficients-spec =
+    tie.close
+    (tie.spec
+    Inv-loop
+    μ-loop
+    loop-holds
+    mul-of
+    add-of
+    mul-of-2
+    shared-slice-read-of
+    cast-of
+    mul-of-3
+    array-write-of
+    add-c
+    loop-less
+    loop-again
+    returns)

@@ -1,0 +1,10 @@
+-- `picking::classes::one_class` meets its contract.
+use Rattle.picking.proofs.Columns.{column-start}
+use Rattle.picking.proofs.classes.one_class.Statement.{statement}
+use Rattle.picking.proofs.classes.one_class.Tie as tie
+
+returns : tie.Need-returns
+returns c = column-start
+
+pub one-class-spec : {M : Type 1} → statement M
+one-class-spec = tie.close (tie.spec returns)

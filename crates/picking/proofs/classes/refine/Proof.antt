@@ -1,0 +1,55 @@
+-- `picking::classes::refine` meets its contract.
+use native.Mathlib.Omega.{arith}
+use Prim.Native.Nat.{_-_}
+use lib.ListN.{getD}
+use borrow.Author.Count.{falls}
+use Rattle.picking.specs.Labels.{both, lowestFrom}
+use Rattle.picking.proofs.Columns.{Filling, filling-none, filling-room, filling-next, filling-all}
+use Rattle.picking.proofs.Refined.{refined}
+use Rattle.picking.proofs.classes.refine.Statement.{statement}
+use Rattle.picking.proofs.classes.refine.Tie as tie
+
+abbrev Inv-loop : tie.InvT-loop
+Inv-loop rows labels values of₀ c₀ of c = Filling rows (λ j. lowestFrom (λ k. both (labels .of) (values .of) k j) (j - getD (labels .of) j 0) (getD (labels .of) j 0)) of c
+
+abbrev μ-loop : tie.MeasureT-loop
+μ-loop rows labels values of₀ c₀ of c = rows - c
+
+loop-holds : tie.Need-loop-holds Inv-loop μ-loop
+loop-holds c = filling-none _ _
+
+lowest-requires : tie.Need-lowest-requires Inv-loop μ-loop
+lowest-requires c κs = let h = filling-room (c .before .before .before .before .before .before .before .loop .inv) (c .before .before .before .before .before .before .before .before .pre .0) (c .before .before .before .before .before .before .loop-test .taken) in (omega (arith, c .before .before .before .lowest-arg2 .given .0), omega (arith, c .lowest-arg4 .given .0), c .before .before .before .before .before .before .before .before .pre .1 (c .before .before .before .before .before .before .before .loop .c) (c .before .before .before .before .before .before .loop-test .taken))
+
+mul-of : tie.Need-mul-of Inv-loop μ-loop
+mul-of c = omega (arith, filling-room (c .before .before .before .before .before .before .before .before .loop .inv) (c .before .before .before .before .before .before .before .before .before .pre .0) (c .before .before .before .before .before .before .before .loop-test .taken))
+
+array-write-of : tie.Need-array-write-of Inv-loop μ-loop
+array-write-of c = filling-room (c .before .before .before .before .before .before .before .before .loop .inv) (c .before .before .before .before .before .before .before .before .before .pre .0) (c .before .before .before .before .before .before .before .loop-test .taken)
+
+add-c : tie.Need-add-c Inv-loop μ-loop
+add-c c = omega (arith, c .before .before .before .before .before .before .before .loop-test .taken)
+
+loop-less : tie.Need-loop-less Inv-loop μ-loop
+loop-less c = falls _ _ (c .before .before .before .before .before .before .before .loop-test .taken)
+
+loop-again : tie.Need-loop-again Inv-loop μ-loop
+loop-again c = filling-next (c .before .before .before .before .before .before .before .before .loop .inv) (c .before .before .before .before .before .before .before .before .before .pre .0) (c .before .before .before .before .before .before .before .loop-test .taken) (c .lowest .ensures)
+
+returns : tie.Need-returns Inv-loop μ-loop
+returns c = let a = c .before .before .args in refined (a .rows) (a .t2 .of) (a .t3 .of) (c .before .before .pre .1) (filling-all (c .before .loop .inv) (c .loop-test .left))
+
+pub refine-spec : {M : Type 1} → statement M
+refine-spec =
+    tie.close
+    (tie.spec
+    Inv-loop
+    μ-loop
+    loop-holds
+    lowest-requires
+    mul-of
+    array-write-of
+    add-c
+    loop-less
+    loop-again
+    returns)

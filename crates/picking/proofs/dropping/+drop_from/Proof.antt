@@ -1,0 +1,116 @@
+-- `picking::dropping::drop_from` meets its contract. Its measure is the number of entries from place i on.
+use Prim.Native.Nat.{ℕ, _-_, _<_}
+use native.Mathlib.Numerals.{add-one-le}
+use native.Mathlib.Omega.{arith}
+use lib.ListN.{length}
+use denote.Ref.{now}
+use borrow.Author.Needs.{needs, scaled-fits}
+use Rattle.picking.proofs.Within.{entry-below}
+use Rattle.picking.proofs.Resting.{entries-length, rows-within, place-inside, place-falls, start-some, next-labels, rest-end, rest-drop, rest-keep}
+use borrow.Fn.Kinds.{In}
+use borrow.Fn.PlainCycle.{Measures, is, falls, and}
+use Rattle.picking.proofs.dropping.drop_from.Reads as drop-from
+use Rattle.picking.proofs.dropping.drop_from.Kinds as drop-from-kinds
+use Rattle.picking.proofs.dropping.+drop_from.Lts-drop_from as drop-from-lts
+use Rattle.picking.proofs.classes.all_marked.Reads as all-marked-reads
+use Rattle.picking.proofs.classes.coefficients.Reads as coefficients-reads
+use Rattle.picking.proofs.classes.refine.Reads as refine-reads
+use Rattle.picking.proofs.dropping.keep.Reads as keep-reads
+use Rattle.picking.proofs.dropping.nothing_kept.Reads as nothing-kept-reads
+use Rattle.picking.proofs.dropping.+drop_from.{statement}
+use Rattle.picking.proofs.dropping.+drop_from.Tie.{close}
+
+abbrev μ-drop-from : Measures 3 drop-from-kinds.ps ℕ
+μ-drop-from κs a = length (now (a .1 .1 .1 .1 .0)) - a .1 .1 .1 .1 .1 .0
+
+abbrev drop-from-at : ℕ → In 3 drop-from-kinds.ps
+drop-from-at t = and 3 drop-from-kinds.ps (is 3 drop-from-kinds.ps μ-drop-from t) drop-from.Pre
+
+abbrev drop-from-below : ℕ → In 3 drop-from-kinds.ps
+drop-from-below t =
+    and 3 drop-from-kinds.ps (falls 3 drop-from-kinds.ps _<_ μ-drop-from t) drop-from.Pre
+
+abbrev claims : ℕ → drop-from-lts.Claims
+claims t = (
+  nothing-kept-reads.Asked,
+  nothing-kept-reads.Learnt,
+  coefficients-reads.Asked,
+  coefficients-reads.Learnt,
+  refine-reads.Asked,
+  refine-reads.Learnt,
+  drop-from-below t,
+  drop-from.Post,
+  all-marked-reads.Asked,
+  all-marked-reads.Learnt,
+  keep-reads.Asked,
+  keep-reads.Learnt,
+)
+
+drop-from-nothing-kept-requires : (t : ℕ) → drop-from-lts.Need-nothing-kept-requires (claims t) (drop-from-at t) drop-from.Post
+drop-from-nothing-kept-requires t c κs = search needs
+
+drop-from-returns : (t : ℕ) → drop-from-lts.Need-returns (claims t) (drop-from-at t) drop-from.Post
+drop-from-returns t c = let a = c .before .before .before .before .before .args in rest-end (now (a .work)) (a .width) (a .rows) (now (a .marks)) (now (a .taken)) (a .i) (c .nothing-kept .result) (c .before .before .before .before .before .pre .1 .0 .most) (c .before .if1 .taken) (c .nothing-kept .ensures .0) (entries-length (c .nothing-kept .result .entries) (c .nothing-kept .ok .1 .1 .1 .0 .1 .0 .1)) (c .nothing-kept .ensures .1)
+
+drop-from-mul-coefficients : (t : ℕ) → drop-from-lts.Need-mul-coefficients (claims t) (drop-from-at t) drop-from.Post
+drop-from-mul-coefficients t c = let a = c .before .before .before .before .args in scaled-fits (a .i) (length (now (a .taken))) 2 (place-inside (c .before .before .before .before .pre .1 .3) (c .if1 .left)) (c .before .before .before .before .good .1 .1 .1 .1 .0 .1)
+
+drop-from-shared-slice-read-coefficients : (t : ℕ) → drop-from-lts.Need-shared-slice-read-coefficients (claims t) (drop-from-at t) drop-from.Post
+drop-from-shared-slice-read-coefficients t c = place-inside (c .before .before .before .before .before .pre .1 .3) (c .before .if1 .left)
+
+drop-from-cast-coefficients : (t : ℕ) → drop-from-lts.Need-cast-coefficients (claims t) (drop-from-at t) drop-from.Post
+drop-from-cast-coefficients t c = omega (arith, c .shared-slice-known4 .given (c .before .before .before .before .before .args .i))
+
+drop-from-coefficients-requires : (t : ℕ) → drop-from-lts.Need-coefficients-requires (claims t) (drop-from-at t) drop-from.Post
+drop-from-coefficients-requires t c κs = let a = c .before .before .before .before .before .args in (c .before .before .before .before .before .pre .1 .0 .most, c .before .before .before .before .before .pre .1 .0 .filled, entry-below (a .width) (now (a .taken)) (a .i) (c .before .before .before .before .before .pre .1 .1) (place-inside (c .before .before .before .before .before .pre .1 .3) (c .before .if1 .left)))
+
+drop-from-refine-requires : (t : ℕ) → drop-from-lts.Need-refine-requires (claims t) (drop-from-at t) drop-from.Post
+drop-from-refine-requires t c κs = (c .before .before .before .before .before .before .pre .1 .0 .most, c .before .before .before .before .before .before .pre .1 .4 .low)
+
+drop-from-add-drop-from : (t : ℕ) → drop-from-lts.Need-add-drop-from (claims t) (drop-from-at t) drop-from.Post
+drop-from-add-drop-from t c = search needs
+
+drop-from-drop-from-requires : (t : ℕ) → drop-from-lts.Need-drop-from-requires (claims t) (drop-from-at t) drop-from.Post
+drop-from-drop-from-requires t c κs = let a = c .before .before .before .before .before .before .before .args in let h = place-inside (c .before .before .before .before .before .before .before .pre .1 .3) (c .before .before .before .if1 .left) in (place-falls h (c .before .before .before .before .before .before .before .pre .0), (c .before .before .before .before .before .before .before .pre .1 .0, c .before .before .before .before .before .before .before .pre .1 .1, c .before .before .before .before .before .before .before .pre .1 .2, add-one-le h, next-labels (now (a .work)) (a .width) (a .rows) (now (a .taken)) (a .i) h (a .labels .of) (c .before .coefficients .result .of) (c .refine .result .of) (c .before .before .before .before .before .before .before .pre .1 .4) (c .before .coefficients .ensures) (c .refine .ensures)))
+
+drop-from-refine-requires-2 : (t : ℕ) → drop-from-lts.Need-refine-requires-2 (claims t) (drop-from-at t) drop-from.Post
+drop-from-refine-requires-2 t c κs = (c .before .before .before .before .before .before .before .before .pre .1 .0 .most, c .before .before .before .before .before .before .before .before .pre .1 .4 .low)
+
+drop-from-all-marked-requires : (t : ℕ) → drop-from-lts.Need-all-marked-requires (claims t) (drop-from-at t) drop-from.Post
+drop-from-all-marked-requires t c κs = (c .before .before .before .before .before .before .before .before .before .before .before .before .pre .1 .0 .marked, rows-within (c .before .before .before .before .before .before .before .before .before .before .before .before .pre .1 .0 .most) (c .all-marked-arg2 .given .0), c .before .before .before .refine2 .ensures .low)
+
+drop-from-returns-2 : (t : ℕ) → drop-from-lts.Need-returns-2 (claims t) (drop-from-at t) drop-from.Post
+drop-from-returns-2 t c = let a = c .before .before .before .before .before .before .before .before .before .before .before .before .before .before .args in rest-drop (now (a .work)) (a .width) (a .rows) (now (a .marks)) (now (a .taken)) (a .i) (c .before .before .before .before .before .before .drop-from .result) (a .labels .of) (c .before .before .before .before .before .refine2 .result .of) (place-inside (c .before .before .before .before .before .before .before .before .before .before .before .before .before .before .pre .1 .3) (c .before .before .before .before .before .before .before .before .before .before .if1 .left)) (c .before .before .before .before .before .before .drop-from .ensures) (c .before .before .before .before .before .before .before .before .before .before .before .before .before .before .pre .1 .4) (c .before .before .before .before .before .refine2 .ensures) (c .before .all-marked .ensures) (c .if2 .taken)
+
+drop-from-mul-keep : (t : ℕ) → drop-from-lts.Need-mul-keep (claims t) (drop-from-at t) drop-from.Post
+drop-from-mul-keep t c = let a = c .before .before .before .before .before .before .before .before .before .before .before .before .before .before .args in scaled-fits (a .i) (length (now (a .taken))) 2 (place-inside (c .before .before .before .before .before .before .before .before .before .before .before .before .before .before .pre .1 .3) (c .before .before .before .before .before .before .before .before .before .before .if1 .left)) (c .before .before .before .before .before .before .before .before .before .before .before .before .before .before .good .1 .1 .1 .1 .0 .1)
+
+drop-from-shared-slice-read-keep : (t : ℕ) → drop-from-lts.Need-shared-slice-read-keep (claims t) (drop-from-at t) drop-from.Post
+drop-from-shared-slice-read-keep t c = place-inside (c .before .before .before .before .before .before .before .before .before .before .before .before .before .before .before .pre .1 .3) (c .before .before .before .before .before .before .before .before .before .before .before .if1 .left)
+
+drop-from-keep-requires : (t : ℕ) → drop-from-lts.Need-keep-requires (claims t) (drop-from-at t) drop-from.Post
+drop-from-keep-requires t c κs = (c .before .before .before .before .before .before .before .before .before .before .before .before .before .before .before .pre .1 .0 .most, start-some (c .before .before .before .before .before .before .before .before .before .before .before .before .before .before .before .args .i) (c .before .before .before .before .before .before .before .before .before .before .before .before .before .before .before .pre .1 .2) (c .before .before .before .before .before .before .before .drop-from .ensures .room), c .before .before .before .before .before .before .before .drop-from .ensures .within, c .before .before .before .before .before .before .before .drop-from .ensures .labelled .low)
+
+drop-from-returns-3 : (t : ℕ) → drop-from-lts.Need-returns-3 (claims t) (drop-from-at t) drop-from.Post
+drop-from-returns-3 t c = let a = c .before .before .before .before .before .before .before .before .before .before .before .before .before .before .before .before .args in rest-keep (now (a .work)) (a .width) (a .rows) (now (a .marks)) (now (a .taken)) (a .i) (c .before .before .before .before .before .before .before .before .drop-from .result) (a .labels .of) (c .before .before .before .before .before .before .before .refine2 .result .of) (place-inside (c .before .before .before .before .before .before .before .before .before .before .before .before .before .before .before .before .pre .1 .3) (c .before .before .before .before .before .before .before .before .before .before .before .before .if1 .left)) (c .before .before .before .before .before .before .before .before .drop-from .ensures) (c .before .before .before .before .before .before .before .before .before .before .before .before .before .before .before .before .pre .1 .4) (c .before .before .before .before .before .before .before .refine2 .ensures) (c .keep .result) (c .before .before .before .before .before .before .before .before .before .before .coefficients .result .of) (c .before .before .before .all-marked .ensures) (c .before .before .if2 .left) (c .before .before .before .before .before .before .before .before .before .before .coefficients .ensures) (c .keep .ensures .0) (c .keep .ensures .1) (c .keep .ensures .2)
+
+pub +drop-from-spec : {M : Type 1} → statement M
++drop-from-spec = close μ-drop-from λ t. drop-from-lts.spec (claims t)
+    (drop-from-at t)
+    drop-from.Post
+    (drop-from-nothing-kept-requires t)
+    (drop-from-returns t)
+    (drop-from-mul-coefficients t)
+    (drop-from-shared-slice-read-coefficients t)
+    (drop-from-cast-coefficients t)
+    (drop-from-coefficients-requires t)
+    (drop-from-refine-requires t)
+    (drop-from-add-drop-from t)
+    (drop-from-drop-from-requires t)
+    (drop-from-refine-requires-2 t)
+    (drop-from-all-marked-requires t)
+    (drop-from-returns-2 t)
+    (drop-from-mul-keep t)
+    (drop-from-shared-slice-read-keep t)
+    (drop-from-keep-requires t)
+    (drop-from-returns-3 t)

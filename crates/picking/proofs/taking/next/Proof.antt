@@ -1,0 +1,68 @@
+-- `picking::taking::next` meets its contract: the entries passed are clear.
+use native.Mathlib.Omega.{arith}
+use Prim.Native.Nat.{_-_}
+use lib.ListN.{length}
+use denote.Ref.{now}
+use borrow.Author.Count.{falls}
+use Rattle.picking.specs.Matrix.{cell}
+use Rattle.picking.specs.Labels.{clear}
+use Rattle.picking.proofs.Seeking.{Seeking, seeking-none, seeking-stop, seeking-next, seeking-all, seek-idle, entry-below}
+use Rattle.picking.proofs.taking.next.Statement.{statement}
+use Rattle.picking.proofs.taking.next.Tie as tie
+
+abbrev Inv-loop : tie.InvT-loop
+Inv-loop work width labels pending scan from at₀ at = Seeking (clear (cell work width) labels pending) scan from at
+
+abbrev μ-loop : tie.MeasureT-loop
+μ-loop work width labels pending scan from at₀ at = length scan - at
+
+returns : tie.Need-returns Inv-loop μ-loop
+returns c = let a = c .before .before .before .before .before .args in seek-idle (cell (now (a .work)) (a .width)) (now (a .labels)) (now (a .pending)) (now (a .scan)) (a .from) (c .if1 .taken) (c .before .before .before .before .before .pre .2)
+
+loop-holds : tie.Need-loop-holds Inv-loop μ-loop
+loop-holds c = let a = c .before .before .before .before .before .args in seeking-none (clear (cell (now (a .work)) (a .width)) (now (a .labels)) (now (a .pending))) (now (a .scan)) (a .from) (c .before .before .before .before .before .pre .2)
+
+mul-is-clear : tie.Need-mul-is-clear Inv-loop μ-loop
+mul-is-clear c = omega arith
+
+shared-slice-read-is-clear : tie.Need-shared-slice-read-is-clear Inv-loop μ-loop
+shared-slice-read-is-clear c = c .before .loop-test .taken
+
+cast-is-clear : tie.Need-cast-is-clear Inv-loop μ-loop
+cast-is-clear c = omega (arith, c .shared-slice-known5 .given (c .before .before .loop .at))
+
+is-clear-requires : tie.Need-is-clear-requires Inv-loop μ-loop
+is-clear-requires c κs = (c .before .before .before .before .before .before .before .before .pre .0, entry-below (c .before .before .before .before .before .before .before .before .args .width) (now (c .before .before .before .before .before .before .before .before .args .scan)) (c .before .before .loop .at) (c .before .before .before .before .before .before .before .before .pre .1) (c .before .loop-test .taken))
+
+returns-2 : tie.Need-returns-2 Inv-loop μ-loop
+returns-2 c = seeking-stop (c .before .before .before .before .loop .inv) (c .before .is-clear .result) (c .before .before .before .loop-test .taken) (c .before .is-clear .ensures) (c .if2 .taken)
+
+add-at : tie.Need-add-at Inv-loop μ-loop
+add-at c = omega arith
+
+loop-less : tie.Need-loop-less Inv-loop μ-loop
+loop-less c = falls _ _ (c .before .before .before .loop-test .taken)
+
+loop-again : tie.Need-loop-again Inv-loop μ-loop
+loop-again c = seeking-next (c .before .before .before .before .loop .inv) (c .before .is-clear .result) (c .before .before .before .loop-test .taken) (c .before .is-clear .ensures) (c .if2 .left)
+
+returns-3 : tie.Need-returns-3 Inv-loop μ-loop
+returns-3 c = seeking-all (c .before .loop .inv) (c .loop-test .left)
+
+pub next-spec : {M : Type 1} → statement M
+next-spec =
+    tie.close
+    (tie.spec
+    Inv-loop
+    μ-loop
+    returns
+    loop-holds
+    mul-is-clear
+    shared-slice-read-is-clear
+    cast-is-clear
+    is-clear-requires
+    returns-2
+    add-at
+    loop-less
+    loop-again
+    returns-3)
