@@ -1,5 +1,6 @@
 -- The tests of a matrix and its marks (specs/Matrix.antt).
 --
+--   fits-told       the tests hold, as the code finds them
 --   fits-fit        what the tests tell
 --   Bounding        what a loop knows that has compared i entries with the width: all below
 --   bounding-none, bounding-stop, bounding-next, bounding-all    its start, its ways out and its step
@@ -10,9 +11,9 @@ use native.Mathlib.Nat.{le-div-iff-mul-le, div-lt-iff-lt-mul}
 use native.Mathlib.Numerals.{add-one}
 use native.Mathlib.Omega.{arith}
 use mathlib.Core.Path.{_≡_, refl, sym, ap, _∙_}
-use mathlib.Core.Bool.{Bool, true, false, _&&_, and-false}
+use mathlib.Core.Bool.{Bool, true, false, not, _&&_, and-false}
 use mathlib.Core.List.{List}
-use borrow.Author.Tests.{lt-ltb, le-ltb, leb-true, le-leb, lt-leb}
+use borrow.Author.Tests.{not-false, lt-ltb, le-ltb, leb-true, le-leb, lt-leb}
 use lib.Dec.{leb, ltb}
 use lib.ListN.{length, getD, drop, drop-of-length-le}
 use lib.Seq.{drop-cons}
@@ -72,6 +73,9 @@ module _ (work : List ℕ) (width rows : ℕ) (marks scan : List ℕ) where
   unfolding fits maxRows
   fit-entries h k l m n =
       simp (le-leb 1 rows h, le-leb rows 64 k, le-leb rows (length marks) l, le-leb 1 width m, le-leb (rows * width) (length work) (le-div-iff-mul-le m .0 n))
+
+  pub fits-told : {t : Bool} → t ≡ fits work width rows marks scan → not t ≡ false → fits work width rows marks scan ≡ true
+  fits-told {t} e n = sym e ∙ not-false t n
 
   pub fits-fit : fits work width rows marks scan ≡ true → Fit work width rows marks × (allBelow width scan ≡ true)
   unfolding fits

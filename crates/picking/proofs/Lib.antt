@@ -8,6 +8,7 @@ pub mod Within
 pub mod Fits
 pub mod Flagging
 pub mod Seeking
+pub mod Sizes
 pub mod Continued
 pub mod Resting
 pub mod Aligning

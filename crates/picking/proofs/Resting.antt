@@ -1,14 +1,11 @@
 -- Dropping by recursion: what is kept of the entries from a place on (specs/Labels.antt, `Rest`).
 --
 --   most-entries     a signature has at most 63 entries
---   entries-length   an array of entries is so long
---   rows-within      there is a place for each row in a column
 --   place-inside     a place that isn't past the last is that of an entry
 --   place-falls      fewer entries are left after it
 --   start-some       there is room before those kept
 --   start-place      the place before those kept
 --   start-back       those kept start after it
---   kept-within      they start within the array
 --   kept-front       an entry put there is kept before the others
 --   without-place    a list up to an entry, then others: without the entry
 --   front-place      the same list, the entry before the others
@@ -27,9 +24,9 @@ use native.Mathlib.Omega.{arith}
 use mathlib.Core.Path.{_≡_, refl, sym, ap, ap₂, subst, _∙_}
 use mathlib.Core.Bool.{Bool, true, false, not, cond}
 use mathlib.Core.Logic.{⊎-elim}
-use mathlib.Core.List.{List, [], _∷_, _++_, append-nil, map}
+use mathlib.Core.List.{List, [], _∷_, _++_, append-nil}
 use borrow.Author.Count.{falls}
-use lib.ListN.{length, take, drop, getD, set, length-map, drop-of-length-le}
+use lib.ListN.{length, take, drop, getD, set, drop-of-length-le}
 use lib.Seq.{take-suc, take-all, append-snoc, drop-cons, lt-length-set, getD-set-same, drop-set-lt}
 use Rattle.method.specs.Method.{without, agree, full, drops, someBelow}
 use Rattle.picking.specs.Matrix.{cell, apart, maxRows, maxEntries, signatureOf}
@@ -42,14 +39,6 @@ use Rattle.picking.proofs.Marked.{labels-full}
 pub most-entries : 63 ≡ maxEntries
 unfolding maxEntries
 most-entries = refl
-
-pub entries-length : (l : List ℕ) → length (map (λ (v : ℕ). v) l) ≡ 63 → length l ≡ maxEntries
-unfolding maxEntries
-entries-length l e = sym (length-map l (λ (v : ℕ). v)) ∙ e
-
-pub rows-within : {rows places : ℕ} → rows ≤ maxRows → places ≡ 64 → rows ≤ places
-unfolding maxRows
-rows-within h e = omega arith
 
 pub place-inside : {i n : ℕ} → i ≤ n → (i ≡ n → ⊥) → i < n
 place-inside h other = ⊎-elim (λ e. absurd (other e)) (λ l. l) (eq-or-lt-of-le h)
@@ -66,9 +55,6 @@ start-place some h = omega arith
 
 pub start-back : {start : ℕ} → 1 ≤ start → start - 1 + 1 ≡ start
 start-back some = omega arith
-
-pub kept-within : {start places : ℕ} → places ≡ maxEntries → start ≤ maxEntries → start ≤ places
-kept-within e h = omega arith
 
 pub kept-front : (l : List ℕ) (e start : ℕ) → 1 ≤ start → start ≤ length l → drop (start - 1) (set l (start - 1) e) ≡ e ∷ drop start l
 kept-front l e zero some h = absurd (not-suc-le-zero some)

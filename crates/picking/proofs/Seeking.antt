@@ -1,70 +1,44 @@
 -- Seeking the next entry that tells an open row from its label, as the code does it (specs/Labels.antt).
 --
---   array-length           an array's length, as the code knows it
---   labels-within          there is a label for each row
---   prefix-within, prefix-length   the first rows of an array are within it, and as many as asked for
 --   row-cell, label-cell   an open row's number at an entry, and its label's, stand within the work
---   entry-below            an entry of a scan within a width
 --   Clearing         what a loop knows after i open rows: they have their labels' numbers
 --   clearing-none, clearing-stop, clearing-next, clearing-all   its start, its ways out and its step
 --   Seeking          what a loop knows at a place: the entries before it are clear
 --   seeking-none, seeking-stop, seeking-next, seeking-all       its start, its ways out and its step
 --   seek-idle        with no open row, all entries are clear
 --   passing-fit      the rows below a bound that pass a test can be read
+--   seek-same        with the same open rows, the same place is sought
 --   seek-rises, seek-within   the place sought is not before the first, and within the scan
 --   seek-fails       the entry there does not pass the test
 --   seek-goes        taking passes over the entries before it
 use Prim.Native.Nat.{ℕ, zero, suc, _+_, _*_, _≤_, _<_}
-use native.Mathlib.Nat.{suc-mul, mul-le-mul-right, not-suc-le-zero, le-of-suc-le-suc, le-trans}
+use native.Mathlib.Nat.{mul-le-mul-right, not-suc-le-zero, le-of-suc-le-suc, le-refl, le-trans}
 use native.Mathlib.Numerals.{add-one}
 use native.Mathlib.Omega.{arith}
 use mathlib.Core.Path.{_≡_, refl, sym, ap, subst, _∙_}
 use mathlib.Core.Bool.{Bool, true, false, not, cond, _&&_}
-use mathlib.Core.List.{List, [], _∷_, _++_, map}
-use borrow.Author.Tests.{ltb-true, eq-eqb, ne-eqb, not-true, not-false}
-use lib.Dec.{ltb, eqb}
-use lib.ListN.{length, take, drop, getD, length-map, length-drop, drop-of-length-le}
-use lib.Seq.{length-take-le, drop-cons, drop-drop, getD-drop}
-use Rattle.bits.proofs.Tests.{and-l, and-r}
+use mathlib.Core.List.{List, [], _∷_, _++_}
+use borrow.Author.Tests.{eq-eqb, ne-eqb, not-true, not-false}
+use lib.Dec.{eqb}
+use lib.ListN.{length, drop, getD, length-drop, drop-of-length-le}
+use lib.Seq.{drop-cons, drop-drop, getD-drop}
 use Rattle.method.specs.Method.{useful, takes}
-use Rattle.picking.specs.Matrix.{allBelow, maxRows}
 use Rattle.picking.specs.Labels.{Low, passing, clear, seek, OpenFit}
 use Rattle.method.proofs.Pairs.{by-cond}
 use Rattle.method.proofs.Takes.{takes-idle}
+use Rattle.picking.proofs.Columns.{cell-within}
 
 -- ---- places
 
-pub array-length : (l : List ℕ) {n : ℕ} → length (map (λ (v : ℕ). v) l) ≡ n → length l ≡ n
-array-length l e = sym (length-map l (λ (v : ℕ). v)) ∙ e
-
-pub labels-within : (l : List ℕ) {rows : ℕ} → length (map (λ (v : ℕ). v) l) ≡ maxRows → rows ≤ maxRows → rows ≤ length l
-labels-within l e h = omega (arith, array-length l e)
-
-module _ (l : List ℕ) {count rows : ℕ} (sized : length (map (λ (v : ℕ). v) l) ≡ maxRows) (few : count ≤ rows) (most : rows ≤ maxRows) where
-  pub prefix-within : count ≤ length l
-  prefix-within = omega (arith, array-length l sized)
-
-  pub prefix-length : count ≡ length (take count l)
-  prefix-length = sym (length-take-le count l prefix-within)
-
-cell-within : (c width entry room : ℕ) → suc c * width ≤ room → entry < width → c * width + entry < room
-cell-within c width entry room h k = let s : suc c * width ≡ c * width + width = suc-mul c width in omega arith
-
 module _ {work : List ℕ} {width : ℕ} {labels rows : List ℕ} (w : OpenFit work width labels rows) where
   pub row-cell : (i entry : ℕ) → i < length rows → entry < width → getD rows i 0 * width + entry < length work
-  row-cell i entry h k = cell-within (getD rows i 0) width entry (length work) (w .filled i h) k
+  row-cell i entry h k = cell-within {rows = suc (getD rows i 0)} (le-refl (suc (getD rows i 0))) k (w .filled i h)
 
   pub label-cell : (i entry : ℕ) → i < length rows → entry < width → getD labels (getD rows i 0) 0 * width + entry < length work
   label-cell i entry h k =
       let low : getD labels (getD rows i 0) 0 ≤ getD rows i 0 = w .low i h in
-      let up : suc (getD labels (getD rows i 0) 0) ≤ suc (getD rows i 0) = omega arith in
-      cell-within (getD labels (getD rows i 0) 0) width entry (length work) (le-trans (mul-le-mul-right width up) (w .filled i h)) k
-
-pub entry-below : (width : ℕ) (scan : List ℕ) (i : ℕ) → allBelow width scan ≡ true → i < length scan → getD scan i 0 < width
-unfolding allBelow
-entry-below width [] i e h = absurd (not-suc-le-zero h)
-entry-below width (x ∷ scan) zero e h = ltb-true x width (and-l (ltb x width) (allBelow width scan) e)
-entry-below width (x ∷ scan) (suc i) e h = entry-below width scan i (and-r (ltb x width) (allBelow width scan) e) (le-of-suc-le-suc h)
+      let up : getD labels (getD rows i 0) 0 < suc (getD rows i 0) = omega arith in
+      cell-within {rows = suc (getD rows i 0)} up k (w .filled i h)
 
 -- ---- an entry
 
@@ -178,6 +152,10 @@ passing-fit work width rows labels test pending h k low e =
       filled = λ i l. le-trans (mul-le-mul-right width (passing-below test rows i l)) h;
       low = λ i l. low (getD (passing test rows) i 0) (passing-below test rows i l);
     })
+
+pub seek-same : (coef : ℕ → ℕ → ℕ) (labels : List ℕ) {p q : List ℕ} (scan : List ℕ) (from : ℕ) {at : ℕ}
+    → at ≡ seek (clear coef labels p) scan from → p ≡ q → at ≡ seek (clear coef labels q) scan from
+seek-same coef labels scan from e same = e ∙ ap (λ (l : List ℕ). seek (clear coef labels l) scan from) same
 
 -- ---- the place sought
 

@@ -4,8 +4,7 @@
 --   takes-agree         rows that agree on the scan agree on what is taken of it
 --   taken-agree         so of a needed pair what is taken tells what the scan tells
 --   taken-pair          so they have the same first pair
---   entries-taken       as many entries are taken as are counted
---   taken-within        and no more than a signature can hold
+--   taken-within        no more entries are taken than a signature can hold
 --   signature-counted   what dropping leaves, by the count
 --   concluded-alike     the answer that two rows are alike
 --   concluded-told      the answer that all needed pairs are told apart
@@ -20,7 +19,6 @@ use mathlib.Core.List.{List, [], _∷_, _++_}
 use borrow.Author.Tests.{not-true}
 use lib.Dec.{eqb}
 use lib.ListN.{length}
-use lib.Seq.{length-take-le}
 use Rattle.bits.proofs.Tests.{and-l, and-r, and-i}
 use Rattle.method.specs.Method.{Pair, agree, useful, takes, drops, signature, firstPair}
 use Rattle.picking.specs.Matrix.{cell, apart, allBelow, fits, picked, pickedBy, choiceOf, signatureOf, maxEntries}
@@ -36,6 +34,7 @@ use Rattle.method.proofs.Pairs.{by-test, by-cond}
 use Rattle.method.proofs.Agreement.{agree-both}
 use Rattle.method.proofs.Takes.{takes-tell}
 use Rattle.method.proofs.Firsts.{firstPair-same}
+use Rattle.picking.proofs.Sizes.{prefix-length}
 use Rattle.picking.proofs.Within.{takes-below}
 
 module _ {E : Type 0} (coef : ℕ → E → ℕ) (rows : ℕ) where
@@ -74,17 +73,14 @@ module _ {E : Type 0} (coef : ℕ → E → ℕ) (rows : ℕ) where
           (λ t. ap (λ (x : Bool). needed a b && x) (taken-agree a b h k t))
           (λ f. ap (λ (x : Bool). x && agree coef (takes coef rows needed [] scan) a b) f ∙ sym (ap (λ (x : Bool). x && agree coef scan a b) f)))
 
-pub entries-taken : (t : Taken) → length (t .entries) ≡ maxEntries → t .count ≤ maxEntries → length (entriesOf t) ≡ t .count
-entries-taken t e h = length-take-le (t .count) (t .entries) (omega arith)
-
 pub taken-within : (t : Taken) → length (t .entries) ≡ maxEntries → t .count ≤ maxEntries → length (entriesOf t) ≤ maxEntries
-taken-within t e h = subst (λ (n : ℕ). n ≤ maxEntries) (sym (entries-taken t e h)) h
+taken-within t e h = subst (λ (n : ℕ). n ≤ maxEntries) (prefix-length (t .entries) e h) h
 
 pub signature-counted : (work : List ℕ) (width rows : ℕ) (marks : List ℕ) (t : Taken) {s : Signature} → length (t .entries) ≡ maxEntries → t .count ≤ maxEntries
     → s ≡ signatureOf (drops (cell work width) rows (apart marks) (length (entriesOf t)) (entriesOf t))
     → s ≡ signatureOf (drops (cell work width) rows (apart marks) (t .count) (entriesOf t))
 signature-counted work width rows marks t e h made =
-    made ∙ ap (λ (n : ℕ). signatureOf (drops (cell work width) rows (apart marks) n (entriesOf t))) (entries-taken t e h)
+    made ∙ ap (λ (n : ℕ). signatureOf (drops (cell work width) rows (apart marks) n (entriesOf t))) (sym (prefix-length (t .entries) e h))
 
 module _ (work : List ℕ) (width rows : ℕ) (marks L l m : List ℕ) {two : Two} (labels : Labels rows (agree (cell work width) l) L)
     (seen : pairTold two ≡ firstPair rows (alikeMarked L marks)) where
@@ -128,7 +124,7 @@ module _ (work : List ℕ) (width rows : ℕ) (marks scan : List ℕ) where
         made
         ∙ ap₂ (λ (n : ℕ) (l : List ℕ). choiceOf (pickedBy (firstPair rows (λ a b. apart marks a b && agree (cell work width) l a b))
         (drops (cell work width) rows (apart marks) n l)))
-        (sym (entries-taken t e h) ∙ ap length same) same
+        (prefix-length (t .entries) e h ∙ ap length same) same
         ∙ ap (λ (p : Pair). choiceOf (pickedBy p (signature (cell work width) rows (apart marks) scan))) (taken-pair (cell work width) rows (apart marks) scan)
         ∙ ap (λ (x : Bool). choiceOf (cond x (pickedBy (firstPair rows (λ a b. apart marks a b && agree (cell work width) scan a b))
         (signature (cell work width) rows (apart marks) scan)) unfit))

@@ -2,7 +2,8 @@
 use lib.ListN.{replicate}
 use denote.Ref.{now}
 use borrow.Author.Needs.{needs}
-use Rattle.picking.proofs.Resting.{entries-length}
+use borrow.Author.Needs.{length-unmapped}
+use Rattle.picking.specs.Matrix.{maxEntries}
 use Rattle.isolating.proofs.Drawn.{inputs-shift, start-fits, signed-inside, signed-counted, row-asked, drawn-inside, drawn-counted, located-drawn, located-over}
 use Rattle.isolating.proofs.locate_chosen.Statement.{statement}
 use Rattle.isolating.proofs.locate_chosen.Tie as tie
@@ -17,28 +18,35 @@ mul-start : tie.Need-mul-start
 mul-start c = start-fits (c .before .before .before .before .before .before .pre) (c .before .if1 .left)
 
 array-share-prefix-entries : tie.Need-array-share-prefix-entries
-array-share-prefix-entries c = signed-inside (c .before .before .before .before .before .before .before .pre) (entries-length (c .before .before .before .before .before .before .before .args .signature .entries) (c .before .before .before .before .before .before .before .good .1 .1 .1 .1 .1 .0 .1 .1 .1 .0 .1 .0 .1))
+unfolding maxEntries
+array-share-prefix-entries c = signed-inside (c .before .before .before .before .before .before .before .pre) (length-unmapped _ (c .before .before .before .before .before .before .before .args .signature .entries) _ (c .before .before .before .before .before .before .before .good .1 .1 .1 .1 .1 .0 .1 .1 .1 .0 .1 .0 .1))
 
 slice-aggregate-readings-at : tie.Need-slice-aggregate-readings-at
-slice-aggregate-readings-at c = signed-counted (c .before .before .before .before .before .before .before .before .pre) (entries-length (c .before .before .before .before .before .before .before .before .args .signature .entries) (c .before .before .before .before .before .before .before .before .good .1 .1 .1 .1 .1 .0 .1 .1 .1 .0 .1 .0 .1))
+unfolding maxEntries
+slice-aggregate-readings-at c = signed-counted (c .before .before .before .before .before .before .before .before .pre) (length-unmapped _ (c .before .before .before .before .before .before .before .before .args .signature .entries) _ (c .before .before .before .before .before .before .before .before .good .1 .1 .1 .1 .1 .0 .1 .1 .1 .0 .1 .0 .1))
 
 slice-aggregate-readings-at-2 : tie.Need-slice-aggregate-readings-at-2
 slice-aggregate-readings-at-2 c = search needs
 
 readings-at-requires : tie.Need-readings-at-requires
-readings-at-requires c κs = row-asked (c .before .before .before .before .before .before .before .before .before .pre) (entries-length (c .before .before .before .before .before .before .before .before .before .args .signature .entries) (c .before .before .before .before .before .before .before .before .before .good .1 .1 .1 .1 .1 .0 .1 .1 .1 .0 .1 .0 .1)) (c .before .before .before .before .if1 .left)
+unfolding maxEntries
+readings-at-requires c κs = row-asked (c .before .before .before .before .before .before .before .before .before .pre) (length-unmapped _ (c .before .before .before .before .before .before .before .before .before .args .signature .entries) _ (c .before .before .before .before .before .before .before .before .before .good .1 .1 .1 .1 .1 .0 .1 .1 .1 .0 .1 .0 .1)) (c .before .before .before .before .if1 .left)
 
 array-share-prefix-entries-2 : tie.Need-array-share-prefix-entries-2
-array-share-prefix-entries-2 c = signed-inside (c .before .before .before .before .before .before .before .before .before .before .before .pre) (entries-length (c .before .before .before .before .before .before .before .before .before .before .before .args .signature .entries) (c .before .before .before .before .before .before .before .before .before .before .before .good .1 .1 .1 .1 .1 .0 .1 .1 .1 .0 .1 .0 .1))
+unfolding maxEntries
+array-share-prefix-entries-2 c = signed-inside (c .before .before .before .before .before .before .before .before .before .before .before .pre) (length-unmapped _ (c .before .before .before .before .before .before .before .before .before .before .before .args .signature .entries) _ (c .before .before .before .before .before .before .before .before .before .before .before .good .1 .1 .1 .1 .1 .0 .1 .1 .1 .0 .1 .0 .1))
 
 slice-aggregate-locate : tie.Need-slice-aggregate-locate
-slice-aggregate-locate c = signed-counted (c .before .before .before .before .before .before .before .before .before .before .before .before .pre) (entries-length (c .before .before .before .before .before .before .before .before .before .before .before .before .args .signature .entries) (c .before .before .before .before .before .before .before .before .before .before .before .before .good .1 .1 .1 .1 .1 .0 .1 .1 .1 .0 .1 .0 .1))
+unfolding maxEntries
+slice-aggregate-locate c = signed-counted (c .before .before .before .before .before .before .before .before .before .before .before .before .pre) (length-unmapped _ (c .before .before .before .before .before .before .before .before .before .before .before .before .args .signature .entries) _ (c .before .before .before .before .before .before .before .before .before .before .before .before .good .1 .1 .1 .1 .1 .0 .1 .1 .1 .0 .1 .0 .1))
 
 array-share-prefix-readings : tie.Need-array-share-prefix-readings
-array-share-prefix-readings c = let a = c .before .before .before .before .before .before .before .before .before .before .before .before .args in drawn-inside (c .before .before .before .before .before .before .before .before .before .before .before .before .pre) (entries-length (a .signature .entries) (c .before .before .before .before .before .before .before .before .before .before .before .before .good .1 .1 .1 .1 .1 .0 .1 .1 .1 .0 .1 .0 .1)) (a .circuit) (now (a .work)) (replicate 63 0) (c .before .before .readings-at .ensures)
+unfolding maxEntries
+array-share-prefix-readings c = let a = c .before .before .before .before .before .before .before .before .before .before .before .before .args in drawn-inside (c .before .before .before .before .before .before .before .before .before .before .before .before .pre) (length-unmapped _ (a .signature .entries) _ (c .before .before .before .before .before .before .before .before .before .before .before .before .good .1 .1 .1 .1 .1 .0 .1 .1 .1 .0 .1 .0 .1)) (a .circuit) (now (a .work)) (replicate 63 0) (c .before .before .readings-at .ensures)
 
 slice-aggregate-locate-2 : tie.Need-slice-aggregate-locate-2
-slice-aggregate-locate-2 c = let a = c .before .before .before .before .before .before .before .before .before .before .before .before .before .args in drawn-counted (c .before .before .before .before .before .before .before .before .before .before .before .before .before .pre) (entries-length (a .signature .entries) (c .before .before .before .before .before .before .before .before .before .before .before .before .before .good .1 .1 .1 .1 .1 .0 .1 .1 .1 .0 .1 .0 .1)) (a .circuit) (now (a .work)) (replicate 63 0) (c .before .before .before .readings-at .ensures)
+unfolding maxEntries
+slice-aggregate-locate-2 c = let a = c .before .before .before .before .before .before .before .before .before .before .before .before .before .args in drawn-counted (c .before .before .before .before .before .before .before .before .before .before .before .before .before .pre) (length-unmapped _ (a .signature .entries) _ (c .before .before .before .before .before .before .before .before .before .before .before .before .before .good .1 .1 .1 .1 .1 .0 .1 .1 .1 .0 .1 .0 .1)) (a .circuit) (now (a .work)) (replicate 63 0) (c .before .before .before .readings-at .ensures)
 
 locate-requires : tie.Need-locate-requires
 locate-requires c κs = search needs
@@ -47,7 +55,8 @@ same-length : tie.Need-same-length
 same-length c = search needs
 
 returns-2 : tie.Need-returns-2
-returns-2 c = let a = c .before .before .before .before .before .before .before .before .before .before .before .before .before .before .before .before .before .args in located-drawn (c .before .before .before .before .before .before .before .before .before .before .before .before .before .before .before .before .before .pre) (entries-length (a .signature .entries) (c .before .before .before .before .before .before .before .before .before .before .before .before .before .before .before .before .before .good .1 .1 .1 .1 .1 .0 .1 .1 .1 .0 .1 .0 .1)) (a .circuit) (now (a .work)) (replicate 63 0) (c .before .before .before .before .before .before .before .readings-at .ensures) (now (a .bytes)) (a .kind) (a .polarity) (now (a .other)) (c .before .before .before .before .before .before .before .before .before .before .before .before .if1 .left) (c .before .before .locate .ensures)
+unfolding maxEntries
+returns-2 c = let a = c .before .before .before .before .before .before .before .before .before .before .before .before .before .before .before .before .before .args in located-drawn (c .before .before .before .before .before .before .before .before .before .before .before .before .before .before .before .before .before .pre) (length-unmapped _ (a .signature .entries) _ (c .before .before .before .before .before .before .before .before .before .before .before .before .before .before .before .before .before .good .1 .1 .1 .1 .1 .0 .1 .1 .1 .0 .1 .0 .1)) (a .circuit) (now (a .work)) (replicate 63 0) (c .before .before .before .before .before .before .before .readings-at .ensures) (now (a .bytes)) (a .kind) (a .polarity) (now (a .other)) (c .before .before .before .before .before .before .before .before .before .before .before .before .if1 .left) (c .before .before .locate .ensures)
 
 pub locate-chosen-spec : {M : Type 1} → statement M
 locate-chosen-spec =

@@ -1,5 +1,9 @@
 -- `picking::all_below` meets its contract.
-use native.Mathlib.Omega.{arith}
+use native.Mathlib.Numerals.{add-one-le}
+use borrow.Author.Needs.{scaled-fits}
+use mir.Syntax.{w16}
+use mir.Facts.{fits-widen}
+use Rattle.picking.proofs.Sizes.{place-fits}
 use Prim.Native.Nat.{_-_}
 use lib.ListN.{length}
 use denote.Ref.{now}
@@ -18,19 +22,19 @@ loop-holds : tie.Need-loop-holds Inv-loop μ-loop
 loop-holds c = bounding-none (c .args .width) (now (c .args .scan))
 
 mul-if1 : tie.Need-mul-if1 Inv-loop μ-loop
-mul-if1 c = omega arith
+mul-if1 c = scaled-fits _ (length (now (c .before .before .args .scan))) 2 (c .loop-test .taken) (c .before .before .good .0 .1)
 
 shared-slice-read-if1 : tie.Need-shared-slice-read-if1 Inv-loop μ-loop
-shared-slice-read-if1 c = omega arith
+shared-slice-read-if1 c = c .before .loop-test .taken
 
 cast-if1 : tie.Need-cast-if1 Inv-loop μ-loop
-cast-if1 c = omega (arith, c .shared-slice-known .given (c .before .before .loop .i))
+cast-if1 c = fits-widen {w = w16} tt (c .shared-slice-known .given (c .before .before .loop .i))
 
 returns : tie.Need-returns Inv-loop μ-loop
 returns c = bounding-stop (c .before .before .before .loop .inv) (c .before .before .loop-test .taken) (c .if1 .taken)
 
 add-i : tie.Need-add-i Inv-loop μ-loop
-add-i c = omega arith
+add-i c = place-fits 1 (c .before .before .before .before .good .0 .1) (add-one-le (c .before .before .loop-test .taken))
 
 loop-less : tie.Need-loop-less Inv-loop μ-loop
 loop-less c = falls _ _ (c .before .before .loop-test .taken)

@@ -1,5 +1,9 @@
 -- `picking::classes::all_marked` meets its contract.
-use native.Mathlib.Omega.{arith}
+use native.Mathlib.Nat.{lt-of-lt-of-le}
+use native.Mathlib.Numerals.{add-one-le}
+use lib.ListN.{length}
+use borrow.Author.Needs.{scaled-fits}
+use mir.Facts.{fits-le}
 use Prim.Native.Nat.{_-_}
 use denote.Ref.{now}
 use borrow.Author.Count.{falls}
@@ -18,13 +22,13 @@ loop-holds : tie.Need-loop-holds Inv-loop μ-loop
 loop-holds c = let a = c .args in passed-none (stray (now (a .labels)) (now (a .marks))) (a .rows)
 
 shared-slice-read-if1 : tie.Need-shared-slice-read-if1 Inv-loop μ-loop
-shared-slice-read-if1 c = omega (arith, c .before .loop-test .taken, c .before .before .before .pre .0)
+shared-slice-read-if1 c = lt-of-lt-of-le (c .before .loop-test .taken) (c .before .before .before .pre .0)
 
 mul-if1 : tie.Need-mul-if1 Inv-loop μ-loop
-mul-if1 c = omega (arith, c .before .loop-test .taken, c .before .before .before .pre .1)
+mul-if1 c = scaled-fits _ (length (now (c .before .before .before .args .labels))) 8 (lt-of-lt-of-le (c .before .loop-test .taken) (c .before .before .before .pre .1)) (c .before .before .before .good .1 .1 .0 .1)
 
 shared-slice-read-if1-2 : tie.Need-shared-slice-read-if1-2 Inv-loop μ-loop
-shared-slice-read-if1-2 c = omega (arith, c .before .before .loop-test .taken, c .before .before .before .before .pre .1)
+shared-slice-read-if1-2 c = lt-of-lt-of-le (c .before .before .loop-test .taken) (c .before .before .before .before .pre .1)
 
 shared-slice-read-if1-3 : tie.Need-shared-slice-read-if1-3 Inv-loop μ-loop
 shared-slice-read-if1-3 c = let a = c .before .before .before .before .before .args in label-marked (a .rows) (now (a .labels)) (c .before .before .before .before .loop .c) _ (c .before .before .before .before .before .pre .2) (c .before .before .before .loop-test .taken) (c .before .before .before .before .before .pre .0)
@@ -33,7 +37,7 @@ returns : tie.Need-returns Inv-loop μ-loop
 returns c = let a = c .before .before .before .before .before .before .args in passed-stop (stray (now (a .labels)) (now (a .marks))) (a .rows) (c .before .before .before .before .loop-test .taken) (stray-found (now (a .labels)) (now (a .marks)) (c .before .before .before .before .before .loop .c) (c .if1 .taken))
 
 add-c : tie.Need-add-c Inv-loop μ-loop
-add-c c = omega (arith, c .before .before .before .before .loop-test .taken)
+add-c c = fits-le (add-one-le (c .before .before .before .before .loop-test .taken)) (c .before .before .before .before .before .before .fits .rows)
 
 loop-less : tie.Need-loop-less Inv-loop μ-loop
 loop-less c = falls _ _ (c .before .before .before .before .loop-test .taken)

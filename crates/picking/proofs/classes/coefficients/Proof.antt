@@ -1,5 +1,13 @@
 -- `picking::classes::coefficients` meets its contract.
-use native.Mathlib.Omega.{arith}
+use native.Mathlib.Nat.{le-of-lt}
+use native.Mathlib.Numerals.{add-one-le}
+use lib.Dec.{lit<}
+use lib.ListN.{length}
+use borrow.Author.Needs.{scaled-fits}
+use denote.Ref.{now}
+use mir.Syntax.{w16}
+use mir.Facts.{fits-le, fits-widen}
+use Rattle.picking.proofs.Sizes.{place-fits, start-fits}
 use Prim.Native.Nat.{_+_, _-_, _*_}
 use mathlib.Core.Path.{refl}
 use borrow.Author.Count.{falls}
@@ -18,28 +26,28 @@ loop-holds : tie.Need-loop-holds Inv-loop μ-loop
 loop-holds c = filling-none _ _
 
 mul-of : tie.Need-mul-of Inv-loop μ-loop
-mul-of c = omega (arith, cell-within (c .loop-test .taken) (c .before .before .pre .2) (c .before .before .pre .1))
+mul-of c = start-fits 1 (c .before .before .good .0 .1) (c .before .before .args .entry) (cell-within (c .loop-test .taken) (c .before .before .pre .2) (c .before .before .pre .1))
 
 add-of : tie.Need-add-of Inv-loop μ-loop
-add-of c = omega (arith, cell-within (c .loop-test .taken) (c .before .before .pre .2) (c .before .before .pre .1))
+add-of c = place-fits 1 (c .before .before .good .0 .1) (le-of-lt (cell-within (c .loop-test .taken) (c .before .before .pre .2) (c .before .before .pre .1)))
 
 mul-of-2 : tie.Need-mul-of-2 Inv-loop μ-loop
-mul-of-2 c = omega (arith, cell-within (c .loop-test .taken) (c .before .before .pre .2) (c .before .before .pre .1))
+mul-of-2 c = scaled-fits _ (length (now (c .before .before .args .work))) 2 (cell-within (c .loop-test .taken) (c .before .before .pre .2) (c .before .before .pre .1)) (c .before .before .good .0 .1)
 
 shared-slice-read-of : tie.Need-shared-slice-read-of Inv-loop μ-loop
 shared-slice-read-of c = cell-within (c .before .loop-test .taken) (c .before .before .before .pre .2) (c .before .before .before .pre .1)
 
 cast-of : tie.Need-cast-of Inv-loop μ-loop
-cast-of c = omega (arith, c .shared-slice-known .given (c .before .before .loop .c * (c .before .before .before .args .width) + (c .before .before .before .args .entry)))
+cast-of c = fits-widen {w = w16} tt (c .shared-slice-known .given (c .before .before .loop .c * (c .before .before .before .args .width) + (c .before .before .before .args .entry)))
 
 mul-of-3 : tie.Need-mul-of-3 Inv-loop μ-loop
-mul-of-3 c = omega (arith, filling-room (c .before .before .loop .inv) (c .before .before .before .pre .0) (c .before .loop-test .taken))
+mul-of-3 c = scaled-fits _ 64 8 (filling-room (c .before .before .loop .inv) (c .before .before .before .pre .0) (c .before .loop-test .taken)) (lit< tt)
 
 array-write-of : tie.Need-array-write-of Inv-loop μ-loop
 array-write-of c = filling-room (c .before .before .loop .inv) (c .before .before .before .pre .0) (c .before .loop-test .taken)
 
 add-c : tie.Need-add-c Inv-loop μ-loop
-add-c c = omega (arith, c .before .loop-test .taken)
+add-c c = fits-le (add-one-le (c .before .loop-test .taken)) (c .before .before .before .fits .rows)
 
 loop-less : tie.Need-loop-less Inv-loop μ-loop
 loop-less c = falls _ _ (c .before .loop-test .taken)

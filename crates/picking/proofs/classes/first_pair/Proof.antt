@@ -1,5 +1,6 @@
 -- `picking::classes::first_pair` meets its contract.
-use native.Mathlib.Omega.{arith}
+use native.Mathlib.Numerals.{add-one-le}
+use mir.Facts.{fits-le}
 use Prim.Native.Nat.{_-_}
 use denote.Ref.{now}
 use borrow.Author.Count.{falls}
@@ -24,7 +25,7 @@ returns : tie.Need-returns Inv-loop μ-loop
 returns c = let a = c .before .before .before .before .before .before .args in unpaired-found (a .rows) (alikeMarked (now (a .labels)) (now (a .marks))) (c .before .before .before .loop .inv) (c .before .before .loop-test .taken) (c .before .partner .ensures) (c .if1 .taken)
 
 add-a : tie.Need-add-a Inv-loop μ-loop
-add-a c = omega (arith, c .before .before .loop-test .taken)
+add-a c = fits-le (add-one-le (c .before .before .loop-test .taken)) (c .before .before .before .before .before .before .fits .rows)
 
 loop-less : tie.Need-loop-less Inv-loop μ-loop
 loop-less c = falls _ _ (c .before .before .loop-test .taken)

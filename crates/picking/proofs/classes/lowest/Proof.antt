@@ -1,10 +1,13 @@
 -- `picking::classes::lowest` meets its contract.
-use native.Mathlib.Omega.{arith}
+use native.Mathlib.Nat.{lt-trans}
+use native.Mathlib.Numerals.{add-one-le}
+use borrow.Author.Needs.{scaled-fits}
+use mir.Facts.{fits-le}
 use Prim.Native.Nat.{_-_}
 use mathlib.Core.Path.{_≡_}
 use mathlib.Core.Bool.{false}
 use mathlib.Core.Logic.{⊎-elim}
-use lib.ListN.{getD}
+use lib.ListN.{length, getD}
 use denote.Ref.{now}
 use borrow.Author.Count.{falls}
 use Rattle.picking.specs.Labels.{both}
@@ -19,7 +22,7 @@ abbrev μ-loop : tie.MeasureT-loop
 μ-loop labels values c k₀ k = c - k
 
 mul-k : tie.Need-mul-k Inv-loop μ-loop
-mul-k c = omega arith
+mul-k c = scaled-fits (c .args .c) (length (now (c .args .labels))) 8 (c .pre .0) (c .good .0 .1)
 
 shared-slice-read-k : tie.Need-shared-slice-read-k Inv-loop μ-loop
 shared-slice-read-k c = c .before .pre .0
@@ -28,25 +31,25 @@ loop-holds : tie.Need-loop-holds Inv-loop μ-loop
 loop-holds c = let a = c .before .args in matching-none (λ j. both (now (a .labels)) (now (a .values)) j (a .c)) (c .before .pre .2)
 
 mul-if1 : tie.Need-mul-if1 Inv-loop μ-loop
-mul-if1 c = omega arith
+mul-if1 c = scaled-fits _ (length (now (c .before .before .before .args .labels))) 8 (lt-trans (c .loop-test .taken) (c .before .before .before .pre .0)) (c .before .before .before .good .0 .1)
 
 shared-slice-read-if1 : tie.Need-shared-slice-read-if1 Inv-loop μ-loop
-shared-slice-read-if1 c = omega (arith, c .before .before .before .before .pre .0, c .before .loop-test .taken)
+shared-slice-read-if1 c = lt-trans (c .before .loop-test .taken) (c .before .before .before .before .pre .0)
 
 mul-if1-2 : tie.Need-mul-if1-2 Inv-loop μ-loop
-mul-if1-2 c = omega arith
+mul-if1-2 c = scaled-fits (c .before .before .before .before .args .c) (length (now (c .before .before .before .before .args .labels))) 8 (c .before .before .before .before .pre .0) (c .before .before .before .before .good .0 .1)
 
 shared-slice-read-if1-2 : tie.Need-shared-slice-read-if1-2 Inv-loop μ-loop
 shared-slice-read-if1-2 c = c .before .before .before .before .before .pre .0
 
 mul-if2 : tie.Need-mul-if2 Inv-loop μ-loop
-mul-if2 c = omega arith
+mul-if2 c = scaled-fits _ (length (now (c .before .before .before .before .before .before .args .values))) 8 (lt-trans (c .before .before .before .loop-test .taken) (c .before .before .before .before .before .before .pre .1)) (c .before .before .before .before .before .before .good .1 .0 .1)
 
 shared-slice-read-if2 : tie.Need-shared-slice-read-if2 Inv-loop μ-loop
-shared-slice-read-if2 c = omega (arith, c .before .before .before .before .before .before .before .pre .1, c .before .before .before .before .loop-test .taken)
+shared-slice-read-if2 c = lt-trans (c .before .before .before .before .loop-test .taken) (c .before .before .before .before .before .before .before .pre .1)
 
 mul-if2-2 : tie.Need-mul-if2-2 Inv-loop μ-loop
-mul-if2-2 c = omega arith
+mul-if2-2 c = scaled-fits (c .before .before .before .before .before .before .before .args .c) (length (now (c .before .before .before .before .before .before .before .args .values))) 8 (c .before .before .before .before .before .before .before .pre .1) (c .before .before .before .before .before .before .before .good .1 .0 .1)
 
 shared-slice-read-if2-2 : tie.Need-shared-slice-read-if2-2 Inv-loop μ-loop
 shared-slice-read-if2-2 c = c .before .before .before .before .before .before .before .before .pre .1
@@ -55,7 +58,7 @@ returns : tie.Need-returns Inv-loop μ-loop
 returns c = let a = c .before .before .before .before .before .before .before .before .before .args in let k = c .before .before .before .before .before .before .before .loop .k in matching-found (λ j. both (now (a .labels)) (now (a .values)) j (a .c)) (c .before .before .before .before .before .before .before .loop .inv) (c .before .before .before .before .before .before .loop-test .taken) (both-found (now (a .labels)) (now (a .values)) k (a .c) (c .before .before .before .if1 .taken) (c .if2 .taken))
 
 add-k : tie.Need-add-k Inv-loop μ-loop
-add-k c = omega (arith, c .before .before .before .loop-test .taken)
+add-k c = fits-le (add-one-le (c .before .before .before .loop-test .taken)) (c .before .before .before .before .before .before .fits .c)
 
 loop-less : tie.Need-loop-less Inv-loop μ-loop
 loop-less c = falls _ _ (c .before .before .before .loop-test .taken)

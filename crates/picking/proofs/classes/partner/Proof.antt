@@ -1,5 +1,9 @@
 -- `picking::classes::partner` meets its contract.
-use native.Mathlib.Omega.{arith}
+use native.Mathlib.Nat.{lt-of-lt-of-le}
+use native.Mathlib.Numerals.{add-one-le}
+use borrow.Author.Needs.{scaled-fits}
+use mir.Facts.{fits-le}
+use lib.ListN.{length}
 use Prim.Native.Nat.{_-_}
 use mathlib.Core.Path.{_≡_}
 use mathlib.Core.Bool.{false}
@@ -18,34 +22,34 @@ abbrev μ-loop : tie.MeasureT-loop
 μ-loop rows marks labels a b₀ b = rows - b
 
 add-b : tie.Need-add-b Inv-loop μ-loop
-add-b c = omega (arith, c .pre .2)
+add-b c = fits-le (add-one-le (c .pre .2)) (c .fits .rows)
 
 loop-holds : tie.Need-loop-holds Inv-loop μ-loop
 loop-holds c = let a = c .args in paired-none (a .rows) (a .a) (alikeMarked (now (a .labels)) (now (a .marks)) (a .a)) (c .pre .2)
 
 mul-if1 : tie.Need-mul-if1 Inv-loop μ-loop
-mul-if1 c = omega (arith, c .loop-test .taken, c .before .before .pre .1)
+mul-if1 c = scaled-fits _ (length (now (c .before .before .args .labels))) 8 (lt-of-lt-of-le (c .loop-test .taken) (c .before .before .pre .1)) (c .before .before .good .1 .1 .0 .1)
 
 shared-slice-read-if1 : tie.Need-shared-slice-read-if1 Inv-loop μ-loop
-shared-slice-read-if1 c = omega (arith, c .before .loop-test .taken, c .before .before .before .pre .1)
+shared-slice-read-if1 c = lt-of-lt-of-le (c .before .loop-test .taken) (c .before .before .before .pre .1)
 
 mul-if1-2 : tie.Need-mul-if1-2 Inv-loop μ-loop
-mul-if1-2 c = omega (arith, c .before .before .before .pre .2, c .before .before .before .pre .1)
+mul-if1-2 c = scaled-fits _ (length (now (c .before .before .before .args .labels))) 8 (lt-of-lt-of-le (c .before .before .before .pre .2) (c .before .before .before .pre .1)) (c .before .before .before .good .1 .1 .0 .1)
 
 shared-slice-read-if1-2 : tie.Need-shared-slice-read-if1-2 Inv-loop μ-loop
-shared-slice-read-if1-2 c = omega (arith, c .before .before .before .before .pre .2, c .before .before .before .before .pre .1)
+shared-slice-read-if1-2 c = lt-of-lt-of-le (c .before .before .before .before .pre .2) (c .before .before .before .before .pre .1)
 
 shared-slice-read-if2 : tie.Need-shared-slice-read-if2 Inv-loop μ-loop
-shared-slice-read-if2 c = omega (arith, c .before .before .before .before .loop-test .taken, c .before .before .before .before .before .before .pre .0)
+shared-slice-read-if2 c = lt-of-lt-of-le (c .before .before .before .before .loop-test .taken) (c .before .before .before .before .before .before .pre .0)
 
 shared-slice-read-if2-2 : tie.Need-shared-slice-read-if2-2 Inv-loop μ-loop
-shared-slice-read-if2-2 c = omega (arith, c .before .before .before .before .before .before .before .pre .2, c .before .before .before .before .before .before .before .pre .0)
+shared-slice-read-if2-2 c = lt-of-lt-of-le (c .before .before .before .before .before .before .before .pre .2) (c .before .before .before .before .before .before .before .pre .0)
 
 returns : tie.Need-returns Inv-loop μ-loop
 returns c = let a = c .before .before .before .before .before .before .before .before .args in paired-found (a .rows) (a .a) (alikeMarked (now (a .labels)) (now (a .marks)) (a .a)) (c .before .before .before .before .before .before .before .loop .inv) (c .before .before .before .before .before .before .loop-test .taken) (alike-found (now (a .labels)) (now (a .marks)) (a .a) (c .before .before .before .before .before .before .before .loop .b) (c .before .before .before .if1 .taken) (c .if2 .taken))
 
 add-b-2 : tie.Need-add-b-2 Inv-loop μ-loop
-add-b-2 c = omega (arith, c .before .before .before .loop-test .taken)
+add-b-2 c = fits-le (add-one-le (c .before .before .before .loop-test .taken)) (c .before .before .before .before .before .fits .rows)
 
 loop-less : tie.Need-loop-less Inv-loop μ-loop
 loop-less c = falls _ _ (c .before .before .before .loop-test .taken)

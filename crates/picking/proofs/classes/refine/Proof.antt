@@ -1,5 +1,9 @@
 -- `picking::classes::refine` meets its contract.
-use native.Mathlib.Omega.{arith}
+use native.Mathlib.Numerals.{add-one-le}
+use lib.Dec.{lit<}
+use borrow.Author.Needs.{scaled-fits}
+use mir.Facts.{fits-le}
+use Rattle.picking.proofs.Sizes.{count-within}
 use Prim.Native.Nat.{_-_}
 use lib.ListN.{getD}
 use borrow.Author.Count.{falls}
@@ -19,16 +23,16 @@ loop-holds : tie.Need-loop-holds Inv-loop μ-loop
 loop-holds c = filling-none _ _
 
 lowest-requires : tie.Need-lowest-requires Inv-loop μ-loop
-lowest-requires c κs = let h = filling-room (c .before .before .before .before .before .before .before .loop .inv) (c .before .before .before .before .before .before .before .before .pre .0) (c .before .before .before .before .before .before .loop-test .taken) in (omega (arith, c .before .before .before .lowest-arg2 .given .0), omega (arith, c .lowest-arg4 .given .0), c .before .before .before .before .before .before .before .before .pre .1 (c .before .before .before .before .before .before .before .loop .c) (c .before .before .before .before .before .before .loop-test .taken))
+lowest-requires c κs = let h = filling-room (c .before .before .before .before .before .before .before .loop .inv) (c .before .before .before .before .before .before .before .before .pre .0) (c .before .before .before .before .before .before .loop-test .taken) in (count-within (c .before .before .before .lowest-arg2 .given .0) h, count-within (c .lowest-arg4 .given .0) h, c .before .before .before .before .before .before .before .before .pre .1 (c .before .before .before .before .before .before .before .loop .c) (c .before .before .before .before .before .before .loop-test .taken))
 
 mul-of : tie.Need-mul-of Inv-loop μ-loop
-mul-of c = omega (arith, filling-room (c .before .before .before .before .before .before .before .before .loop .inv) (c .before .before .before .before .before .before .before .before .before .pre .0) (c .before .before .before .before .before .before .before .loop-test .taken))
+mul-of c = scaled-fits _ 64 8 (filling-room (c .before .before .before .before .before .before .before .before .loop .inv) (c .before .before .before .before .before .before .before .before .before .pre .0) (c .before .before .before .before .before .before .before .loop-test .taken)) (lit< tt)
 
 array-write-of : tie.Need-array-write-of Inv-loop μ-loop
 array-write-of c = filling-room (c .before .before .before .before .before .before .before .before .loop .inv) (c .before .before .before .before .before .before .before .before .before .pre .0) (c .before .before .before .before .before .before .before .loop-test .taken)
 
 add-c : tie.Need-add-c Inv-loop μ-loop
-add-c c = omega (arith, c .before .before .before .before .before .before .before .loop-test .taken)
+add-c c = fits-le (add-one-le (c .before .before .before .before .before .before .before .loop-test .taken)) (c .before .before .before .before .before .before .before .before .before .fits .rows)
 
 loop-less : tie.Need-loop-less Inv-loop μ-loop
 loop-less c = falls _ _ (c .before .before .before .before .before .before .before .loop-test .taken)

@@ -1,12 +1,15 @@
 -- `picking::dropping::drop_from` meets its contract. Its measure is the number of entries from place i on.
+use mir.Syntax.{w16}
+use mir.Facts.{fits-widen}
 use Prim.Native.Nat.{ℕ, _-_, _<_}
 use native.Mathlib.Numerals.{add-one-le}
-use native.Mathlib.Omega.{arith}
 use lib.ListN.{length}
 use denote.Ref.{now}
-use borrow.Author.Needs.{needs, scaled-fits}
+use borrow.Author.Needs.{scaled-fits, length-unmapped}
+use Rattle.picking.specs.Matrix.{maxRows, maxEntries}
+use Rattle.picking.proofs.Sizes.{count-within, place-fits}
 use Rattle.picking.proofs.Within.{entry-below}
-use Rattle.picking.proofs.Resting.{entries-length, rows-within, place-inside, place-falls, start-some, next-labels, rest-end, rest-drop, rest-keep}
+use Rattle.picking.proofs.Resting.{place-inside, place-falls, start-some, next-labels, rest-end, rest-drop, rest-keep}
 use borrow.Fn.Kinds.{In}
 use borrow.Fn.PlainCycle.{Measures, is, falls, and}
 use Rattle.picking.proofs.dropping.drop_from.Reads as drop-from
@@ -47,10 +50,11 @@ claims t = (
 )
 
 drop-from-nothing-kept-requires : (t : ℕ) → drop-from-lts.Need-nothing-kept-requires (claims t) (drop-from-at t) drop-from.Post
-drop-from-nothing-kept-requires t c κs = search needs
+drop-from-nothing-kept-requires t c κs = tt
 
 drop-from-returns : (t : ℕ) → drop-from-lts.Need-returns (claims t) (drop-from-at t) drop-from.Post
-drop-from-returns t c = let a = c .before .before .before .before .before .args in rest-end (now (a .work)) (a .width) (a .rows) (now (a .marks)) (now (a .taken)) (a .i) (c .nothing-kept .result) (c .before .before .before .before .before .pre .1 .0 .most) (c .before .if1 .taken) (c .nothing-kept .ensures .0) (entries-length (c .nothing-kept .result .entries) (c .nothing-kept .ok .1 .1 .1 .0 .1 .0 .1)) (c .nothing-kept .ensures .1)
+unfolding maxEntries
+drop-from-returns t c = let a = c .before .before .before .before .before .args in rest-end (now (a .work)) (a .width) (a .rows) (now (a .marks)) (now (a .taken)) (a .i) (c .nothing-kept .result) (c .before .before .before .before .before .pre .1 .0 .most) (c .before .if1 .taken) (c .nothing-kept .ensures .0) (length-unmapped _ (c .nothing-kept .result .entries) _ (c .nothing-kept .ok .1 .1 .1 .0 .1 .0 .1)) (c .nothing-kept .ensures .1)
 
 drop-from-mul-coefficients : (t : ℕ) → drop-from-lts.Need-mul-coefficients (claims t) (drop-from-at t) drop-from.Post
 drop-from-mul-coefficients t c = let a = c .before .before .before .before .args in scaled-fits (a .i) (length (now (a .taken))) 2 (place-inside (c .before .before .before .before .pre .1 .3) (c .if1 .left)) (c .before .before .before .before .good .1 .1 .1 .1 .0 .1)
@@ -59,7 +63,7 @@ drop-from-shared-slice-read-coefficients : (t : ℕ) → drop-from-lts.Need-shar
 drop-from-shared-slice-read-coefficients t c = place-inside (c .before .before .before .before .before .pre .1 .3) (c .before .if1 .left)
 
 drop-from-cast-coefficients : (t : ℕ) → drop-from-lts.Need-cast-coefficients (claims t) (drop-from-at t) drop-from.Post
-drop-from-cast-coefficients t c = omega (arith, c .shared-slice-known4 .given (c .before .before .before .before .before .args .i))
+drop-from-cast-coefficients t c = fits-widen {w = w16} tt (c .shared-slice-known4 .given (c .before .before .before .before .before .args .i))
 
 drop-from-coefficients-requires : (t : ℕ) → drop-from-lts.Need-coefficients-requires (claims t) (drop-from-at t) drop-from.Post
 drop-from-coefficients-requires t c κs = let a = c .before .before .before .before .before .args in (c .before .before .before .before .before .pre .1 .0 .most, c .before .before .before .before .before .pre .1 .0 .filled, entry-below (a .width) (now (a .taken)) (a .i) (c .before .before .before .before .before .pre .1 .1) (place-inside (c .before .before .before .before .before .pre .1 .3) (c .before .if1 .left)))
@@ -68,7 +72,7 @@ drop-from-refine-requires : (t : ℕ) → drop-from-lts.Need-refine-requires (cl
 drop-from-refine-requires t c κs = (c .before .before .before .before .before .before .pre .1 .0 .most, c .before .before .before .before .before .before .pre .1 .4 .low)
 
 drop-from-add-drop-from : (t : ℕ) → drop-from-lts.Need-add-drop-from (claims t) (drop-from-at t) drop-from.Post
-drop-from-add-drop-from t c = search needs
+drop-from-add-drop-from t c = place-fits 1 (c .before .before .before .before .before .before .before .good .1 .1 .1 .1 .0 .1) (add-one-le (place-inside (c .before .before .before .before .before .before .before .pre .1 .3) (c .before .before .before .if1 .left)))
 
 drop-from-drop-from-requires : (t : ℕ) → drop-from-lts.Need-drop-from-requires (claims t) (drop-from-at t) drop-from.Post
 drop-from-drop-from-requires t c κs = let a = c .before .before .before .before .before .before .before .args in let h = place-inside (c .before .before .before .before .before .before .before .pre .1 .3) (c .before .before .before .if1 .left) in (place-falls h (c .before .before .before .before .before .before .before .pre .0), (c .before .before .before .before .before .before .before .pre .1 .0, c .before .before .before .before .before .before .before .pre .1 .1, c .before .before .before .before .before .before .before .pre .1 .2, add-one-le h, next-labels (now (a .work)) (a .width) (a .rows) (now (a .taken)) (a .i) h (a .labels .of) (c .before .coefficients .result .of) (c .refine .result .of) (c .before .before .before .before .before .before .before .pre .1 .4) (c .before .coefficients .ensures) (c .refine .ensures)))
@@ -77,7 +81,8 @@ drop-from-refine-requires-2 : (t : ℕ) → drop-from-lts.Need-refine-requires-2
 drop-from-refine-requires-2 t c κs = (c .before .before .before .before .before .before .before .before .pre .1 .0 .most, c .before .before .before .before .before .before .before .before .pre .1 .4 .low)
 
 drop-from-all-marked-requires : (t : ℕ) → drop-from-lts.Need-all-marked-requires (claims t) (drop-from-at t) drop-from.Post
-drop-from-all-marked-requires t c κs = (c .before .before .before .before .before .before .before .before .before .before .before .before .pre .1 .0 .marked, rows-within (c .before .before .before .before .before .before .before .before .before .before .before .before .pre .1 .0 .most) (c .all-marked-arg2 .given .0), c .before .before .before .refine2 .ensures .low)
+unfolding maxRows
+drop-from-all-marked-requires t c κs = (c .before .before .before .before .before .before .before .before .before .before .before .before .pre .1 .0 .marked, count-within (c .all-marked-arg2 .given .0) (c .before .before .before .before .before .before .before .before .before .before .before .before .pre .1 .0 .most), c .before .before .before .refine2 .ensures .low)
 
 drop-from-returns-2 : (t : ℕ) → drop-from-lts.Need-returns-2 (claims t) (drop-from-at t) drop-from.Post
 drop-from-returns-2 t c = let a = c .before .before .before .before .before .before .before .before .before .before .before .before .before .before .args in rest-drop (now (a .work)) (a .width) (a .rows) (now (a .marks)) (now (a .taken)) (a .i) (c .before .before .before .before .before .before .drop-from .result) (a .labels .of) (c .before .before .before .before .before .refine2 .result .of) (place-inside (c .before .before .before .before .before .before .before .before .before .before .before .before .before .before .pre .1 .3) (c .before .before .before .before .before .before .before .before .before .before .if1 .left)) (c .before .before .before .before .before .before .drop-from .ensures) (c .before .before .before .before .before .before .before .before .before .before .before .before .before .before .pre .1 .4) (c .before .before .before .before .before .refine2 .ensures) (c .before .all-marked .ensures) (c .if2 .taken)

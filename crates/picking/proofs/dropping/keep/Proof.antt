@@ -1,24 +1,27 @@
 -- `picking::dropping::keep` meets its contract.
-use native.Mathlib.Omega.{arith}
-use borrow.Author.Needs.{needs}
-use Rattle.picking.proofs.Resting.{entries-length, start-place, start-back, kept-front, kept-within}
+use lib.Dec.{lit<}
+use borrow.Author.Needs.{scaled-fits, length-unmapped}
+use Rattle.picking.specs.Matrix.{maxEntries}
+use Rattle.picking.proofs.Sizes.{count-within}
+use Rattle.picking.proofs.Resting.{start-place, start-back, kept-front}
 use Rattle.picking.proofs.dropping.keep.Statement.{statement}
 use Rattle.picking.proofs.dropping.keep.Tie as tie
 
 sub-start : tie.Need-sub-start
-sub-start c = search needs
+sub-start c = c .before .pre .1
 
 mul-entries : tie.Need-mul-entries
-mul-entries c = omega (arith, start-place (c .before .before .pre .1) (c .before .before .pre .2))
+mul-entries c = scaled-fits _ 63 2 (start-place (c .before .before .pre .1) (c .before .before .pre .2)) (lit< tt)
 
 array-write-entries : tie.Need-array-write-entries
 array-write-entries c = start-place (c .before .before .pre .1) (c .before .before .pre .2)
 
 refine-requires : tie.Need-refine-requires
-refine-requires c κs = search needs
+refine-requires c κs = (c .before .before .pre .0, c .before .before .pre .3)
 
 returns : tie.Need-returns
-returns c = let a = c .before .before .before .args in (start-back (c .before .before .before .pre .1), kept-front (a .kept .entries) (a .entry) (a .kept .start) (c .before .before .before .pre .1) (kept-within (entries-length (a .kept .entries) (c .before .before .before .good .1 .0 .1 .1 .1 .0 .1 .0 .1)) (c .before .before .before .pre .2)), c .refine .ensures)
+unfolding maxEntries
+returns c = let a = c .before .before .before .args in (start-back (c .before .before .before .pre .1), kept-front (a .kept .entries) (a .entry) (a .kept .start) (c .before .before .before .pre .1) (count-within (length-unmapped _ (a .kept .entries) _ (c .before .before .before .good .1 .0 .1 .1 .1 .0 .1 .0 .1)) (c .before .before .before .pre .2)), c .refine .ensures)
 
 pub keep-spec : {M : Type 1} → statement M
 keep-spec = tie.close (tie.spec sub-start mul-entries array-write-entries refine-requires returns)

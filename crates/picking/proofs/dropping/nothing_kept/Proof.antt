@@ -1,11 +1,10 @@
 -- `picking::dropping::nothing_kept` meets its contract.
-use borrow.Author.Needs.{needs}
 use Rattle.picking.proofs.Resting.{most-entries}
 use Rattle.picking.proofs.dropping.nothing_kept.Statement.{statement}
 use Rattle.picking.proofs.dropping.nothing_kept.Tie as tie
 
 one-class-requires : tie.Need-one-class-requires
-one-class-requires c κs = search needs
+one-class-requires c κs = tt
 
 returns : tie.Need-returns
 returns c = (most-entries, c .one-class .ensures)

@@ -2,14 +2,13 @@
 use Prim.Native.Nat.{zero-le}
 use mathlib.Core.Path.{_∙_}
 use denote.Ref.{now}
-use borrow.Author.Needs.{needs}
 use Rattle.picking.specs.Matrix.{cell}
 use Rattle.picking.proofs.Resting.{most-entries, no-labels, rest-whole}
 use Rattle.picking.proofs.dropping.signature_of.Statement.{statement}
 use Rattle.picking.proofs.dropping.signature_of.Tie as tie
 
 one-class-requires : tie.Need-one-class-requires
-one-class-requires c κs = search needs
+one-class-requires c κs = tt
 
 drop-from-requires : tie.Need-drop-from-requires
 drop-from-requires c κs = let a = c .before .before .before .before .args in (c .before .before .before .before .pre .0, c .before .before .before .before .pre .1, c .before .before .before .before .pre .2, zero-le, no-labels (cell (now (a .work)) (a .width)) (a .rows) (now (a .taken)) (c .one-class .result .of) (c .before .before .before .before .pre .0 .most) (c .one-class .ensures))

@@ -1,5 +1,8 @@
 -- `picking::taking::is_clear` meets its contract: the open rows passed have their labels' numbers.
-use native.Mathlib.Omega.{arith}
+use native.Mathlib.Nat.{le-of-lt}
+use native.Mathlib.Numerals.{add-one-le}
+use borrow.Author.Needs.{scaled-fits}
+use Rattle.picking.proofs.Sizes.{place-fits, start-fits}
 use Prim.Native.Nat.{_-_}
 use lib.ListN.{length}
 use denote.Ref.{now}
@@ -19,37 +22,37 @@ loop-holds : tie.Need-loop-holds Inv-loop μ-loop
 loop-holds c = clearing-none (cell (now (c .args .work)) (c .args .width)) (now (c .args .labels)) (now (c .args .pending)) (c .args .entry)
 
 mul-c : tie.Need-mul-c Inv-loop μ-loop
-mul-c c = omega arith
+mul-c c = scaled-fits (c .before .loop .i) (length (now (c .before .before .args .pending))) 8 (c .loop-test .taken) (c .before .before .good .1 .1 .1 .0 .1)
 
 shared-slice-read-c : tie.Need-shared-slice-read-c Inv-loop μ-loop
 shared-slice-read-c c = c .before .loop-test .taken
 
 mul-if1 : tie.Need-mul-if1 Inv-loop μ-loop
-mul-if1 c = omega (arith, row-cell (c .before .before .before .pre .0) (c .before .before .loop .i) (c .before .before .before .args .entry) (c .before .loop-test .taken) (c .before .before .before .pre .1))
+mul-if1 c = start-fits 1 (c .before .before .before .good .0 .1) (c .before .before .before .args .entry) (row-cell (c .before .before .before .pre .0) (c .before .before .loop .i) (c .before .before .before .args .entry) (c .before .loop-test .taken) (c .before .before .before .pre .1))
 
 add-if1 : tie.Need-add-if1 Inv-loop μ-loop
-add-if1 c = omega (arith, row-cell (c .before .before .before .pre .0) (c .before .before .loop .i) (c .before .before .before .args .entry) (c .before .loop-test .taken) (c .before .before .before .pre .1))
+add-if1 c = place-fits 1 (c .before .before .before .good .0 .1) (le-of-lt (row-cell (c .before .before .before .pre .0) (c .before .before .loop .i) (c .before .before .before .args .entry) (c .before .loop-test .taken) (c .before .before .before .pre .1)))
 
 mul-if1-2 : tie.Need-mul-if1-2 Inv-loop μ-loop
-mul-if1-2 c = omega (arith, row-cell (c .before .before .before .pre .0) (c .before .before .loop .i) (c .before .before .before .args .entry) (c .before .loop-test .taken) (c .before .before .before .pre .1))
+mul-if1-2 c = scaled-fits _ (length (now (c .before .before .before .args .work))) 2 (row-cell (c .before .before .before .pre .0) (c .before .before .loop .i) (c .before .before .before .args .entry) (c .before .loop-test .taken) (c .before .before .before .pre .1)) (c .before .before .before .good .0 .1)
 
 shared-slice-read-if1 : tie.Need-shared-slice-read-if1 Inv-loop μ-loop
 shared-slice-read-if1 c = row-cell (c .before .before .before .before .pre .0) (c .before .before .before .loop .i) (c .before .before .before .before .args .entry) (c .before .before .loop-test .taken) (c .before .before .before .before .pre .1)
 
 mul-if1-3 : tie.Need-mul-if1-3 Inv-loop μ-loop
-mul-if1-3 c = omega (arith, c .before .before .before .before .pre .0 .listed (c .before .before .before .loop .i) (c .before .before .loop-test .taken))
+mul-if1-3 c = scaled-fits _ (length (now (c .before .before .before .before .args .labels))) 8 (c .before .before .before .before .pre .0 .listed (c .before .before .before .loop .i) (c .before .before .loop-test .taken)) (c .before .before .before .before .good .1 .1 .0 .1)
 
 shared-slice-read-if1-2 : tie.Need-shared-slice-read-if1-2 Inv-loop μ-loop
 shared-slice-read-if1-2 c = c .before .before .before .before .before .pre .0 .listed (c .before .before .before .before .loop .i) (c .before .before .before .loop-test .taken)
 
 mul-if1-4 : tie.Need-mul-if1-4 Inv-loop μ-loop
-mul-if1-4 c = omega (arith, label-cell (c .before .before .before .before .before .pre .0) (c .before .before .before .before .loop .i) (c .before .before .before .before .before .args .entry) (c .before .before .before .loop-test .taken) (c .before .before .before .before .before .pre .1))
+mul-if1-4 c = start-fits 1 (c .before .before .before .before .before .good .0 .1) (c .before .before .before .before .before .args .entry) (label-cell (c .before .before .before .before .before .pre .0) (c .before .before .before .before .loop .i) (c .before .before .before .before .before .args .entry) (c .before .before .before .loop-test .taken) (c .before .before .before .before .before .pre .1))
 
 add-if1-2 : tie.Need-add-if1-2 Inv-loop μ-loop
-add-if1-2 c = omega (arith, label-cell (c .before .before .before .before .before .pre .0) (c .before .before .before .before .loop .i) (c .before .before .before .before .before .args .entry) (c .before .before .before .loop-test .taken) (c .before .before .before .before .before .pre .1))
+add-if1-2 c = place-fits 1 (c .before .before .before .before .before .good .0 .1) (le-of-lt (label-cell (c .before .before .before .before .before .pre .0) (c .before .before .before .before .loop .i) (c .before .before .before .before .before .args .entry) (c .before .before .before .loop-test .taken) (c .before .before .before .before .before .pre .1)))
 
 mul-if1-5 : tie.Need-mul-if1-5 Inv-loop μ-loop
-mul-if1-5 c = omega (arith, label-cell (c .before .before .before .before .before .pre .0) (c .before .before .before .before .loop .i) (c .before .before .before .before .before .args .entry) (c .before .before .before .loop-test .taken) (c .before .before .before .before .before .pre .1))
+mul-if1-5 c = scaled-fits _ (length (now (c .before .before .before .before .before .args .work))) 2 (label-cell (c .before .before .before .before .before .pre .0) (c .before .before .before .before .loop .i) (c .before .before .before .before .before .args .entry) (c .before .before .before .loop-test .taken) (c .before .before .before .before .before .pre .1)) (c .before .before .before .before .before .good .0 .1)
 
 shared-slice-read-if1-3 : tie.Need-shared-slice-read-if1-3 Inv-loop μ-loop
 shared-slice-read-if1-3 c = label-cell (c .before .before .before .before .before .before .pre .0) (c .before .before .before .before .before .loop .i) (c .before .before .before .before .before .before .args .entry) (c .before .before .before .before .loop-test .taken) (c .before .before .before .before .before .before .pre .1)
@@ -58,7 +61,7 @@ returns : tie.Need-returns Inv-loop μ-loop
 returns c = clearing-stop (c .before .before .before .before .before .before .loop .inv) (c .before .before .before .before .before .loop-test .taken) (c .if1 .taken)
 
 add-i : tie.Need-add-i Inv-loop μ-loop
-add-i c = omega arith
+add-i c = place-fits 7 (c .before .before .before .before .before .before .before .good .1 .1 .1 .0 .1) (add-one-le (c .before .before .before .before .before .loop-test .taken))
 
 loop-less : tie.Need-loop-less Inv-loop μ-loop
 loop-less c = falls _ _ (c .before .before .before .before .before .loop-test .taken)

@@ -1,12 +1,17 @@
 -- `picking::taking::next` meets its contract: the entries passed are clear.
-use native.Mathlib.Omega.{arith}
+use native.Mathlib.Numerals.{add-one-le}
+use borrow.Author.Needs.{scaled-fits}
+use mir.Syntax.{w16}
+use mir.Facts.{fits-widen}
+use Rattle.picking.proofs.Sizes.{place-fits}
 use Prim.Native.Nat.{_-_}
 use lib.ListN.{length}
 use denote.Ref.{now}
 use borrow.Author.Count.{falls}
 use Rattle.picking.specs.Matrix.{cell}
 use Rattle.picking.specs.Labels.{clear}
-use Rattle.picking.proofs.Seeking.{Seeking, seeking-none, seeking-stop, seeking-next, seeking-all, seek-idle, entry-below}
+use Rattle.picking.proofs.Seeking.{Seeking, seeking-none, seeking-stop, seeking-next, seeking-all, seek-idle}
+use Rattle.picking.proofs.Within.{entry-below}
 use Rattle.picking.proofs.taking.next.Statement.{statement}
 use Rattle.picking.proofs.taking.next.Tie as tie
 
@@ -23,13 +28,13 @@ loop-holds : tie.Need-loop-holds Inv-loop μ-loop
 loop-holds c = let a = c .before .before .before .before .before .args in seeking-none (clear (cell (now (a .work)) (a .width)) (now (a .labels)) (now (a .pending))) (now (a .scan)) (a .from) (c .before .before .before .before .before .pre .2)
 
 mul-is-clear : tie.Need-mul-is-clear Inv-loop μ-loop
-mul-is-clear c = omega arith
+mul-is-clear c = scaled-fits _ (length (now (c .before .before .before .before .before .before .before .args .scan))) 2 (c .loop-test .taken) (c .before .before .before .before .before .before .before .good .1 .1 .1 .1 .0 .1)
 
 shared-slice-read-is-clear : tie.Need-shared-slice-read-is-clear Inv-loop μ-loop
 shared-slice-read-is-clear c = c .before .loop-test .taken
 
 cast-is-clear : tie.Need-cast-is-clear Inv-loop μ-loop
-cast-is-clear c = omega (arith, c .shared-slice-known5 .given (c .before .before .loop .at))
+cast-is-clear c = fits-widen {w = w16} tt (c .shared-slice-known5 .given (c .before .before .loop .at))
 
 is-clear-requires : tie.Need-is-clear-requires Inv-loop μ-loop
 is-clear-requires c κs = (c .before .before .before .before .before .before .before .before .pre .0, entry-below (c .before .before .before .before .before .before .before .before .args .width) (now (c .before .before .before .before .before .before .before .before .args .scan)) (c .before .before .loop .at) (c .before .before .before .before .before .before .before .before .pre .1) (c .before .loop-test .taken))
@@ -38,7 +43,7 @@ returns-2 : tie.Need-returns-2 Inv-loop μ-loop
 returns-2 c = seeking-stop (c .before .before .before .before .loop .inv) (c .before .is-clear .result) (c .before .before .before .loop-test .taken) (c .before .is-clear .ensures) (c .if2 .taken)
 
 add-at : tie.Need-add-at Inv-loop μ-loop
-add-at c = omega arith
+add-at c = place-fits 1 (c .before .before .before .before .before .before .before .before .before .before .good .1 .1 .1 .1 .0 .1) (add-one-le (c .before .before .before .loop-test .taken))
 
 loop-less : tie.Need-loop-less Inv-loop μ-loop
 loop-less c = falls _ _ (c .before .before .before .loop-test .taken)

@@ -1,5 +1,10 @@
 -- `picking::taking::open_rows` meets its contract: the open ones of the rows passed.
-use native.Mathlib.Omega.{arith}
+use native.Mathlib.Nat.{le-trans, lt-of-lt-of-le, lt-of-le-of-lt}
+use native.Mathlib.Numerals.{add-one-le}
+use lib.Dec.{lit<}
+use lib.ListN.{length}
+use borrow.Author.Needs.{scaled-fits}
+use mir.Facts.{fits-le}
 use Prim.Native.Nat.{_-_}
 use denote.Ref.{now}
 use borrow.Author.Count.{falls}
@@ -22,19 +27,18 @@ unfolding maxRows
 loop-holds c = opening-none (c .before .before .before .args .rows) (now (c .before .before .before .args .labels)) (now (c .before .before .before .args .marks))
 
 mul-label : tie.Need-mul-label Inv-loop μ-loop
-unfolding maxRows
-mul-label c = omega (arith, c .loop-test .taken, c .before .before .before .before .before .pre .0)
+mul-label c = scaled-fits _ (length (now (c .before .before .before .before .before .args .labels))) 8 (lt-of-lt-of-le (c .loop-test .taken) (c .before .before .before .before .before .pre .2)) (c .before .before .before .before .before .good .1 .1 .0 .1)
 
 shared-slice-read-label : tie.Need-shared-slice-read-label Inv-loop μ-loop
-shared-slice-read-label c = omega (arith, c .before .loop-test .taken, c .before .before .before .before .before .before .pre .2)
+shared-slice-read-label c = lt-of-lt-of-le (c .before .loop-test .taken) (c .before .before .before .before .before .before .pre .2)
 
 mul-of : tie.Need-mul-of Inv-loop μ-loop
 unfolding maxRows
-mul-of c = omega (arith, c .before .before .loop .inv .few, c .before .loop-test .taken, c .before .before .before .before .before .before .pre .0)
+mul-of c = scaled-fits _ 64 8 (lt-of-le-of-lt (c .before .before .loop .inv .few) (lt-of-lt-of-le (c .before .loop-test .taken) (c .before .before .before .before .before .before .pre .0))) (lit< tt)
 
 array-write-of : tie.Need-array-write-of Inv-loop μ-loop
 unfolding maxRows
-array-write-of c = omega (arith, c .before .before .loop .inv .few, c .before .loop-test .taken, c .before .before .before .before .before .before .pre .0)
+array-write-of c = lt-of-le-of-lt (c .before .before .loop .inv .few) (lt-of-lt-of-le (c .before .loop-test .taken) (c .before .before .before .before .before .before .pre .0))
 
 element-copy-out-opened : tie.Need-element-copy-out-opened Inv-loop μ-loop
 unfolding maxRows
@@ -44,12 +48,10 @@ opened-requires : tie.Need-opened-requires Inv-loop μ-loop
 opened-requires c κs = tt
 
 add-count : tie.Need-add-count Inv-loop μ-loop
-unfolding maxRows
-add-count c = let next = opening-next (c .before .before .before .before .before .split-classes .result .of) (c .opened .result) (c .before .before .before .before .loop .inv) (c .before .before .before .before .before .split-classes .ensures) (c .before .before .before .loop-test .taken) (c .before .before .before .before .before .before .before .before .pre .0) (c .before .before .before .before .before .before .before .before .pre .3) (c .opened .ensures) in omega (arith, next .few, c .before .before .before .loop-test .taken, c .before .before .before .before .before .before .before .before .pre .0)
+add-count c = let next = opening-next (c .before .before .before .before .before .split-classes .result .of) (c .opened .result) (c .before .before .before .before .loop .inv) (c .before .before .before .before .before .split-classes .ensures) (c .before .before .before .loop-test .taken) (c .before .before .before .before .before .before .before .before .pre .0) (c .before .before .before .before .before .before .before .before .pre .3) (c .opened .ensures) in fits-le (le-trans (next .few) (add-one-le (c .before .before .before .loop-test .taken))) (c .before .before .before .before .before .before .before .before .fits .rows)
 
 add-c : tie.Need-add-c Inv-loop μ-loop
-unfolding maxRows
-add-c c = omega (arith, c .before .before .before .loop-test .taken, c .before .before .before .before .before .before .before .before .pre .0)
+add-c c = fits-le (add-one-le (c .before .before .before .loop-test .taken)) (c .before .before .before .before .before .before .before .before .fits .rows)
 
 loop-less : tie.Need-loop-less Inv-loop μ-loop
 loop-less c = falls _ _ (c .before .before .before .loop-test .taken)

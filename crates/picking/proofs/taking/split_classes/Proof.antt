@@ -1,5 +1,9 @@
 -- `picking::taking::split_classes` meets its contract: the classes of the rows passed that hold two marks.
-use native.Mathlib.Omega.{arith}
+use native.Mathlib.Nat.{lt-of-lt-of-le}
+use native.Mathlib.Numerals.{add-one-le}
+use lib.ListN.{length}
+use borrow.Author.Needs.{scaled-fits}
+use mir.Facts.{fits-le}
 use Prim.Native.Nat.{_-_}
 use denote.Ref.{now}
 use borrow.Author.Count.{falls}
@@ -19,18 +23,17 @@ unfolding maxRows
 loop-holds c = flagging-none (c .before .before .args .rows) (now (c .before .before .args .labels)) (now (c .before .before .args .marks))
 
 mul-label : tie.Need-mul-label Inv-loop μ-loop
-unfolding maxRows
-mul-label c = omega (arith, c .loop-test .taken, c .before .before .before .before .pre .0)
+mul-label c = scaled-fits _ (length (now (c .before .before .before .before .args .labels))) 8 (lt-of-lt-of-le (c .loop-test .taken) (c .before .before .before .before .pre .2)) (c .before .before .before .before .good .1 .1 .0 .1)
 
 shared-slice-read-label : tie.Need-shared-slice-read-label Inv-loop μ-loop
-shared-slice-read-label c = omega (arith, c .before .loop-test .taken, c .before .before .before .before .before .pre .2)
+shared-slice-read-label c = lt-of-lt-of-le (c .before .loop-test .taken) (c .before .before .before .before .before .pre .2)
 
 array-read-either : tie.Need-array-read-either Inv-loop μ-loop
 unfolding maxRows
 array-read-either c = label-below maxRows (now (c .before .before .before .before .before .args .labels)) (c .before .before .loop .c) (c .before .before .before .before .before .pre .3) (c .before .loop-test .taken) (c .before .before .before .before .before .pre .0)
 
 shared-slice-read-either : tie.Need-shared-slice-read-either Inv-loop μ-loop
-shared-slice-read-either c = omega (arith, c .before .before .loop-test .taken, c .before .before .before .before .before .before .pre .1)
+shared-slice-read-either c = lt-of-lt-of-le (c .before .before .loop-test .taken) (c .before .before .before .before .before .before .pre .1)
 
 shared-slice-read-either-2 : tie.Need-shared-slice-read-either-2 Inv-loop μ-loop
 shared-slice-read-either-2 c = label-below _ (now (c .before .before .before .before .before .before .before .args .labels)) (c .before .before .before .before .loop .c) (c .before .before .before .before .before .before .before .pre .3) (c .before .before .before .loop-test .taken) (c .before .before .before .before .before .before .before .pre .1)
@@ -43,8 +46,7 @@ unfolding maxRows
 array-write-of c = label-below maxRows (now (c .before .before .before .before .before .before .before .before .args .labels)) (c .before .before .before .before .before .loop .c) (c .before .before .before .before .before .before .before .before .pre .3) (c .before .before .before .before .loop-test .taken) (c .before .before .before .before .before .before .before .before .pre .0)
 
 add-c : tie.Need-add-c Inv-loop μ-loop
-unfolding maxRows
-add-c c = omega (arith, c .before .before .before .before .loop-test .taken, c .before .before .before .before .before .before .before .before .pre .0)
+add-c c = fits-le (add-one-le (c .before .before .before .before .loop-test .taken)) (c .before .before .before .before .before .before .before .before .fits .rows)
 
 loop-less : tie.Need-loop-less Inv-loop μ-loop
 loop-less c = falls _ _ (c .before .before .before .before .loop-test .taken)
