@@ -17,7 +17,10 @@ use Rattle.picking.specs.Labels.{passing}
 use Rattle.method.specs.Method.{without, someBelow, agree, somePair, useful, full, takes, drops, signature, pairWith, pairFrom}
 use Rattle.choosing.specs.Choosing.{scanTo, chosenOf}
 use lib.Count.{onesIn, ones}
-use Rattle.examples.specs.Examples.{holds, allHold, jobA, examples}
+use Rattle.spectra.specs.Operations.{circuitSpectra}
+use Rattle.picking.specs.Matrix.{maxEntries, zeros}
+use Rattle.sheet.specs.Sheet.{inputsWord, gatesWord, faultsWord, signatureWord, digits, decimal, numbersText, circuitLines}
+use Rattle.examples.specs.Examples.{holds, allHold, jobA, sheetA, examples}
 
 pub examples-hold : allHold examples ≡ true
 unfolding
@@ -25,6 +28,7 @@ unfolding
     allHold
     examples
     jobA
+    sheetA
     bitsOf
     valueFrom
     valueOf
@@ -54,6 +58,7 @@ unfolding
     fromOutput
     fromGates
     wholeJob
+    circuitSpectra maxEntries zeros inputsWord gatesWord faultsWord signatureWord digits decimal numbersText circuitLines
     answers answer inputValue gateValue ownValue valuesTo bridged fixedBy fixingOf circuitEntry circuitTable
     passing without someBelow agree somePair useful full takes drops signature pairWith pairFrom scanTo chosenOf onesIn ones
     reading bytesTo bytesOf tabulate packed entry zeroFrom tableOk spectrumOf sameNumbers isSpectrum undoneOf inside sumTo subsetSum coefficient spectrum recovered

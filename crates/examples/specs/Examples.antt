@@ -2,7 +2,7 @@
 --
 --   Example    a call and what it is to answer
 --   holds      the definitions answer so
---   jobA       "job A" of the report program
+--   jobA, sheetA   "job A" of the report program, and what it prints
 --   examples   the list
 use Prim.Native.Nat.{ℕ, _^_}
 use mathlib.Core.Bool.{Bool, true, false, _&&_}
@@ -19,6 +19,8 @@ use Rattle.choosing.specs.Choosing.{Finding, Choice, chosenOf}
 use Rattle.choosing.specs.Choosing.Finding.{chosen, alike}
 use Rattle.choosing.specs.declared.Purpose.{Purpose}
 use Rattle.choosing.specs.declared.Purpose.the-variants.{Isolating, Detecting}
+use Rattle.picking.specs.Matrix.{zeros}
+use Rattle.sheet.specs.Sheet.{reportText}
 
 pub data Example : Type 0 where
   -- the bytes are refused with a number
@@ -35,6 +37,8 @@ pub data Example : Type 0 where
   chooses : Purpose → List ℕ → Kind → List ℕ → Example
   -- or the pair of circuits that are alike
   chooses-not : Purpose → List ℕ → Kind → ℕ → ℕ → Example
+  -- the report program prints this text for the bytes
+  prints : List ℕ → List ℕ → Example
 
 abbrev pub isRefused : {A : Type 0} → Answer A → ℕ → Bool
 isRefused (gives a) k = false
@@ -69,6 +73,7 @@ holds (undoes n numbers kind k s) = fillsWith (undoneOf n numbers kind k (2 ^ n)
 holds (undoes-not n numbers kind k e) = isRefused (undoneOf n numbers kind k (2 ^ n)) e
 holds (chooses purpose s kind numbers) = choosesSo (chosenOf purpose s kind 0 16) (λ c. isSignature (c .finding) (c .entries) numbers)
 holds (chooses-not purpose s kind a b) = choosesSo (chosenOf purpose s kind 0 16) (λ c. isPair (c .finding) a b)
+holds (prints s text) = sameNumbers (reportText s (zeros 16)) text
 
 unfoldable pub allHold : List Example → Bool
 allHold [] = true
@@ -76,6 +81,23 @@ allHold (e ∷ es) = holds e && allHold es
 
 unfoldable pub jobA : List ℕ
 jobA = 0x20 ∷ 0x20 ∷ 0x00 ∷ 0x10 ∷ 0x41 ∷ 0x80 ∷ 0x00 ∷ 0x20 ∷ 0x00 ∷ 0x20 ∷ 0x40 ∷ 0x80 ∷ []
+
+-- what the report program prints for job A, line by line
+unfoldable pub sheetA : List ℕ
+sheetA =
+    -- inputs 2 gates 1 faults 3
+    105 ∷ 110 ∷ 112 ∷ 117 ∷ 116 ∷ 115 ∷ 32 ∷ 50 ∷ 32 ∷ 103 ∷ 97 ∷ 116 ∷ 101 ∷ 115 ∷ 32 ∷ 49 ∷ 32 ∷ 102 ∷ 97 ∷ 117 ∷ 108 ∷ 116 ∷ 115 ∷ 32 ∷ 51 ∷ 10
+    -- signature 1 3
+    ∷ 115 ∷ 105 ∷ 103 ∷ 110 ∷ 97 ∷ 116 ∷ 117 ∷ 114 ∷ 101 ∷ 32 ∷ 49 ∷ 32 ∷ 51 ∷ 10
+    -- 0 0 1
+    ∷ 48 ∷ 32 ∷ 48 ∷ 32 ∷ 49 ∷ 10
+    -- 1 0 0
+    ∷ 49 ∷ 32 ∷ 48 ∷ 32 ∷ 48 ∷ 10
+    -- 2 0 2
+    ∷ 50 ∷ 32 ∷ 48 ∷ 32 ∷ 50 ∷ 10
+    -- 3 1 2
+    ∷ 51 ∷ 32 ∷ 49 ∷ 32 ∷ 50 ∷ 10
+    ∷ []
 
 unfoldable pub examples : List Example
 examples =
@@ -102,4 +124,6 @@ examples =
     ∷ chooses Detecting jobA Rm (3 ∷ [])
     -- P10
     ∷ chooses-not Isolating (0x20 ∷ 0x20 ∷ 0x00 ∷ 0x10 ∷ 0x40 ∷ 0xc0 ∷ 0x00 ∷ 0x80 ∷ []) Mrm 0 1
+    -- the report program on job A
+    ∷ prints jobA sheetA
     ∷ []

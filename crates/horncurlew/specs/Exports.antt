@@ -1,0 +1,95 @@
+-- What the exported operations answer: the document's number, 0 for success, and its values; unused places are 0.
+--
+--   kindOf, purposeOf      0 is RM and isolating, any other number MRM and detecting
+--   numberOf               the number of an answer
+--   Numbered, numbered     the number, and the lent memory at exit
+--   jobOf                  a job's counts
+--   rewrittenOf            a job read, and written again
+--   lengthOf, foundOf, choiceOf, locationOf, reportOf   the answers of the operations that give values
+use Prim.Native.Nat.{ℕ, zero, suc}
+use mathlib.Core.List.{List}
+use lib.ListN.{length}
+use Rattle.bits.specs.Answer.{Answer, Fills, Leaves, leaves, onward}
+use Rattle.bits.specs.Answer.Answer.{gives, refused}
+use Rattle.job.specs.declared.Job.{Job}
+use Rattle.reading.specs.Reading.{reading}
+use Rattle.writing.specs.Writing.{written}
+use Rattle.spectra.specs.declared.Kind.{Kind}
+use Rattle.spectra.specs.declared.Kind.the-variants.{Rm, Mrm}
+use Rattle.picking.specs.declared.Signature.{Signature}
+use Rattle.choosing.specs.Choosing.{Finding, Chose}
+use Rattle.choosing.specs.Choosing.Finding.{chosen, alike}
+use Rattle.choosing.specs.declared.Purpose.{Purpose}
+use Rattle.choosing.specs.declared.Purpose.the-variants.{Isolating, Detecting}
+use Rattle.locating.specs.Locating.{Location}
+use Rattle.locating.specs.Locating.Location.{alone, several, nowhere}
+use Rattle.sheet.specs.declared.Reported.{Reported}
+use Rattle.sheet.specs.declared.Reported.the-variants.{Written, Short}
+use Rattle.horncurlew.specs.declared.ReportAnswer.{ReportAnswer}
+use Rattle.horncurlew.specs.declared.JobAnswer.{JobAnswer}
+use Rattle.horncurlew.specs.declared.LengthAnswer.{LengthAnswer}
+use Rattle.horncurlew.specs.declared.ChoiceAnswer.{ChoiceAnswer}
+use Rattle.horncurlew.specs.declared.LocationAnswer.{LocationAnswer}
+
+abbrev pub kindOf : ℕ → Kind
+kindOf zero = Rm
+kindOf (suc k) = Mrm
+
+abbrev pub purposeOf : ℕ → Purpose
+purposeOf zero = Isolating
+purposeOf (suc p) = Detecting
+
+abbrev pub numberOf : {A : Type 0} → Answer A → ℕ
+numberOf (gives a) = 0
+numberOf (refused k) = k
+
+pub record Numbered : Type 0 where
+  pub number : ℕ
+  pub memory : List ℕ
+
+abbrev pub numbered : {A : Type 0} → Leaves A → Numbered
+numbered l = record { number = numberOf (l .answer); memory = l .memory }
+
+abbrev pub jobOf : Answer Job → JobAnswer
+jobOf (gives j) = record { number = 0; inputs = j .inputs; gates = j .«gate_count»; faults = j .«fault_count» }
+jobOf (refused k) = record { number = k; inputs = 0; gates = 0; faults = 0 }
+
+abbrev pub lengthOf : Answer ℕ → LengthAnswer
+lengthOf (gives n) = record { number = 0; length = n }
+lengthOf (refused k) = record { number = k; length = 0 }
+
+-- reading's refusals; then writing's
+abbrev pub rewrittenOf : List ℕ → ℕ → Answer (Fills ℕ)
+rewrittenOf s room = onward (reading s) (λ j. written j room)
+
+abbrev pub foundOf : Answer Finding → Signature → ChoiceAnswer
+foundOf (gives (chosen c)) s =
+    record {
+      number = 0;
+      first = 0;
+      second = 0;
+      inputs = c .inputs;
+      gates = c .gates;
+      faults = c .faults;
+      count = s .count;
+      entries = s .entries;
+    }
+foundOf (gives (alike a b)) s =
+    record { number = 15; first = a; second = b; inputs = 0; gates = 0; faults = 0; count = s .count; entries = s .entries }
+foundOf (refused k) s =
+    record { number = k; first = 0; second = 0; inputs = 0; gates = 0; faults = 0; count = s .count; entries = s .entries }
+
+abbrev pub choiceOf : Chose → ChoiceAnswer
+choiceOf c = foundOf (c .answer) (c .signature)
+
+-- the number of agreeing circuits, and the lowest of them
+abbrev pub locationOf : Answer Location → LocationAnswer
+locationOf (gives (alone c)) = record { number = 0; agreeing = 1; circuit = c }
+locationOf (gives (several c count)) = record { number = 0; agreeing = count; circuit = c }
+locationOf (gives nowhere) = record { number = 0; agreeing = 0; circuit = 0 }
+locationOf (refused k) = record { number = k; agreeing = 0; circuit = 0 }
+
+-- 1 with the text's length, or 0 where there was less room than the longest text has
+abbrev pub reportOf : Reported → ReportAnswer
+reportOf (Written n) = record { written = 1; length = n }
+reportOf Short = record { written = 0; length = 0 }

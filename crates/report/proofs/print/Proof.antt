@@ -1,0 +1,21 @@
+-- `report::print` is safe and ends: the bytes lie within the text.
+use mathlib.Core.Path.{sym}
+use lib.Seq.{length-take-le}
+use borrow.Author.Needs.{needs}
+use Rattle.report.proofs.print.Statement.{statement}
+use Rattle.report.proofs.print.Tie as tie
+
+least-requires : tie.Need-least-requires
+least-requires c κs = search needs
+
+slice-aggregate-write-all : tie.Need-slice-aggregate-write-all
+slice-aggregate-write-all c = sym (length-take-le (c .before .least .result) (c .before .before .before .args .text .now) (c .before .least .ensures .1))
+
+write-all-requires : tie.Need-write-all-requires
+write-all-requires c κs = search needs
+
+returns : tie.Need-returns
+returns c = search needs
+
+pub print-spec : {M : Type 1} → statement M
+print-spec = tie.close (tie.spec least-requires slice-aggregate-write-all write-all-requires returns)

@@ -1,0 +1,9 @@
+pub mod Widths
+pub mod Longest
+pub mod Placed
+pub mod Decimals
+pub mod Pieces
+pub mod Lines
+pub mod Circuits
+pub mod Told
+pub mod Printing

@@ -1,0 +1,174 @@
+-- No text of the report is longer than the longest (specs/Sheet.antt).
+--
+--   Small, sheet-width   a sheet of a small job fits in maxText bytes
+--   Limits, job-limits   a valid job's counts, in numbers
+--   job-small            a valid job is small: its signature, and its coefficients in the work
+--   decided-width        the text fits where nothing is refused: a sheet or a pair
+--   text-bounded         every text fits in maxText bytes
+use Prim.Native.Nat.{ℕ, _+_, _*_, _^_, _≤_, _<_}
+use native.Mathlib.Nat.{le-refl, mul-le-mul-right}
+use native.Mathlib.Omega.{arith}
+use mathlib.Core.Path.{_≡_, refl, sym, subst, _∙_}
+use mathlib.Core.Bool.{Bool, true, false, _&&_}
+use mathlib.Core.List.{List, _++_, List·Memᴰ, Memᴰ·of-map}
+use borrow.Author.Tests.{ltb-true}
+use lib.Dec.{leb, lit≤}
+use lib.ListN.{length, getD, drop, length-append, length-map, List·getD-append}
+use lib.Pow.{pow-mono}
+use lib.Seq.{take-at}
+use Rattle.bits.specs.Answer.{Answer, Fills, unless, onward}
+use Rattle.bits.specs.Answer.Answer.{gives, refused}
+use Rattle.job.specs.Check.{Valid}
+use Rattle.job.specs.Layout.{maxInputs, maxGates, maxFaults}
+use Rattle.job.specs.declared.Job.{Job}
+use Rattle.reading.specs.Reading.{reading}
+use Rattle.reading.proofs.Refusals.{reading-refused}
+use Rattle.reading.proofs.Valid.{reading-valid}
+use Rattle.tables.specs.Circuit.{circuitEntry}
+use Rattle.tables.specs.Operations.{countsOf}
+use Rattle.tables.specs.declared.Counts.{Counts}
+use Rattle.spectra.specs.Operations.{polarityOk, circuitSpectra}
+use Rattle.spectra.specs.declared.Kind.the-variants.{Mrm}
+use Rattle.spectra.proofs.Bounds.{coefficient-le}
+use Rattle.spectra.proofs.Delivered.{entry-bit}
+use Rattle.spectra.proofs.WorkPlaces.{length-circuitSpectra, circuitSpectra-at}
+use Rattle.method.specs.Method.{Pair}
+use Rattle.method.specs.Method.Pair.{nobody, pair}
+use Rattle.method.proofs.Firsts.{firstPair-pair}
+use Rattle.method.proofs.Signatures.{signature-from, signature-bounded}
+use Rattle.picking.specs.Matrix.{signatureOf}
+use Rattle.picking.proofs.Columns.{cell-within}
+use Rattle.choosing.specs.Choosing.{Choice, needed, scanOrder, coefOf, signatureIn, sameTables, alikePair, choiceBy, chosenOf, chose}
+use Rattle.choosing.specs.declared.Purpose.the-variants.{Isolating}
+use Rattle.choosing.proofs.Indices.{scan-below}
+use Rattle.locating.specs.Scanning.{numbersAt}
+use Rattle.sheet.specs.Sheet.{circuitLines, countsLine, signatureLine, numbersText, sheet, sheetText, listOf, textOf, reportText, maxText}
+use Rattle.sheet.proofs.Widths.{numbers-width, counts-width, signature-width, circuits-width, refused-width, alike-width}
+
+-- 28 + 262 + 64 × 255
+most-text : 16610 ≤ maxText
+unfolding maxText
+most-text = lit≤ tt
+
+-- ---- a sheet
+
+record Small (counts : Counts) (list work : List ℕ) : Type 0 where
+  inputs-few : counts .inputs < 10
+  gates-few : counts .gates < 100
+  faults-few : counts .faults ≤ 63
+  short : length list ≤ 63
+  indices : (e : ℕ) → List·Memᴰ e list → e < 1000
+  numbers : (c e : ℕ) → c < counts .faults + 1 → List·Memᴰ e list → getD work (c * 2 ^ (counts .inputs) + e) 0 < 1000
+
+row-width : (work : List ℕ) (start : ℕ) (list : List ℕ) → length list ≤ 63 → ((e : ℕ) → List·Memᴰ e list → getD work (start + e) 0 < 1000)
+    → length (numbersText (numbersAt work start list)) ≤ 252
+row-width work start list short below =
+    let at : ℕ → ℕ = λ e. getD work (start + e) 0 in
+    let wide = numbers-width (numbersAt work start list) (λ v m.
+    let r = Memᴰ·of-map at list m in
+    subst (λ (x : ℕ). x < 1000) (r .2) (below (r .0) (r .1))) in
+    let same = length-map list at in
+    omega arith
+
+sheet-width : (counts : Counts) (list work : List ℕ) → Small counts list work → length (sheet counts list work) ≤ maxText
+sheet-width counts list work s =
+    let rows : ℕ → List ℕ = λ c. numbersAt work (c * 2 ^ (counts .inputs)) list in
+    let first = counts-width counts (s .inputs-few) (s .gates-few) (omega (arith, s .faults-few)) in
+    let second = signature-width list (s .indices) in
+    let rest : length (circuitLines rows (counts .faults + 1)) ≤ (counts .faults + 1) * 255 =
+    circuits-width rows 252 (counts .faults + 1) (omega (arith, s .faults-few))
+    (λ c h. row-width work (c * 2 ^ (counts .inputs)) list (s .short) (λ e m. s .numbers c e h m)) in
+    let many : (counts .faults + 1) * 255 ≤ 64 * 255 = mul-le-mul-right {n = 64} 255 (omega (arith, s .faults-few)) in
+    let whole = length-append (countsLine counts ++ signatureLine list) (circuitLines rows (counts .faults + 1)) in
+    let front = length-append (countsLine counts) (signatureLine list) in
+    let most = most-text in
+    omega (arith, s .short)
+
+-- ---- a job
+
+record Limits (j : Job) : Type 0 where
+  inputs-few : j .inputs < 10
+  gates-few : j .«gate_count» < 100
+  faults-few : j .«fault_count» ≤ 63
+  size-small : 2 ^ (j .inputs) ≤ 256
+
+job-limits : (j : Job) → Valid j → Limits j
+unfolding maxInputs maxGates maxFaults
+job-limits j v =
+    record {
+      inputs-few = omega (arith, v .few);
+      gates-few = omega (arith, v .gates-few);
+      faults-few = v .faults-few;
+      size-small = pow-mono {j = 8} (v .few);
+    }
+
+module _ (j : Job) (v : Valid j) (below : 0 < 2 ^ (j .inputs)) where
+  abbrev signed : List ℕ
+  signed = signatureIn Isolating Mrm 0 j
+
+  abbrev filled : List ℕ
+  filled = circuitSpectra Mrm 0 j (j .«fault_count» + 1)
+
+  signed-below : (e : ℕ) → List·Memᴰ e signed → e < 2 ^ (j .inputs)
+  signed-below e m = scan-below (j .inputs) (signature-from (coefOf Mrm 0 j) (j .«fault_count» + 1) (needed Isolating) (scanOrder (j .inputs)) m)
+
+  number-small : (rest : List ℕ) (c e : ℕ) → c < j .«fault_count» + 1 → e < 2 ^ (j .inputs)
+      → getD (filled ++ rest) (c * 2 ^ (j .inputs) + e) 0 ≤ 2 ^ (j .inputs)
+  number-small rest c e h l =
+      let long : length filled ≡ (j .«fault_count» + 1) * 2 ^ (j .inputs) = length-circuitSpectra Mrm 0 j (j .«fault_count» + 1) in
+      let inside : c * 2 ^ (j .inputs) + e < length filled =
+      subst (λ (x : ℕ). c * 2 ^ (j .inputs) + e < x) (sym long) (cell-within h l (le-refl _)) in
+      subst (λ (x : ℕ). x ≤ 2 ^ (j .inputs))
+      (sym (List·getD-append filled rest 0 (c * 2 ^ (j .inputs) + e) inside ∙ circuitSpectra-at Mrm 0 j (j .«fault_count» + 1) c e h l))
+      (coefficient-le Mrm (j .inputs) 0 (circuitEntry j c) e (λ m _. entry-bit j c m v) below)
+
+  job-small : (rest : List ℕ) → Small (countsOf j) signed (filled ++ rest)
+  job-small rest =
+      let limits = job-limits j v in
+      let few = signature-bounded (coefOf Mrm 0 j) (j .«fault_count» + 1) (needed Isolating) (scanOrder (j .inputs)) (omega arith) in
+      record {
+        inputs-few = limits .inputs-few;
+        gates-few = limits .gates-few;
+        faults-few = limits .faults-few;
+        short = omega arith;
+        indices = λ e m. omega (arith, signed-below e m);
+        numbers = λ c e h m. omega (arith, number-small rest c e h (signed-below e m));
+      }
+
+  decided-width : (rest : List ℕ) (p : Pair) → alikePair Isolating j ≡ p
+      → length (sheetText (gives (choiceBy p (countsOf j) signed .finding)) (listOf (signatureOf (choiceBy p (countsOf j) signed .entries))) (filled ++ rest)) ≤ maxText
+  decided-width rest nobody e =
+      let taken : listOf (signatureOf signed) ≡ signed = take-at signed _ (length signed) refl in
+      rw taken (sheet-width (countsOf j) signed (filled ++ rest) (job-small rest))
+  decided-width rest (pair a b) e =
+      let limits = job-limits j v in
+      let found = firstPair-pair (j .«fault_count» + 1) (λ a b. needed Isolating a b && sameTables j a b) a b e in
+      let wide = alike-width a b (omega (arith, found .0, found .1)) (omega (arith, found .1)) in
+      let most = most-text in
+      omega arith
+
+-- ---- an answer
+
+by-onward : {A B : Type 0} (P : Answer B → Type 0) (r : Answer A) (f : A → Answer B) → ((i : ℕ) → r ≡ refused i → P (refused i))
+    → ((a : A) → r ≡ gives a → P (f a)) → P (onward r f)
+by-onward P (gives a) f no-value go = go a refl
+by-onward P (refused i) f no-value go = no-value i refl
+
+by-unless : {A : Type 0} (P : Answer A → Type 0) (t : Bool) (k : ℕ) (r : Answer A) → P (refused k) → (t ≡ true → P r) → P (unless t k r)
+by-unless P true k r not-held go = go refl
+by-unless P false k r not-held go = not-held
+
+refused-fits : (i : ℕ) → i ≤ 18 → (work : List ℕ) → length (textOf (chose (refused i) work)) ≤ maxText
+refused-fits i h work = let wide = refused-width i (omega arith) in let most = most-text in omega arith
+
+pub text-bounded : (s work : List ℕ) → length (reportText s work) ≤ maxText
+unfolding chosenOf
+text-bounded s work =
+    let Fits : Answer (Fills Choice) → Type 0 = λ r. length (textOf (chose r work)) ≤ maxText in
+    by-onward Fits (reading s) _
+    (λ i e. refused-fits i (omega (arith, reading-refused s e)) work)
+    (λ j e.
+    by-unless Fits (polarityOk (j .inputs) 0) 13 _ (refused-fits 13 (omega arith) work)
+    (λ p. by-unless Fits (leb ((j .«fault_count» + 1) * 2 ^ (j .inputs)) (length work)) 10 _ (refused-fits 10 (omega arith) work)
+    (λ q. decided-width j (reading-valid s j e) (ltb-true 0 (2 ^ (j .inputs)) p) (drop (length (circuitSpectra Mrm 0 j (j .«fault_count» + 1))) work)
+    (alikePair Isolating j) refl)))

@@ -1,0 +1,40 @@
+-- The text of a verdict (specs/Sheet.antt, specs/Putting.antt).
+--
+--   told-refused, told-alike, told-done   what each verdict prints
+--   printed-done                          and what is known of a sheet
+--   entries-inside                        a signature counts no more entries than it has
+use Prim.Native.Nat.{ℕ, _≤_}
+use native.Mathlib.Omega.{arith}
+use mathlib.Core.Path.{_≡_, sym, ap, subst, _∙_}
+use mathlib.Core.List.{List}
+use lib.ListN.{length}
+use Rattle.bits.specs.Answer.{number}
+use Rattle.bits.specs.declared.Refusal.{Refusal}
+use Rattle.tables.specs.declared.Counts.{Counts}
+use Rattle.picking.specs.Matrix.{maxEntries}
+use Rattle.picking.specs.declared.Signature.{Signature}
+use Rattle.choosing.specs.Choosing.{verdictTold}
+use Rattle.choosing.specs.declared.Verdict.{Verdict}
+use Rattle.choosing.specs.declared.Verdict.the-variants.{Done, Alike, Refused}
+use Rattle.sheet.specs.Putting.{Printable}
+use Rattle.sheet.specs.Sheet.{sheetText, listOf, refusedLine, alikeLine, sheet}
+
+module _ (v : Verdict) (signature : Signature) (work : List ℕ) where
+  abbrev text : List ℕ
+  text = sheetText (verdictTold v) (listOf signature) work
+
+  pub told-refused : {cause : Refusal} {i : ℕ} → v ≡ Refused cause → i ≡ number cause → text ≡ refusedLine i
+  told-refused {cause} {i} e n = ap (λ (x : Verdict). sheetText (verdictTold x) (listOf signature) work) e ∙ ap refusedLine (sym n)
+
+  pub told-alike : {a b : ℕ} → v ≡ Alike a b → text ≡ alikeLine a b
+  told-alike e = ap (λ (x : Verdict). sheetText (verdictTold x) (listOf signature) work) e
+
+  module _ {counts : Counts} (e : v ≡ Done counts) where
+    pub told-done : text ≡ sheet counts (listOf signature) work
+    told-done = ap (λ (x : Verdict). sheetText (verdictTold x) (listOf signature) work) e
+
+    pub printed-done : Printable v signature (length work) → Printable (Done counts) signature (length work)
+    printed-done h = subst (λ (x : Verdict). Printable x signature (length work)) e h
+
+pub entries-inside : (signature : Signature) → length (signature .entries) ≡ maxEntries → signature .count ≤ maxEntries → signature .count ≤ length (signature .entries)
+entries-inside signature e h = omega arith
