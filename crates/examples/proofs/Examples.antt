@@ -11,8 +11,9 @@ use Rattle.bits.specs.Bits.{bytesTo, bytesOf}
 use Rattle.bits.specs.Packed.{tabulate, packed, entry}
 use Rattle.spectra.specs.Operations.{zeroFrom, tableOk, spectrumOf, sameNumbers, isSpectrum, undoneOf}
 use Rattle.spectra.specs.Spectrum.{inside, sumTo, subsetSum, coefficient, spectrum, recovered}
-use Rattle.tables.specs.Answers.{answers, answer}
-use Rattle.tables.specs.Circuit.{inputValue, gateValue, ownValue, valuesTo, bridged, fixedBy, fixingOf, circuitEntry, circuitTable}
+use Rattle.gates.specs.Answers.{answers, answer}
+use Rattle.gates.specs.Values.{inputValue, bridged}
+use Rattle.tables.specs.Circuit.{gateValue, ownValue, valuesTo, fixedBy, fixingOf, circuitEntry, circuitTable}
 use Rattle.picking.specs.Labels.{passing}
 use Rattle.method.specs.Method.{without, someBelow, agree, somePair, useful, full, takes, drops, signature, pairWith, pairFrom}
 use Rattle.choosing.specs.Choosing.{scanTo, chosenOf}

@@ -19,7 +19,7 @@ use Rattle.job.specs.Layout.{maxInputs, maxFaults}
 use Rattle.job.specs.declared.Job.{Job}
 use Rattle.reading.specs.Reading.{reading}
 use Rattle.reading.proofs.Valid.{reading-valid}
-use Rattle.tables.specs.Form.{tableBytes}
+use Rattle.gates.specs.Form.{tableBytes}
 use Rattle.tables.specs.Operations.{tablesOf, tablesTo, tablesTold, countsOf}
 use Rattle.tables.specs.declared.Counts.{Counts}
 use Rattle.tables.specs.declared.TablesAnswer.{TablesAnswer}

@@ -4,7 +4,7 @@
 ghost use mathlib.Core.Path.{_≡_};
 ghost use Prim.Native.Nat.{_+_, _*_, _<_, _≤_};
 ghost use lib.ListN.{length};
-ghost use Rattle.tables.specs.Form.{tableBytes};
+ghost use Rattle.gates.specs.Form.{tableBytes};
 use bits::Refusal;
 use libc::STDOUT_FILENO;
 use spectra::Kind;

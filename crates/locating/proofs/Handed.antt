@@ -22,8 +22,8 @@ use Rattle.job.specs.Layout.{maxInputs}
 use Rattle.job.specs.declared.Job.{Job}
 use Rattle.reading.specs.Reading.{reading}
 use Rattle.reading.proofs.Valid.{reading-valid}
+use Rattle.gates.specs.Form.{tableBytes}
 use Rattle.tables.specs.Circuit.{circuitEntry, circuitTable}
-use Rattle.tables.specs.Form.{tableBytes}
 use Rattle.tables.specs.Operations.{tablesTo}
 use Rattle.tables.specs.declared.Counts.{Counts}
 use Rattle.tables.proofs.Answering.{kept}

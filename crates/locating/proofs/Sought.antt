@@ -21,7 +21,7 @@ use Rattle.bits.specs.declared.Outcome.{Outcome}
 use Rattle.bits.specs.declared.Outcome.the-variants.{Done, Refused}
 use Rattle.bits.proofs.Answers.{gives-same, never-gives, unless-gives}
 use Rattle.job.specs.Check.{inputsOk}
-use Rattle.tables.specs.Form.{tableBytes}
+use Rattle.gates.specs.Form.{tableBytes}
 use Rattle.tables.proofs.Answering.{kept}
 use Rattle.spectra.specs.Operations.{polarityOk, rowsOk, rowsOf, rowSpectra, sameNumbers}
 use Rattle.spectra.specs.declared.Kind.{Kind}

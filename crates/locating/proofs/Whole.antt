@@ -14,8 +14,8 @@ use Rattle.bits.proofs.Packed.{packed-all, tabulate-past}
 use Rattle.bits.proofs.Tests.{and-i}
 use Rattle.job.specs.Check.{Valid}
 use Rattle.job.specs.declared.Job.{Job}
+use Rattle.gates.specs.Form.{tableBytes}
 use Rattle.tables.specs.Circuit.{circuitEntry, circuitTable}
-use Rattle.tables.specs.Form.{tableBytes}
 use Rattle.tables.proofs.Delivered.{length-table}
 use Rattle.spectra.specs.Operations.{zeroFrom, tableOk, tableRow, rowsOk}
 use Rattle.spectra.proofs.Delivered.{entry-bit}

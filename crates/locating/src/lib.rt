@@ -7,7 +7,7 @@ ghost use lib.Dec.{eqb};
 ghost use lib.ListN.{length, take};
 ghost use Rattle.bits.specs.Answer.{leaves};
 ghost use Rattle.bits.specs.Answer.Answer.{gives};
-ghost use Rattle.tables.specs.Form.{tableBytes};
+ghost use Rattle.gates.specs.Form.{tableBytes};
 ghost use Rattle.spectra.specs.Filling.{Counted};
 ghost use Rattle.spectra.specs.Operations.{sameNumbers};
 ghost use Rattle.locating.specs.Locating.{locatedOf, locatedTold, location, agreeing, indicesOk};

@@ -17,8 +17,8 @@ use mathlib.Core.Path.{_≡_, refl, sym, ap, ap₂, subst, _∙_}
 use mathlib.Core.List.{List, [], _∷_, _++_, append-assoc, append-nil}
 use lib.ListN.{length, getD, take, drop, set, length-append, length-take, take-append-drop}
 use lib.Seq.{append-snoc, set-split, take-at, drop-append-add, drop-drop, paste, paste-zero, paste-suc, length-paste, take-all}
-use Rattle.tables.specs.Rows.{splice}
-use Rattle.tables.proofs.Splice.{length-splice}
+use Rattle.gates.specs.Rows.{splice}
+use Rattle.gates.proofs.Splice.{length-splice}
 use Rattle.sheet.specs.Putting.{Puts, Room}
 
 pub puts-length : {x o o' : List ℕ} {at r : ℕ} → Room x at o → Puts x o at r o' → length o' ≡ length o

@@ -21,7 +21,7 @@ use Rattle.job.specs.declared.Job.{Job}
 use Rattle.reading.specs.Reading.{reading}
 use Rattle.reading.proofs.Valid.{reading-valid}
 use Rattle.tables.specs.Operations.{countsOf}
-use Rattle.tables.specs.Rows.{splice}
+use Rattle.gates.specs.Rows.{splice}
 use Rattle.spectra.specs.Operations.{circuitSpectra}
 use Rattle.spectra.specs.declared.Kind.the-variants.{Mrm}
 use Rattle.spectra.proofs.WorkPlaces.{length-circuitSpectra}

@@ -15,7 +15,7 @@ use lib.Dec.{leb, ltb}
 use lib.ListN.{length, take}
 use Rattle.bits.specs.Answer.{Answer}
 use Rattle.bits.specs.Answer.Answer.{gives, refused}
-use Rattle.tables.specs.Rows.{splice}
+use Rattle.gates.specs.Rows.{splice}
 use Rattle.tables.specs.declared.Counts.{Counts}
 use Rattle.spectra.specs.declared.Kind.the-variants.{Mrm}
 use Rattle.picking.specs.declared.Signature.{Signature}

@@ -22,7 +22,7 @@ use Rattle.bits.specs.Packed.{entry}
 use Rattle.bits.proofs.Tests.{and-i}
 use Rattle.job.specs.Check.{inputsOk}
 use Rattle.job.specs.Layout.{maxInputs}
-use Rattle.tables.specs.Form.{tableBytes}
+use Rattle.gates.specs.Form.{tableBytes}
 use Rattle.spectra.specs.Filling.{rowsFit, spectraFilled}
 use Rattle.spectra.specs.Operations.{zeroFrom, tableOk, tableRow, rowsOk, polarityOk, rowSpectra, spectrumOf, rowsOf}
 use Rattle.spectra.specs.Spectrum.{spectrum}

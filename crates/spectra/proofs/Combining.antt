@@ -16,8 +16,8 @@ use mir.Syntax.{w16}
 use mir.Val.{Fits}
 use Rattle.bits.specs.Packed.{tabulate}
 use Rattle.bits.proofs.Packed.{length-tabulate}
-use Rattle.tables.specs.Rows.{splice}
-use Rattle.tables.proofs.Splice.{Written, written-none, written-more, written-before, written-all}
+use Rattle.gates.specs.Rows.{splice}
+use Rattle.gates.proofs.Splice.{Written, written-none, written-more, written-before, written-all}
 use Rattle.spectra.specs.Spectrum.{reduce}
 use Rattle.spectra.specs.Transform.{Most, combined}
 use Rattle.spectra.specs.declared.Kind.{Kind}

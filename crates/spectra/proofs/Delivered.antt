@@ -34,10 +34,10 @@ use Rattle.job.specs.Record.{faultAt, lines}
 use Rattle.job.specs.declared.Job.{Job}
 use Rattle.reading.specs.Reading.{reading}
 use Rattle.reading.proofs.Valid.{reading-valid}
+use Rattle.gates.specs.Form.{tableBytes}
 use Rattle.tables.specs.Circuit.{circuitEntry, circuitTable, fixingOf, valuesTo, free}
-use Rattle.tables.specs.Form.{tableBytes, maxTableBytes}
+use Rattle.tables.specs.Work.{maxTableBytes, lineValue}
 use Rattle.tables.specs.Operations.{tablesOf, tablesTo, tablesTold, countsOf}
-use Rattle.tables.specs.Work.{lineValue}
 use Rattle.tables.specs.declared.Counts.{Counts}
 use Rattle.tables.specs.declared.TablesAnswer.{TablesAnswer}
 use Rattle.tables.specs.declared.TablesAnswer.the-variants.{Filled, Refused}

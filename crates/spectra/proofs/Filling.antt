@@ -25,7 +25,7 @@ use lib.ListN.{length, take, drop, length-append, length-take, length-drop}
 use lib.Pow.{pow-mono}
 use lib.Seq.{take-at, drop-append-add, drop-drop}
 use Rattle.bits.specs.Packed.{entry}
-use Rattle.tables.specs.Form.{tableBytes}
+use Rattle.gates.specs.Form.{tableBytes}
 use Rattle.spectra.specs.Operations.{tableRow, rowSpectra}
 use Rattle.spectra.specs.Spectrum.{spectrum}
 use Rattle.spectra.specs.Transform.{entriesFrom}

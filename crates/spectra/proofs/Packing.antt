@@ -32,9 +32,9 @@ use Rattle.bits.specs.Bits.{valueFrom}
 use Rattle.bits.specs.Packed.{tabulate, packed}
 use Rattle.bits.proofs.Below.{lt-or-ge}
 use Rattle.bits.proofs.Packed.{length-tabulate, tabulate-more, tabulate-at, tabulate-past, length-packed, packed-at}
-use Rattle.tables.specs.Rows.{splice}
+use Rattle.gates.specs.Rows.{splice}
+use Rattle.gates.proofs.Splice.{Written, written-none, written-more, written-length, written-all}
 use Rattle.tables.proofs.Delivered.{splice-start}
-use Rattle.tables.proofs.Splice.{Written, written-none, written-more, written-length, written-all}
 use Rattle.spectra.specs.Operations.{at}
 use Rattle.spectra.specs.Packing.{parityAt, Packs}
 

@@ -30,7 +30,7 @@ use Rattle.bits.specs.Packed.{entry}
 use Rattle.bits.proofs.Below.{lt-or-ge}
 use Rattle.bits.proofs.Packed.{entry-digit}
 use Rattle.bits.proofs.Tests.{and-l, and-i}
-use Rattle.tables.specs.Form.{tableBytes}
+use Rattle.gates.specs.Form.{tableBytes}
 use Rattle.spectra.specs.Filling.{rowsFit}
 use Rattle.spectra.specs.Operations.{zeroFrom, tableOk, tableRow, rowsOk}
 use Rattle.spectra.proofs.Filling.{row-part}

@@ -37,8 +37,8 @@ use Rattle.bits.proofs.Packed.{entry-packed, packed-ext, length-packed}
 use Rattle.bits.proofs.Tests.{and-i}
 use Rattle.job.specs.Check.{inputsOk}
 use Rattle.job.specs.Layout.{maxInputs}
-use Rattle.tables.specs.Form.{tableBytes}
-use Rattle.tables.specs.Rows.{splice}
+use Rattle.gates.specs.Form.{tableBytes}
+use Rattle.gates.specs.Rows.{splice}
 use Rattle.tables.proofs.Answering.{kept, put}
 use Rattle.spectra.specs.Operations.{at, sameNumbers, isSpectrum, undoneOf}
 use Rattle.spectra.specs.Packing.{parityAt, Packs, Lent}

@@ -11,7 +11,7 @@ use lib.ListN.{length}
 use Rattle.bits.specs.Answer.{Answer, Fills, unless}
 use Rattle.bits.specs.Answer.Answer.{gives}
 use Rattle.job.specs.Layout.{maxInputs, maxFaults}
-use Rattle.tables.specs.Form.{tableBytes}
+use Rattle.gates.specs.Form.{tableBytes}
 use Rattle.tables.specs.declared.Counts.{Counts}
 use Rattle.spectra.specs.Operations.{polarityOk, rowsOk, rowSpectra}
 use Rattle.spectra.specs.declared.Kind.{Kind}

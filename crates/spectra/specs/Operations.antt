@@ -16,8 +16,8 @@ use Rattle.bits.specs.Packed.{entry, packed}
 use Rattle.job.specs.Check.{inputsOk}
 use Rattle.job.specs.declared.Job.{Job}
 use Rattle.reading.specs.Reading.{reading}
+use Rattle.gates.specs.Form.{tableBytes}
 use Rattle.tables.specs.Circuit.{circuitEntry}
-use Rattle.tables.specs.Form.{tableBytes}
 use Rattle.tables.specs.Operations.{countsOf}
 use Rattle.tables.specs.declared.Counts.{Counts}
 use Rattle.spectra.specs.Spectrum.{spectrum, recovered}

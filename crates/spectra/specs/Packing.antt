@@ -10,7 +10,7 @@ use mathlib.Core.List.{List}
 use lib.Bits.{bitXor}
 use lib.ListN.{length}
 use Rattle.job.specs.Layout.{maxInputs}
-use Rattle.tables.specs.Form.{tableBytes}
+use Rattle.gates.specs.Form.{tableBytes}
 use Rattle.spectra.specs.Operations.{at}
 
 abbrev pub parityAt : List ℕ → ℕ → ℕ → ℕ

@@ -8,9 +8,9 @@ ghost use Rattle.spectra.specs.Operations.{spectrumOf, undoneOf, rowsOf,
 ghost use Rattle.spectra.specs.Packing.{parityAt, Closed, Packs, Lent};
 ghost use Rattle.spectra.specs.Spectrum.{spectrum, reduce, recovered};
 ghost use Rattle.spectra.specs.Transform.{entriesFrom, Most, combined};
-ghost use Rattle.tables.specs.Form.{tableBytes};
+ghost use Rattle.gates.specs.Form.{tableBytes};
+ghost use Rattle.gates.specs.Rows.{splice};
 ghost use Rattle.tables.specs.Operations.{tablesTold};
-ghost use Rattle.tables.specs.Rows.{splice};
 ghost use lib.ListN.{length, take, drop};
 ghost use mathlib.Core.Bool.{true};
 ghost use mathlib.Core.List.{_++_};

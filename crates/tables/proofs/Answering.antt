@@ -12,10 +12,10 @@ use Rattle.bits.specs.Answer.{Answer, Fills, Leaves, leaves}
 use Rattle.bits.specs.Answer.Answer.{gives, refused}
 use Rattle.job.specs.declared.Job.{Job}
 use Rattle.reading.specs.Reading.{reading}
+use Rattle.gates.specs.Form.{tableBytes}
+use Rattle.gates.specs.Rows.{splice}
 use Rattle.tables.specs.Circuit.{circuitTable}
-use Rattle.tables.specs.Form.{tableBytes}
 use Rattle.tables.specs.Operations.{tableOf, tablesOf, tablesTo, countsOf}
-use Rattle.tables.specs.Rows.{splice}
 use Rattle.tables.specs.declared.Counts.{Counts}
 use Rattle.tables.proofs.Delivered.{splice-start}
 

@@ -26,16 +26,17 @@ use Rattle.job.specs.Record.{faultA, faultB, lines, levelNumber}
 use Rattle.job.specs.declared.Fault.{Fault}
 use Rattle.job.specs.declared.Fault.the-variants.{Stuck, Bridge}
 use Rattle.job.specs.declared.Job.{Job}
+use Rattle.gates.specs.Form.{shapeOf, tableBytes}
+use Rattle.gates.specs.Values.{bridged}
+use Rattle.gates.specs.declared.Shape.{Shape}
 use Rattle.tables.proofs.Held.{Fitting, Held, Known, tableOf, rowAt, entry-table, table-of, held-fewer, held-filled, circuit-held}
 use Rattle.tables.proofs.Placing.{rowOf-low, rowOf-high, rowOf-most, low-fixed, high-fixed, not-fixed, fixed-cases}
 use Rattle.tables.proofs.Space.{sound-roomy}
 use Rattle.tables.proofs.Values.{answer-bit, cond-bit, line-own, line-bit, line-same}
-use Rattle.tables.specs.Circuit.{Fixing, free, valuesTo, bridged, fixedBy}
-use Rattle.tables.specs.Form.{shapeOf, tableBytes}
+use Rattle.tables.specs.Circuit.{Fixing, free, valuesTo, fixedBy}
 use Rattle.tables.specs.Lines.{rowOf, isFixed, inputRows, gateRows, stuckLine, bridgedLine, fixedLines, Fixable}
 use Rattle.tables.specs.Work.{lineValue, goodFix, faultFix, Fixes, Sound, Good, Faulty}
 use Rattle.tables.specs.declared.circuit.Plan.{Plan}
-use Rattle.tables.specs.declared.step.Shape.{Shape}
 
 abbrev pub goodPlan : Job → Plan
 goodPlan j = record { start = 0; shift = 0; low = lines j; high = lines j }

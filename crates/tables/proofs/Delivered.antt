@@ -36,12 +36,12 @@ use Rattle.job.specs.Record.{faultAt, faultA, faultB, lines}
 use Rattle.job.specs.declared.Fault.{Fault}
 use Rattle.job.specs.declared.Fault.the-variants.{Stuck, Bridge}
 use Rattle.job.specs.declared.Job.{Job}
+use Rattle.gates.specs.Form.{tableBytes, shapeOf}
+use Rattle.gates.specs.Rows.{part, splice}
+use Rattle.gates.specs.declared.Shape.{Shape}
 use Rattle.tables.specs.Circuit.{circuitEntry, circuitTable, fixingOf}
-use Rattle.tables.specs.Form.{tableBytes, maxTableBytes, rowBytes, shapeOf}
+use Rattle.tables.specs.Work.{maxTableBytes, rowBytes, lineValue, Fixes, Sound, Good, Faulty, Table}
 use Rattle.tables.specs.Operations.{tablesTo}
-use Rattle.tables.specs.Rows.{part, splice}
-use Rattle.tables.specs.Work.{lineValue, Fixes, Sound, Good, Faulty, Table}
-use Rattle.tables.specs.declared.step.Shape.{Shape}
 
 pub tabulate-part : (rows : List ℕ) (at count : ℕ) → at + count ≤ length rows → tabulate count (λ i. getD rows (at + i) 0) ≡ part at count rows
 unfolding tabulate

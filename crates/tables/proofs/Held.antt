@@ -26,16 +26,17 @@ use Rattle.bits.specs.Packed.{packed, entry}
 use Rattle.job.specs.Check.{Valid}
 use Rattle.job.specs.Record.{gateKind, gateA, gateB, gateAt, lines}
 use Rattle.job.specs.declared.Job.{Job}
+use Rattle.gates.proofs.Rows.{length-splice, part-same, part-other}
+use Rattle.gates.specs.Answers.{answer}
+use Rattle.gates.specs.Form.{shapeOf, tableBytes}
+use Rattle.gates.specs.Rows.{part, splice}
+use Rattle.gates.specs.Values.{inputValue}
 use Rattle.tables.proofs.Lines.{inputs-end}
 use Rattle.bits.proofs.Packed.{length-packed, packed-ext, entry-packed}
 use Rattle.tables.proofs.Placing.{rowOf-high, rowOf-most, rowOf-apart}
-use Rattle.tables.proofs.Rows.{length-splice, part-same, part-other}
 use Rattle.tables.proofs.Values.{line-bit, line-input, line-gate, first-below, second-below}
-use Rattle.tables.specs.Answers.{answer}
-use Rattle.tables.specs.Circuit.{Fixing, inputValue}
-use Rattle.tables.specs.Form.{shapeOf, tableBytes}
+use Rattle.tables.specs.Circuit.{Fixing}
 use Rattle.tables.specs.Lines.{rowOf, isFixed, inputLine, gateLine, inputLines, gateLines, inputRows, gateRows}
-use Rattle.tables.specs.Rows.{part, splice}
 use Rattle.tables.specs.Work.{lineValue, goodFix}
 use Rattle.tables.specs.declared.circuit.Plan.{Plan}
 

@@ -1,15 +1,9 @@
 pub mod Answering
-pub mod Answers
 pub mod Circuits
 pub mod Delivered
 pub mod Held
-pub mod Kept
 pub mod Lines
 pub mod Placing
-pub mod Polynomial
 pub mod Putting
-pub mod Rows
 pub mod Space
-pub mod Splice
-pub mod Tabled
 pub mod Values

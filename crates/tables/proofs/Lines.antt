@@ -22,12 +22,12 @@ use Rattle.job.specs.declared.Fault.{Fault}
 use Rattle.job.specs.declared.Fault.the-variants.{Stuck, Bridge}
 use Rattle.job.specs.declared.Gate.{Gate}
 use Rattle.job.specs.declared.Job.{Job}
-use Rattle.tables.specs.Answers.{answer}
-use Rattle.tables.specs.Circuit.{inputValue, bridged}
+use Rattle.gates.specs.Answers.{answer}
+use Rattle.gates.specs.Rows.{part, splice}
+use Rattle.gates.specs.Values.{inputValue, bridged}
+use Rattle.gates.specs.declared.Shape.{Shape}
 use Rattle.tables.specs.Lines.{rowOf, isFixed, inputLine, gateLine, inputLines, gateLines, stuckLine, bridgedLine, fixedLines}
-use Rattle.tables.specs.Rows.{part, splice}
 use Rattle.tables.specs.declared.circuit.Plan.{Plan}
-use Rattle.tables.specs.declared.step.Shape.{Shape}
 
 module _ (shape : Shape) (plan : Plan) where
   pub inputs-end : (n l : ℕ) (rows : List ℕ) → n ≤ l → inputLines shape plan (n - l) l rows ≡ rows

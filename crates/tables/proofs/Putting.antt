@@ -16,14 +16,14 @@ use mathlib.Core.Path.{_≡_, refl, sym, ap, ap₂, subst, _∙_}
 use mathlib.Core.List.{List}
 use lib.ListN.{length}
 use Rattle.job.specs.declared.Job.{Job}
+use Rattle.gates.specs.Form.{tableBytes}
+use Rattle.gates.specs.Rows.{part, splice}
+use Rattle.gates.specs.declared.Shape.{Shape}
+use Rattle.gates.proofs.Splice.{length-splice}
 use Rattle.tables.specs.Circuit.{circuitTable}
-use Rattle.tables.specs.Form.{tableBytes}
 use Rattle.tables.specs.Operations.{tablesTo}
-use Rattle.tables.specs.Rows.{part, splice}
 use Rattle.tables.specs.Work.{Sound, Good, Table}
-use Rattle.tables.specs.declared.step.Shape.{Shape}
 use Rattle.tables.proofs.Delivered.{length-tablesTo, tables-more}
-use Rattle.tables.proofs.Splice.{length-splice}
 
 pub sound-kept : (j : Job) (shape : Shape) (rows after : List ℕ) → Sound j shape rows → length after ≡ length rows → Sound j shape after
 sound-kept j shape rows after s e =

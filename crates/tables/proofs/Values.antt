@@ -30,8 +30,9 @@ use lib.Seq.{getD-at}
 use Rattle.job.specs.Check.{Valid}
 use Rattle.job.specs.Record.{gateKind, gateA, gateB, gateAt, lines}
 use Rattle.job.specs.declared.Job.{Job}
-use Rattle.tables.specs.Answers.{answers, answer}
-use Rattle.tables.specs.Circuit.{Fixing, inputValue, gateValue, ownValue, valuesTo}
+use Rattle.gates.specs.Answers.{answers, answer}
+use Rattle.gates.specs.Values.{inputValue}
+use Rattle.tables.specs.Circuit.{Fixing, gateValue, ownValue, valuesTo}
 use Rattle.tables.specs.Work.{lineValue}
 
 and-left : (a b : Bool) → a && b ≡ true → a ≡ true

@@ -5,8 +5,8 @@
 --   fixedBy        the lines that a fault fixes, and at what
 --   circuitEntry   entry m of circuit c's table
 --   circuitTable   circuit c's packed table
-use Prim.Native.Nat.{ℕ, zero, suc, pred, _+_, _-_, _*_, _/_, _%_, _^_}
-use mathlib.Core.Bool.{Bool, true, false, cond, _||_}
+use Prim.Native.Nat.{ℕ, zero, suc, _-_, _^_}
+use mathlib.Core.Bool.{cond, _||_}
 use mathlib.Core.List.{List, [], _∷_, _++_}
 use lib.ListN.{getD}
 use lib.Dec.{ltb, eqb}
@@ -16,17 +16,14 @@ use Rattle.job.specs.declared.Gate.{Gate}
 use Rattle.job.specs.declared.Fault.{Fault}
 use Rattle.job.specs.declared.Fault.the-variants.{Stuck, Bridge}
 use Rattle.job.specs.declared.Job.{Job}
-use Rattle.tables.specs.Answers.{answer}
+use Rattle.gates.specs.Answers.{answer}
+use Rattle.gates.specs.Values.{inputValue, bridged}
 
 abbrev pub Fixing : Type 0
 Fixing = ℕ → ℕ → ℕ
 
 abbrev pub free : Fixing
 free l v = v
-
--- "Input number m .. gives x(i+1) bit i of m, x1 lowest"; "line i is variable x(i+1)"
-unfoldable pub inputValue : ℕ → ℕ → ℕ
-inputValue m i = m / 2 ^ i % 2
 
 unfoldable pub gateValue : Gate → List ℕ → ℕ
 gateValue g values = answer (gateKind g) (getD values (gateA g) 0) (getD values (gateB g) 0)
@@ -38,10 +35,6 @@ ownValue j m l values = cond (ltb l (j .inputs)) (inputValue m l) (gateValue (ga
 unfoldable pub valuesTo : Fixing → Job → ℕ → ℕ → List ℕ
 valuesTo fix j m zero = []
 valuesTo fix j m (suc l) = let values = valuesTo fix j m l in values ++ (fix l (ownValue j m l values) ∷ [])
-
--- the AND, or the OR, of two values: kinds 0 and 1 of the table of answers
-unfoldable pub bridged : Bool → ℕ → ℕ → ℕ
-bridged is-and x y = answer (cond is-and 0 1) x y
 
 -- "A stuck line has its level for everyone who reads it, and for the output if it is that line. A bridge gives both inputs the AND, or the OR,
 -- of their two bits, for every reader and for the output if it is one of them." The second argument is the values of the good circuit's lines.

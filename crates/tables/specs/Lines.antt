@@ -28,12 +28,12 @@ use Rattle.job.specs.declared.Gate.{Gate}
 use Rattle.job.specs.declared.Fault.{Fault}
 use Rattle.job.specs.declared.Fault.the-variants.{Stuck, Bridge}
 use Rattle.job.specs.declared.Job.{Job}
-use Rattle.tables.specs.Answers.{answer}
-use Rattle.tables.specs.Circuit.{inputValue, bridged}
-use Rattle.tables.specs.Form.{shapeOf}
-use Rattle.tables.specs.Rows.{part, splice}
+use Rattle.gates.specs.Answers.{answer}
+use Rattle.gates.specs.Form.{shapeOf}
+use Rattle.gates.specs.Rows.{part, splice}
+use Rattle.gates.specs.Values.{inputValue, bridged}
+use Rattle.gates.specs.declared.Shape.{Shape}
 use Rattle.tables.specs.declared.circuit.Plan.{Plan}
-use Rattle.tables.specs.declared.step.Shape.{Shape}
 
 -- far more than two rows for each of 8 inputs and 64 gates, and far fewer than a word can count
 abbrev pub maxRows : ℕ

@@ -10,8 +10,8 @@ use Rattle.bits.specs.Answer.{Answer, Fills, number, unless, onward}
 use Rattle.bits.specs.Answer.Answer.{gives, refused}
 use Rattle.job.specs.declared.Job.{Job}
 use Rattle.reading.specs.Reading.{reading}
+use Rattle.gates.specs.Form.{tableBytes}
 use Rattle.tables.specs.Circuit.{circuitTable}
-use Rattle.tables.specs.Form.{tableBytes}
 use Rattle.tables.specs.declared.Counts.{Counts}
 use Rattle.tables.specs.declared.TablesAnswer.{TablesAnswer}
 use Rattle.tables.specs.declared.TablesAnswer.the-variants.{Filled, Refused}

@@ -1,5 +1,6 @@
 -- What the rows of bytes hold while a job's circuits are worked out.
 --
+--   maxTableBytes, rowBytes   the bytes of the largest table, and of rows for a whole circuit twice
 --   Fixes      the lines that a circuit fixes can be fixed: they are lines of the circuit, those of a bridge in order
 --   Sound      a valid job, its shape, and rows for each line of the good circuit and of one faulty circuit
 --   Good       row l holds the table of line l of the good circuit
@@ -11,13 +12,22 @@ use mathlib.Core.List.{List}
 use lib.ListN.{length, getD}
 use Rattle.bits.specs.Packed.{packed}
 use Rattle.job.specs.Check.{Valid}
+use Rattle.job.specs.Layout.{maxInputs, maxGates}
 use Rattle.job.specs.Record.{faultA, faultB, lines}
 use Rattle.job.specs.declared.Fault.{Fault}
 use Rattle.job.specs.declared.Job.{Job}
+use Rattle.gates.specs.Form.{shapeOf, tableBytes}
+use Rattle.gates.specs.Rows.{part}
+use Rattle.gates.specs.declared.Shape.{Shape}
 use Rattle.tables.specs.Circuit.{Fixing, free, valuesTo, fixedBy, circuitTable}
-use Rattle.tables.specs.Form.{shapeOf, tableBytes}
-use Rattle.tables.specs.Rows.{part}
-use Rattle.tables.specs.declared.step.Shape.{Shape}
+
+-- the bytes of the largest table
+unfoldable pub maxTableBytes : ℕ
+maxTableBytes = 32
+
+-- a row for each line of the largest good circuit, and one for each line of a faulty one
+unfoldable pub rowBytes : ℕ
+rowBytes = 2 * (maxInputs + maxGates) * maxTableBytes
 
 -- the value of a line for one input number
 unfoldable pub lineValue : (ℕ → Fixing) → Job → ℕ → ℕ → ℕ

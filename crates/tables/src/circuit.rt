@@ -4,7 +4,7 @@ ghost use Prim.Native.Nat.{_+_, _<_};
 ghost use Rattle.job.specs.Record.{gateA, gateB};
 ghost use Rattle.tables.specs.Lines.{maxRows, rowOf, inputLine, inputRows, gateLine, gateRows, fixedLines, Roomy, Planned, Fixable};
 ghost use Rattle.tables.specs.Work.{Sound, Good, Fixes, Faulty};
-use crate::step::Shape;
+use gates::Shape;
 use job::Fault;
 use job::Gate;
 use job::Job;
@@ -57,7 +57,7 @@ fn input_line(rows: &mut [u8], line: usize, plan: Plan, shape: Shape)
     if line == high {
         return;
     }
-    crate::step::input_row(rows, line, row_of(plan, line) * shape.bytes, shape);
+    gates::input_row(rows, line, row_of(plan, line) * shape.bytes, shape);
 }
 
 // The row of a gate's line, unless the line is fixed. The rows of the lines that the gate reads are filled before.
@@ -75,7 +75,7 @@ fn gate_line(rows: &mut [u8], gate: Gate, line: usize, plan: Plan, shape: Shape)
     }
     let x = row_of(plan, gate.first()) * shape.bytes;
     let y = row_of(plan, gate.second()) * shape.bytes;
-    crate::step::gate_row(rows, gate, x, y, row_of(plan, line) * shape.bytes, shape);
+    gates::gate_row(rows, gate, x, y, row_of(plan, line) * shape.bytes, shape);
 }
 
 // The rows of the gates from `plan.start` on, but for the fixed ones.
@@ -139,12 +139,12 @@ fn fix_rows(rows: &mut [u8], fault: Fault, plan: Plan, shape: Shape)
     let bytes = shape.bytes;
     match fault {
         Fault::Stuck(line, level) => {
-            crate::step::level_row(rows, level, row_of(plan, line as usize) * bytes, shape);
+            gates::level_row(rows, level, row_of(plan, line as usize) * bytes, shape);
         }
         Fault::Bridge(low, high, is_and) => {
             let x = low as usize * bytes;
             let y = high as usize * bytes;
-            crate::step::bridge_row(
+            gates::bridge_row(
                 rows,
                 is_and,
                 x,
@@ -152,7 +152,7 @@ fn fix_rows(rows: &mut [u8], fault: Fault, plan: Plan, shape: Shape)
                 row_of(plan, low as usize) * bytes,
                 shape,
             );
-            crate::step::bridge_row(
+            gates::bridge_row(
                 rows,
                 is_and,
                 x,

@@ -3,20 +3,19 @@ ghost use mathlib.Core.Path.{_≡_};
 ghost use Prim.Native.Nat.{_+_, _*_, _≤_};
 ghost use lib.ListN.{length};
 ghost use Rattle.bits.specs.Answer.{outcome, leaves};
+ghost use Rattle.gates.specs.Form.{tableBytes};
+ghost use Rattle.gates.specs.Rows.{part, splice};
 ghost use Rattle.tables.specs.Circuit.{circuitTable};
-ghost use Rattle.tables.specs.Form.{tableBytes};
 ghost use Rattle.tables.specs.Operations.{tableOf, tablesOf, tablesTo, tablesTold};
-ghost use Rattle.tables.specs.Rows.{part, splice};
 ghost use Rattle.tables.specs.Work.{Sound, Good, Table};
 use bits::Outcome;
 use bits::Refusal;
+use gates::Shape;
 use job::Job;
 use job::MAX_GATES;
 use job::MAX_INPUTS;
-use step::Shape;
 
 mod circuit;
-mod step;
 
 // The bytes of the largest table, (2 to the power 8 + 7) div 8.
 const MAX_TABLE_BYTES: usize = 32;
@@ -50,7 +49,7 @@ pub fn table(bytes: &[u8], circuit: usize, out: &mut [u8]) -> Outcome
     if (job.fault_count as usize) < circuit {
         return Outcome::Refused(Refusal::CircuitNumber);
     }
-    let shape = step::shape_of(job.inputs as usize);
+    let shape = gates::shape_of(job.inputs as usize);
     if out.len() < shape.bytes {
         return Outcome::Refused(Refusal::Memory);
     }
@@ -70,7 +69,7 @@ pub fn tables(bytes: &[u8], out: &mut [u8]) -> TablesAnswer
     }
     let job = reading.job;
     let faults = job.fault_count as usize;
-    let shape = step::shape_of(job.inputs as usize);
+    let shape = gates::shape_of(job.inputs as usize);
     if out.len() < (faults + 1) * shape.bytes {
         return TablesAnswer::Refused(Refusal::Memory);
     }

@@ -2,7 +2,7 @@
 use Prim.Native.Nat.{ℕ, _+_, _/_}
 use native.Mathlib.Omega.{arith}
 use mathlib.Core.Path.{ap}
-use Rattle.tables.proofs.Kept.{shl-one, size-fits}
+use Rattle.gates.proofs.Kept.{shl-one, size-fits}
 use borrow.Author.Needs.{needs}
 use Rattle.listing.proofs.table_bytes.Statement.{statement}
 use Rattle.listing.proofs.table_bytes.Tie as tie

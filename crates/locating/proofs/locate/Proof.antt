@@ -5,7 +5,7 @@ use denote.Ref.{now}
 use lib.ListN.{replicate, length-replicate}
 use Prim.Native.Nat.{ℕ}
 use Rattle.job.specs.Layout.{maxFaults}
-use Rattle.tables.specs.Form.{maxTableBytes}
+use Rattle.tables.specs.Work.{maxTableBytes}
 use Rattle.spectra.proofs.Delivered.{tables-deliver, tables-unread, job-counted}
 use Rattle.locating.proofs.Handed.{located-unread, located-onward}
 use borrow.Author.Needs.{needs}

@@ -2,7 +2,7 @@
 use Prim.Native.Nat.{_-_}
 use native.Mathlib.Omega.{arith}
 use borrow.Author.Count.{falls}
-use Rattle.tables.proofs.Splice.{written-length}
+use Rattle.gates.proofs.Splice.{written-length}
 use Rattle.spectra.proofs.Combining.{Combining, combining-none, combining-fits, combining-more, combining-all}
 use Rattle.spectra.proofs.combine.Statement.{statement}
 use Rattle.spectra.proofs.combine.Tie as tie

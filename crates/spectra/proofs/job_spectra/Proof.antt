@@ -5,7 +5,7 @@ use mathlib.Core.List.{List}
 use lib.ListN.{replicate, length-replicate}
 use Prim.Native.Nat.{ℕ}
 use Rattle.job.specs.Layout.{maxFaults}
-use Rattle.tables.specs.Form.{maxTableBytes}
+use Rattle.tables.specs.Work.{maxTableBytes}
 use Rattle.spectra.proofs.Delivered.{tables-deliver, tables-unread, job-counted, job-unread, job-onward}
 use borrow.Author.Needs.{needs}
 use Rattle.spectra.proofs.job_spectra.Statement.{statement}

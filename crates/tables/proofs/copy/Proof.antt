@@ -5,9 +5,9 @@ use mathlib.Core.Path.{refl, ap, _∙_}
 use borrow.Author.Count.{falls}
 use denote.Ref.{now}
 use lib.ListN.{getD}
-use Rattle.tables.specs.Rows.{splice}
+use Rattle.gates.specs.Rows.{splice}
+use Rattle.gates.proofs.Splice.{Written, written-none, written-more, written-length, written-all}
 use Rattle.tables.proofs.Delivered.{tabulate-part}
-use Rattle.tables.proofs.Splice.{Written, written-none, written-more, written-length, written-all}
 use Rattle.tables.proofs.copy.Statement.{statement}
 use Rattle.tables.proofs.copy.Tie as tie
 

@@ -5,7 +5,7 @@ use mathlib.Core.Path.{sym, ap, subst, _∙_}
 use denote.Ref.{now}
 use Prim.Native.Nat.{ℕ, _≤_}
 use lib.ListN.{length}
-use Rattle.tables.specs.Rows.{splice}
+use Rattle.gates.specs.Rows.{splice}
 use Rattle.tables.proofs.Putting.{shape-bytes, table-inside, table-part}
 use borrow.Author.Needs.{needs}
 use Rattle.tables.proofs.put_table.Statement.{statement}

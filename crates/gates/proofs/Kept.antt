@@ -1,0 +1,66 @@
+-- Laws of a table's shape (specs/Form.antt).
+--
+--   shl-one           2 ^ n as the machine works it out
+--   size-fits         a table's size fits, with what rounding adds
+--   at-least-three    a number that is not 0, 1 or 2
+--   keep-rest         from three inputs on the mask has every bit
+--   keep-lt           the mask is a byte
+--   full-digit        the bits of eight copies of a bit are that bit
+--   keep-full         from three inputs on every bit of the mask is 1
+--   keep-digit        a bit of the mask is 1 where an entry stands, and 0 at a spare bit
+use Prim.Native.Nat.{ℕ, _+_, _-_, _*_, _/_, _%_, _^_, _≤_, _<_}
+use native.Mathlib.Nat.{one-mul}
+use native.Mathlib.Omega.{arith}
+use mathlib.Core.Path.{_≡_, ap, _∙_}
+use mathlib.Core.Bool.{Bool, cond}
+use mathlib.Core.List.{[], _∷_}
+use mathlib.Core.Logic.{⊎-elim}
+use borrow.Author.Tests.{lt-ltb}
+use lib.Dec.{ltb, eqb, ltb→lt, eqb→eq}
+use lib.ListN.{List·getD-eq-default}
+use lib.Pow.{pow-mono, pow-add, shl-exact}
+use mir.Syntax.{w64}
+use mir.Val.{Fits}
+use Rattle.bits.proofs.Below.{lt-or-ge, allBelow, all-below, equal-below}
+use Rattle.gates.specs.Form.{tableBytes, keepOf}
+
+pub shl-one : (n : ℕ) → n < 64 → 1 * 2 ^ n % 2 ^ 64 ≡ 2 ^ n
+shl-one n h = shl-exact {a = 1} 1 n 64 (omega arith) (omega arith) ∙ one-mul (2 ^ n)
+
+pub size-fits : (n : ℕ) → n < 64 → Fits w64 (1 * 2 ^ n % 2 ^ 64 + 7)
+size-fits n h = rw shl-one (omega (arith, pow-mono {i = n} {j = 63} (omega arith)))
+
+pub at-least-three : {n : ℕ} → (n ≡ 0 → ⊥) → (n ≡ 1 → ⊥) → (n ≡ 2 → ⊥) → 3 ≤ n
+at-least-three h0 h1 h2 = omega arith
+
+pub keep-rest : (n : ℕ) → 3 ≤ n → keepOf n ≡ 255
+keep-rest n h = List·getD-eq-default (128 ∷ 192 ∷ 240 ∷ []) 255 h
+
+pub keep-lt : (n : ℕ) → keepOf n < 256
+keep-lt n =
+    ⊎-elim (λ h. ltb→lt (keepOf n) 256 (all-below (λ n. ltb (keepOf n) 256) 3 tt n h)) (λ h. rw (keep-rest n h) (omega arith)) (lt-or-ge n 3)
+
+pub full-digit : (b k : ℕ) → b < 2 → k < 8 → 255 * b / 2 ^ k % 2 ≡ b
+full-digit = equal-below (λ b k. 255 * b / 2 ^ k % 2) (λ b k. b) 2 8 tt
+
+-- from three inputs on a table fills its bytes
+whole : (n : ℕ) → 3 ≤ n → 8 * tableBytes n ≡ 2 ^ n
+whole n h =
+    let e : n - 3 + 3 ≡ n = omega arith in let p : 2 ^ n ≡ 2 ^ (n - 3) * 8 = rw e at (pow-add 2 (n - 3) 3) in omega arith
+
+abbrev keepTest : ℕ → ℕ → Bool
+keepTest n m = eqb (keepOf n / 2 ^ (7 - m % 8) % 2) (cond (ltb m (2 ^ n)) 1 0)
+
+pub keep-full : (n k : ℕ) → 3 ≤ n → k < 8 → keepOf n / 2 ^ k % 2 ≡ 1
+keep-full n k h l = ap (λ (x : ℕ). x / 2 ^ k % 2) (keep-rest n h) ∙ full-digit 1 k (omega arith) l
+
+pub keep-digit : (n m : ℕ) → m < 8 * tableBytes n → keepOf n / 2 ^ (7 - m % 8) % 2 ≡ cond (ltb m (2 ^ n)) 1 0
+keep-digit n m l = ⊎-elim few many (lt-or-ge n 3)
+  where
+    few : n < 3 → keepOf n / 2 ^ (7 - m % 8) % 2 ≡ cond (ltb m (2 ^ n)) 1 0
+    few h =
+        eqb→eq (keepOf n / 2 ^ (7 - m % 8) % 2) (cond (ltb m (2 ^ n)) 1 0)
+        (all-below (keepTest n) (8 * tableBytes n) (all-below (λ n. allBelow (keepTest n) (8 * tableBytes n)) 3 tt n h) m l)
+
+    many : 3 ≤ n → keepOf n / 2 ^ (7 - m % 8) % 2 ≡ cond (ltb m (2 ^ n)) 1 0
+    many h = keep-full n (7 - m % 8) h (omega arith) ∙ rw (lt-ltb m (2 ^ n) (rw whole at l))

@@ -1,0 +1,83 @@
+-- Laws of rows of bytes in one list (specs/Rows.antt).
+--
+--   length-splice      a splice inside a list keeps its length
+--   part-same          the part that a splice put in is what was put in
+--   part-before        a part that ends before a splice is as it was
+--   part-behind        a part that starts behind a splice is as it was
+--   row-apart          of two different rows one ends before the other starts
+--   part-other         another row than the one that is put in is as it was
+use Prim.Native.Nat.{ℕ, _+_, _-_, _*_, _≤_, _<_}
+use native.Mathlib.Nat.{mul-le-mul-right, suc-mul}
+use native.Mathlib.Omega.{arith}
+use native.Mathlib.Decide.{decLt}
+use mathlib.Core.Path.{_≡_, sym, ap, _∙_}
+use mathlib.Core.Logic.{_⊎_, inl, inr}
+use mathlib.Core.List.{List, _++_}
+use lib.ListN.{length, take, drop, length-append, length-drop, take-append-drop}
+use lib.Seq.{length-take-le, take-append-le, drop-append-le, drop-at, drop-append-add}
+use Rattle.gates.specs.Rows.{part, splice}
+
+pub length-splice : (rows : List ℕ) (at : ℕ) (new : List ℕ) → at + length new ≤ length rows → length (splice rows at new) ≡ length rows
+length-splice rows at new h =
+    omega (
+      arith,
+      length-append (take at rows ++ new) (drop (at + length new) rows),
+      length-append (take at rows) new,
+      length-take-le at rows (omega arith),
+      length-drop (at + length new) rows,
+    )
+
+-- a part that lies in the first of two lists
+part-front : (at w : ℕ) (xs ys : List ℕ) → at + w ≤ length xs → part at w (xs ++ ys) ≡ part at w xs
+part-front at w xs ys h =
+    ap (λ (l : List ℕ). take w l) (drop-append-le at xs ys (omega arith))
+    ∙ take-append-le w (drop at xs) ys (omega (arith, length-drop at xs))
+
+-- a part that lies in the second of two lists
+part-back : (at d w : ℕ) (xs ys : List ℕ) → at ≡ length xs + d → part at w (xs ++ ys) ≡ part d w ys
+part-back at d w xs ys e =
+    ap (λ (k : ℕ). part k w (xs ++ ys)) e ∙ ap (λ (l : List ℕ). take w l) (drop-append-add xs ys d)
+
+pub part-same : (rows : List ℕ) (at w : ℕ) (new : List ℕ) → length new ≡ w → at + w ≤ length rows → part at w (splice rows at new) ≡ new
+part-same rows at w new e h =
+    part-front at w (take at rows ++ new) (drop (at + length new) rows) (omega (arith, length-append (take at rows) new, length-take-le at rows (omega arith)))
+    ∙ ap (λ (l : List ℕ). take w l) (drop-at (take at rows) new at (length-take-le at rows (omega arith)))
+    ∙ take-whole
+  where
+    take-whole : take w new ≡ new
+    take-whole = rw (← e) (lib.Seq.take-length new)
+
+module _ (rows : List ℕ) (at to w : ℕ) (new : List ℕ) (long : length new ≡ w) (inside : to + w ≤ length rows) where
+  pub part-before : at + w ≤ to → part at w (splice rows to new) ≡ part at w rows
+  part-before h =
+      let e : length (take to rows) ≡ to = length-take-le to rows (omega arith) in
+      part-front at w (take to rows ++ new) (drop (to + length new) rows) (omega (arith, length-append (take to rows) new))
+      ∙ part-front at w (take to rows) new (omega arith)
+      ∙ sym (part-front at w (take to rows) (drop to rows) (omega arith))
+      ∙ ap (λ (l : List ℕ). part at w l) (take-append-drop to rows)
+
+  pub part-behind : to + w ≤ at → part at w (splice rows to new) ≡ part at w rows
+  part-behind h =
+      let e : length (take to rows) ≡ to = length-take-le to rows (omega arith) in
+      let f : length (take (to + length new) rows) ≡ to + length new = length-take-le (to + length new) rows (omega arith) in
+      part-back at (at - (to + w)) w (take to rows ++ new) (drop (to + length new) rows) (omega (arith, length-append (take to rows) new))
+      ∙ sym (part-back at (at - (to + w)) w (take (to + length new) rows) (drop (to + length new) rows) (omega arith))
+      ∙ ap (λ (l : List ℕ). part at w l) (take-append-drop (to + length new) rows)
+
+pub row-apart : (r s w : ℕ) → (r ≡ s → ⊥) → (r * w + w ≤ s * w) ⊎ (s * w + w ≤ r * w)
+row-apart r s w ne = go (decLt r s)
+  where
+    less : (a b : ℕ) → a < b → a * w + w ≤ b * w
+    less a b h = omega (arith, mul-le-mul-right w h, suc-mul a w)
+
+    go : Dec (r < s) → (r * w + w ≤ s * w) ⊎ (s * w + w ≤ r * w)
+    go (yes h) = inl (less r s h)
+    go (no h) = inr (less s r (omega arith))
+
+pub part-other : (rows : List ℕ) (r s w : ℕ) (new : List ℕ) → length new ≡ w → s * w + w ≤ length rows → (r ≡ s → ⊥)
+    → part (r * w) w (splice rows (s * w) new) ≡ part (r * w) w rows
+part-other rows r s w new e h ne = go (row-apart r s w ne)
+  where
+    go : (r * w + w ≤ s * w) ⊎ (s * w + w ≤ r * w) → part (r * w) w (splice rows (s * w) new) ≡ part (r * w) w rows
+    go (inl before) = part-before rows (r * w) (s * w) w new e h before
+    go (inr behind) = part-behind rows (r * w) (s * w) w new e h behind

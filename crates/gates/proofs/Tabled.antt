@@ -1,0 +1,159 @@
+-- Rows of bytes that are packed tables (specs/Rows.antt, specs/Form.antt).
+--
+--   row-packed           bytes whose bits are a table's entries where the mask is 1, and 0 elsewhere
+--   answered             the table of a kind's answers to the tables at two places
+--   gate-packed          the bytes of the gate step are that table
+--   level-packed         the mask in every byte, or 0, is the table of a level
+--   patternOf            an input's entries within a byte, for the first three inputs
+--   pattern-rest         the pattern of a line that is neither 0 nor 1
+--   pattern-packed       the masked pattern in every byte is the table of one of the first three inputs
+--   alternate-packed     bytes that alternate are the table of a further input
+--   kind-spliced         equal kinds leave the same rows
+--   gate-spliced         where the bytes of the gate step are put, the answers stand
+--   level-spliced        so for a level
+--   pattern-spliced      so for one of the first three inputs
+--   alternate-spliced    so for a further input
+use Prim.Native.Nat.{ℕ, _+_, _-_, _*_, _/_, _%_, _^_, _≤_, _<_}
+use native.Mathlib.Nat.{zero-mul, one-mul, mul-one, mul-zero, zero-div, div-add-mod', lt-of-le-of-lt}
+use native.Mathlib.Omega.{arith}
+use mathlib.Core.Path.{_≡_, sym, ap, ap₂, _∙_, subst}
+use mathlib.Core.Bool.{Bool, true, false, cond}
+use mathlib.Core.List.{List, [], _∷_}
+use mathlib.Core.Logic.{⊎-elim}
+use borrow.Author.Tests.{lt-ltb, le-ltb}
+use lib.Bits.{bitAnd, and-le-r}
+use lib.Dec.{ltb}
+use lib.ListN.{getD, drop, List·getD-eq-default}
+use lib.Pow.{shr-shr}
+use lib.Seq.{getD-take, getD-drop}
+use Rattle.bits.specs.Packed.{tabulate, packed, entry}
+use Rattle.bits.proofs.Below.{lt-or-ge, equal-below}
+use Rattle.bits.proofs.Digits.{digit-lt, digit-above, digit-and}
+use Rattle.bits.proofs.Packed.{Bytes, length-tabulate, tabulate-at, tabulate-past, packed-unique}
+use Rattle.job.specs.Record.{levelNumber}
+use Rattle.gates.specs.Answers.{answers, answer}
+use Rattle.gates.specs.Form.{tableBytes, keepOf, shapeOf, combined, formOf, alternating}
+use Rattle.gates.specs.Rows.{part, splice}
+use Rattle.gates.specs.Values.{inputValue}
+use Rattle.gates.specs.declared.Form.{Form}
+use Rattle.gates.specs.declared.Shape.{Shape}
+use Rattle.gates.proofs.Kept.{keep-lt, keep-digit, keep-full, full-digit}
+use Rattle.gates.proofs.Polynomial.{copies-fit, step-lt, step-digit}
+
+bytes-tabulate : (n : ℕ) (g : ℕ → ℕ) → ((i : ℕ) → g i < 256) → Bytes (tabulate n g)
+bytes-tabulate n g h i = ⊎-elim (λ l. rw (tabulate-at n g i l) (h i)) (λ l. rw (tabulate-past n g i l) (omega arith)) (lt-or-ge i n)
+
+-- bit 7 − (m mod 8) of a byte, where entry m stands
+abbrev bitFor : ℕ → ℕ → ℕ
+bitFor m byte = byte / 2 ^ (7 - m % 8) % 2
+
+module _ (n : ℕ) (f g : ℕ → ℕ) (byte : (i : ℕ) → g i < 256)
+    (bit : (m : ℕ) → m < 8 * tableBytes n → bitFor m (g (m / 8)) ≡ bitFor m (keepOf n) * f m) where
+  entry-row : (m : ℕ) → m < 8 * tableBytes n → entry (tabulate (tableBytes n) g) m ≡ cond (ltb m (2 ^ n)) 1 0 * f m
+  unfolding entry
+  entry-row m h =
+      ap (bitFor m) (tabulate-at (tableBytes n) g (m / 8) (omega arith)) ∙ bit m h ∙ ap (λ (x : ℕ). x * f m) (keep-digit n m h)
+
+  pub row-packed : tabulate (tableBytes n) g ≡ packed (2 ^ n) f
+  row-packed =
+      packed-unique (2 ^ n) f (tabulate (tableBytes n) g) (length-tabulate (tableBytes n) g) (bytes-tabulate (tableBytes n) g byte)
+      (λ m h. entry-row m (omega arith) ∙ rw (lt-ltb m (2 ^ n) h) (one-mul (f m)))
+      (λ m h l. entry-row m (rw length-tabulate at l) ∙ rw (le-ltb m (2 ^ n) h) (zero-mul (f m)))
+
+entry-part : (x count : ℕ) (rows : List ℕ) (m : ℕ) → m < 8 * count → entry (part x count rows) m ≡ bitFor m (getD rows (x + m / 8) 0)
+unfolding entry
+entry-part x count rows m h = ap (bitFor m) (getD-take count (drop x rows) (m / 8) 0 (omega arith) ∙ getD-drop x rows (m / 8) 0)
+
+-- the table of a kind's answers to the tables at two places
+abbrev pub answered : Shape → ℕ → ℕ → ℕ → List ℕ → List ℕ
+answered shape kind x y rows = packed (2 ^ (shape .inputs)) (λ m. answer kind (entry (part x (shape .bytes) rows) m) (entry (part y (shape .bytes) rows) m))
+
+pub gate-packed : (n kind x y : ℕ) (rows : List ℕ) → kind < 8
+    → tabulate (tableBytes n) (combined (formOf (getD answers kind []) (keepOf n)) x y rows) ≡ answered (shapeOf n) kind x y rows
+gate-packed n kind x y rows h =
+    row-packed n _ (combined (formOf (getD answers kind []) (keepOf n)) x y rows) (λ i. step-lt (getD answers kind []) (keepOf n) (keep-lt n) _ _)
+    (λ m l. step-digit kind (keepOf n) _ _ (7 - m % 8) h (omega arith)
+    ∙ ap₂ (λ (a b : ℕ). bitFor m (keepOf n) * answer kind a b) (sym (entry-part x (tableBytes n) rows m l)) (sym (entry-part y (tableBytes n) rows m l)))
+
+pub level-packed : (n : ℕ) (level : Bool) → tabulate (tableBytes n) (λ i. cond level (keepOf n) 0) ≡ packed (2 ^ n) (λ m. levelNumber level)
+level-packed n true = row-packed n (λ m. 1) (λ i. keepOf n) (λ i. keep-lt n) (λ m l. sym (mul-one (bitFor m (keepOf n))))
+level-packed n false =
+    row-packed n (λ m. 0) (λ i. 0) (λ i. omega arith)
+    (λ m l. ap (λ (x : ℕ). x % 2) (zero-div (2 ^ (7 - m % 8))) ∙ sym (mul-zero (bitFor m (keepOf n))))
+
+-- 01010101, 00110011 and 00001111
+abbrev pub patternOf : ℕ → ℕ
+patternOf line = getD (85 ∷ 51 ∷ []) line 15
+
+pub pattern-rest : (line : ℕ) → (line ≡ 0 → ⊥) → (line ≡ 1 → ⊥) → patternOf line ≡ 15
+pattern-rest line h0 h1 = List·getD-eq-default (85 ∷ 51 ∷ []) 15 {n = line} (omega arith)
+
+pattern-digit : (line m : ℕ) → line < 3 → bitFor m (patternOf line) ≡ m / 2 ^ line % 2
+pattern-digit line m h =
+    equal-below (λ line r. patternOf line / 2 ^ (7 - r) % 2) (λ line r. r / 2 ^ line % 2) 3 8 tt line (m % 8) h (omega arith)
+    ∙ sym (digit-above 3 line (m / 8) (m % 8) h) ∙ ap (λ (x : ℕ). x / 2 ^ line % 2) (div-add-mod' m 8)
+
+and-bits : (a b : ℕ) → a < 2 → b < 2 → bitAnd a b ≡ b * a
+and-bits = equal-below (λ a b. bitAnd a b) (λ a b. b * a) 2 2 tt
+
+pub pattern-packed : (n line : ℕ) → line < 3 → tabulate (tableBytes n) (λ i. bitAnd (patternOf line) (keepOf n)) ≡ packed (2 ^ n) (λ m. inputValue m line)
+unfolding inputValue
+pattern-packed n line h =
+    row-packed n (λ m. m / 2 ^ line % 2) (λ i. bitAnd (patternOf line) (keepOf n)) (λ i. lt-of-le-of-lt (and-le-r (patternOf line) (keepOf n)) (keep-lt n))
+    (λ m l. digit-and (patternOf line) (keepOf n) (7 - m % 8)
+    ∙ and-bits _ _ (digit-lt (patternOf line) (7 - m % 8)) (digit-lt (keepOf n) (7 - m % 8))
+    ∙ ap (λ (x : ℕ). bitFor m (keepOf n) * x) (pattern-digit line m h))
+
+byte-digit : (m line : ℕ) → 3 ≤ line → m / 8 / 2 ^ (line - 3) % 2 ≡ m / 2 ^ line % 2
+byte-digit m line h = ap (λ (x : ℕ). x % 2) (shr-shr m 3 (line - 3)) ∙ (let e : 3 + (line - 3) ≡ line = omega arith in rw e)
+
+pub alternate-packed : (n line : ℕ) → 3 ≤ line → line < n → tabulate (tableBytes n) (alternating (line - 3)) ≡ packed (2 ^ n) (λ m. inputValue m line)
+unfolding inputValue
+alternate-packed n line h l =
+    row-packed n (λ m. m / 2 ^ line % 2) (alternating (line - 3)) (λ i. copies-fit (digit-lt i (line - 3)) .fits)
+    (λ m _. full-digit (m / 8 / 2 ^ (line - 3) % 2) (7 - m % 8) (digit-lt (m / 8) (line - 3)) (omega arith)
+    ∙ byte-digit m line h ∙ sym (one-mul (m / 2 ^ line % 2))
+    ∙ ap (λ (x : ℕ). x * (m / 2 ^ line % 2)) (sym (keep-full n (7 - m % 8) (omega arith) (omega arith))))
+
+pub kind-spliced : (shape : Shape) (to x y : ℕ) (rows : List ℕ) (kind same : ℕ) → kind ≡ same → {out : List ℕ}
+    → out ≡ splice rows to (answered shape kind x y rows) → out ≡ splice rows to (answered shape same x y rows)
+kind-spliced shape to x y rows kind same e p = p ∙ ap (λ (k : ℕ). splice rows to (answered shape k x y rows)) e
+
+-- ---- over a shape, where the row stands in other rows
+
+module _ (shape : Shape) (to : ℕ) (rows : List ℕ) (shaped : shape ≡ shapeOf (shape .inputs)) where
+  -- a table that is the right one at its shape is spliced
+  spliced : (table : Shape → List ℕ) (right : Shape → List ℕ) → table (shapeOf (shape .inputs)) ≡ right (shapeOf (shape .inputs)) → {out : List ℕ}
+      → out ≡ splice rows to (table shape) → out ≡ splice rows to (right shape)
+  spliced table right same e = e ∙ ap (splice rows to) (subst (λ (s : Shape). table s ≡ right s) (sym shaped) same)
+
+  pub gate-spliced : (kind x y : ℕ) (form : Form) → kind < 8 → form ≡ formOf (getD answers kind []) (shape .keep) → {out : List ℕ}
+      → out ≡ splice rows to (tabulate (shape .bytes) (combined form x y rows))
+      → out ≡ splice rows to (answered shape kind x y rows)
+  gate-spliced kind x y form h formed e =
+      spliced (λ s. tabulate (s .bytes) (combined (formOf (getD answers kind []) (s .keep)) x y rows))
+      (λ s. answered s kind x y rows)
+      (gate-packed (shape .inputs) kind x y rows h)
+      (e ∙ ap (λ (f : Form). splice rows to (tabulate (shape .bytes) (combined f x y rows))) formed)
+
+  pub level-spliced : (level : Bool) (byte : ℕ) → byte ≡ cond level (shape .keep) 0 → {out : List ℕ}
+      → out ≡ splice rows to (tabulate (shape .bytes) (λ i. byte)) → out ≡ splice rows to (packed (2 ^ (shape .inputs)) (λ m. levelNumber level))
+  level-spliced level byte b e =
+      spliced (λ s. tabulate (s .bytes) (λ i. cond level (s .keep) 0)) (λ s. packed (2 ^ (s .inputs)) (λ m. levelNumber level))
+      (level-packed (shape .inputs) level)
+      (e ∙ ap (λ (v : ℕ). splice rows to (tabulate (shape .bytes) (λ i. v))) b)
+
+  pub pattern-spliced : (line pattern : ℕ) → line < 3 → pattern ≡ patternOf line → {out : List ℕ}
+      → out ≡ splice rows to (tabulate (shape .bytes) (λ i. bitAnd pattern (shape .keep)))
+      → out ≡ splice rows to (packed (2 ^ (shape .inputs)) (λ m. inputValue m line))
+  pattern-spliced line pattern h p e =
+      spliced (λ s. tabulate (s .bytes) (λ i. bitAnd (patternOf line) (s .keep))) (λ s. packed (2 ^ (s .inputs)) (λ m. inputValue m line))
+      (pattern-packed (shape .inputs) line h)
+      (e ∙ ap (λ (v : ℕ). splice rows to (tabulate (shape .bytes) (λ i. bitAnd v (shape .keep)))) p)
+
+  pub alternate-spliced : (line : ℕ) → 3 ≤ line → line < shape .inputs → {out : List ℕ}
+      → out ≡ splice rows to (tabulate (shape .bytes) (alternating (line - 3)))
+      → out ≡ splice rows to (packed (2 ^ (shape .inputs)) (λ m. inputValue m line))
+  alternate-spliced line h l e =
+      spliced (λ s. tabulate (s .bytes) (alternating (line - 3))) (λ s. packed (2 ^ (s .inputs)) (λ m. inputValue m line))
+      (alternate-packed (shape .inputs) line h l) e

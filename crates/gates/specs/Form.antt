@@ -1,0 +1,48 @@
+-- The gate step over packed bytes: a gate's answers as a polynomial over xor and and.
+--
+--   Shape         the size of a packed table of n inputs: its bytes, and the bits of each byte that are entries
+--   tableBytes    the bytes of a table
+--   step          eight answers, for two bytes of eight entries each
+--   combined      byte i of a table of answers, for the tables at two places
+--   formOf        the polynomial of a row of four answers, over the bits of a mask
+--   alternating   byte i of the table of an input from the fourth on: eight copies of a bit of i
+use Prim.Native.Nat.{ℕ, _+_, _*_, _/_, _%_, _^_}
+use mathlib.Core.List.{List, [], _∷_}
+use lib.ListN.{getD}
+use lib.Bits.{bitAnd, bitXor}
+use Rattle.gates.specs.declared.Form.{Form}
+use Rattle.gates.specs.declared.Shape.{Shape}
+
+-- "(N+7) div 8 bytes", with N = 2 to the power n
+abbrev pub tableBytes : ℕ → ℕ
+tableBytes n = (2 ^ n + 7) / 8
+
+-- the bits of a table's bytes that are no spare bits: one, two and four of n 0, 1 and 2, else all
+abbrev pub keepOf : ℕ → ℕ
+keepOf n = getD (128 ∷ 192 ∷ 240 ∷ []) n 255
+
+abbrev pub shapeOf : ℕ → Shape
+shapeOf n = record { inputs = n; bytes = tableBytes n; keep = keepOf n }
+
+abbrev pub step : Form → ℕ → ℕ → ℕ
+step f x y = bitXor (bitXor (bitXor (f .constant) (bitAnd (f .first) x)) (bitAnd (f .second) y)) (bitAnd (f .both) (bitAnd x y))
+
+abbrev pub combined : Form → ℕ → ℕ → List ℕ → ℕ → ℕ
+combined f x y rows i = step f (getD rows (x + i) 0) (getD rows (y + i) 0)
+
+abbrev pub alternating : ℕ → ℕ → ℕ
+alternating bit i = 255 * (i / 2 ^ bit % 2)
+
+-- the polynomial of a row of four answers, its constants made of bits
+unfoldable pub formWith : (ℕ → ℕ) → List ℕ → Form
+formWith made row =
+    record {
+      constant = made (getD row 0 0);
+      first = made (bitXor (getD row 0 0) (getD row 2 0));
+      second = made (bitXor (getD row 0 0) (getD row 1 0));
+      both = made (bitXor (bitXor (getD row 0 0) (getD row 1 0)) (bitXor (getD row 2 0) (getD row 3 0)));
+    }
+
+unfoldable pub formOf : List ℕ → ℕ → Form
+unfolding formWith
+formOf row keep = formWith (λ b. bitAnd (255 * b) keep) row

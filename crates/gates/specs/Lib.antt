@@ -1,0 +1,4 @@
+pub mod Answers
+pub mod Form
+pub mod Rows
+pub mod Values
