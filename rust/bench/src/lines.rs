@@ -1,0 +1,211 @@
+//! What is measured: calls of both libraries with the same arguments.
+
+use horncurlew::Entry;
+use std::hint::black_box;
+
+/// The library that is called.
+#[derive(Clone, Copy, PartialEq, Eq)]
+pub enum Library {
+    Proved,
+    Reference,
+}
+
+/// A job and the arguments of calls with it.
+pub struct Case {
+    pub bytes: Vec<u8>,
+    inputs: usize,
+    polarity: usize,
+    /// The circuit of the table, and the table.
+    circuit: usize,
+    table: Vec<u8>,
+    /// The isolating signatures by RM and by MRM, and a circuit's readings for them.
+    lists: [List; 2],
+    work: usize,
+}
+
+struct List {
+    indices: Vec<u16>,
+    entries: Vec<Entry>,
+    readings: Vec<u16>,
+}
+
+/// The memory that calls are lent, the same for both libraries.
+pub struct Memory {
+    bytes: [u8; 32],
+    numbers: Vec<u16>,
+}
+
+impl Memory {
+    pub fn new() -> Memory {
+        Memory { bytes: [0; 32], numbers: vec![0; horncurlew::MOST_WORK] }
+    }
+}
+
+const KINDS: [reference::Kind; 2] = [reference::Kind::Rm, reference::Kind::Mrm];
+
+impl Case {
+    /// The calls of a job without alike circuits. The circuit that is located is the last.
+    pub fn new(bytes: Vec<u8>) -> Case {
+        let job = reference::read(&bytes).expect("a job");
+        let (inputs, circuit) = (usize::from(job.inputs), usize::from(job.fault_count));
+        let places = 1usize << inputs;
+        // A polarity of both levels.
+        let polarity = 0x5a & (places - 1);
+        let mut table = vec![0; places.div_ceil(8)];
+        reference::table(&bytes, circuit, &mut table).expect("a table");
+        let mut work = vec![0; (circuit + 1) * places];
+        let lists = KINDS.map(|kind| {
+            let chosen = reference::choose(&bytes, reference::Purpose::Isolating, kind, polarity, &mut work);
+            let reference::Chosen::Signature { count, entries, .. } = chosen else { panic!("{chosen:?}") };
+            let indices = entries[..count].to_vec();
+            let readings = indices.iter().map(|index| work[circuit * places + usize::from(*index)]).collect();
+            List { entries: indices.iter().copied().map(Entry::new).collect(), indices, readings }
+        });
+        Case { bytes, inputs, polarity, circuit, table, lists, work: work.len() }
+    }
+}
+
+/// A line of the table.
+#[derive(Clone, Copy, PartialEq, Eq)]
+pub enum Line {
+    Reading,
+    Table,
+    Spectrum(Kind),
+    Choosing(Purpose, Kind),
+    Locating(Kind),
+}
+
+#[derive(Clone, Copy, PartialEq, Eq)]
+pub enum Kind {
+    Rm,
+    Mrm,
+}
+
+#[derive(Clone, Copy, PartialEq, Eq)]
+pub enum Purpose {
+    Isolating,
+    Detecting,
+}
+
+use Kind::{Mrm, Rm};
+use Purpose::{Detecting, Isolating};
+
+pub const LINES: [Line; 10] = [
+    Line::Reading,
+    Line::Table,
+    Line::Spectrum(Rm),
+    Line::Spectrum(Mrm),
+    Line::Choosing(Isolating, Rm),
+    Line::Choosing(Isolating, Mrm),
+    Line::Choosing(Detecting, Rm),
+    Line::Choosing(Detecting, Mrm),
+    Line::Locating(Rm),
+    Line::Locating(Mrm),
+];
+
+impl Kind {
+    fn proved(self) -> horncurlew::Kind {
+        match self {
+            Rm => horncurlew::Kind::Rm,
+            Mrm => horncurlew::Kind::Mrm,
+        }
+    }
+
+    fn reference(self) -> reference::Kind {
+        KINDS[self as usize]
+    }
+}
+
+impl Purpose {
+    fn proved(self) -> horncurlew::Purpose {
+        match self {
+            Isolating => horncurlew::Purpose::Isolating,
+            Detecting => horncurlew::Purpose::Detecting,
+        }
+    }
+
+    fn reference(self) -> reference::Purpose {
+        match self {
+            Isolating => reference::Purpose::Isolating,
+            Detecting => reference::Purpose::Detecting,
+        }
+    }
+}
+
+impl Line {
+    pub fn name(self) -> &'static str {
+        match self {
+            Line::Reading => "reading",
+            Line::Table => "table",
+            Line::Spectrum(Rm) => "spectrum RM",
+            Line::Spectrum(Mrm) => "spectrum MRM",
+            Line::Choosing(Isolating, Rm) => "isolating RM",
+            Line::Choosing(Isolating, Mrm) => "isolating MRM",
+            Line::Choosing(Detecting, Rm) => "detecting RM",
+            Line::Choosing(Detecting, Mrm) => "detecting MRM",
+            Line::Locating(Rm) => "locating RM",
+            Line::Locating(Mrm) => "locating MRM",
+        }
+    }
+
+    /// Makes the call once.
+    pub fn run(self, library: Library, case: &Case, memory: &mut Memory) {
+        let case = black_box(case);
+        match library {
+            Library::Proved => self.run_proved(case, memory),
+            Library::Reference => self.run_reference(case, memory),
+        }
+        black_box(memory);
+    }
+
+    fn run_proved(self, case: &Case, memory: &mut Memory) {
+        use horncurlew::{check, choose, locate, spectrum, table};
+        let bytes = &case.bytes[..];
+        let (out, numbers) = (&mut memory.bytes[..], &mut memory.numbers[..]);
+        match self {
+            Line::Reading => {
+                black_box(check(bytes).is_ok());
+            }
+            Line::Table => {
+                black_box(table(bytes, case.circuit, out).is_ok());
+            }
+            Line::Spectrum(kind) => {
+                black_box(spectrum(case.inputs, &case.table, kind.proved(), case.polarity, numbers).is_ok());
+            }
+            Line::Choosing(purpose, kind) => {
+                let work = &mut numbers[..case.work];
+                let _ = black_box(choose(bytes, purpose.proved(), kind.proved(), case.polarity, work));
+            }
+            Line::Locating(kind) => {
+                let (list, work) = (&case.lists[kind as usize], &mut numbers[..case.work]);
+                let located = locate(bytes, kind.proved(), case.polarity, &list.entries, &list.readings, work);
+                let _ = black_box(located);
+            }
+        }
+    }
+
+    fn run_reference(self, case: &Case, memory: &mut Memory) {
+        use reference::{choose, locate, read, spectrum, table};
+        let bytes = &case.bytes[..];
+        let (out, numbers) = (&mut memory.bytes[..], &mut memory.numbers[..]);
+        match self {
+            Line::Reading => {
+                let _ = black_box(read(bytes));
+            }
+            Line::Table => {
+                black_box(table(bytes, case.circuit, out).is_ok());
+            }
+            Line::Spectrum(kind) => {
+                black_box(spectrum(case.inputs, &case.table, kind.reference(), case.polarity, numbers).is_ok());
+            }
+            Line::Choosing(purpose, kind) => {
+                let work = &mut numbers[..case.work];
+                black_box(choose(bytes, purpose.reference(), kind.reference(), case.polarity, work));
+            }
+            Line::Locating(kind) => {
+                let (list, work) = (&case.lists[kind as usize], &mut numbers[..case.work]);
+                black_box(locate(bytes, kind.reference(), case.polarity, &list.indices, &list.readings, work));
+            }
+        }
+    }
+}

@@ -1,0 +1,88 @@
+//! How long the proved library takes for what the reference does, on the same jobs, in one run.
+//!
+//! A ratio is the proved library's time by the reference's: the median of many rounds, in each of which both are timed
+//! one after the other, with the quarters of the rounds below and above it. The times of a call stand beside them for
+//! the order of size; they are this machine's. The jobs have no alike circuits and no loose gates.
+
+#![forbid(unsafe_code)]
+
+mod instructions;
+mod lines;
+mod measure;
+
+use differential::jobs::full_job;
+use differential::random::Random;
+use lines::{Case, Kind, Library, Line, Memory, Purpose, LINES};
+use measure::{ratio, Timed};
+
+const MOST_GATES: usize = 64;
+const MOST_FAULTS: usize = 63;
+/// How many jobs each line takes.
+const JOBS: u64 = 8;
+
+fn main() {
+    if instructions::counted() {
+        return;
+    }
+    let mut memory = Memory::new();
+    ratios(&mut memory);
+    growth(&mut memory);
+}
+
+fn cases(inputs: usize, gates: usize, faults: usize) -> Vec<Case> {
+    (1..=JOBS).map(|seed| Case::new(full_job(&mut Random::new(seed), inputs, gates, faults))).collect()
+}
+
+/// The lines of the largest lists.
+fn ratios(memory: &mut Memory) {
+    let counts = instructions::has_valgrind();
+    println!("Proved library by reference, {JOBS} jobs of {MOST_GATES} gates and {MOST_FAULTS} faults");
+    println!();
+    println!("                         time                     instructions  (microseconds a call)");
+    println!("inputs  line            ratio  quarters          ratio         proved  reference");
+    for inputs in [8, 6, 4] {
+        let cases = cases(inputs, MOST_GATES, MOST_FAULTS);
+        for line in LINES {
+            let counted = if counts { instructions::ratio(line, &cases) } else { None };
+            let counted = counted.map_or("-".into(), |ratio| format!("{ratio:.2}"));
+            let timed = |library| Timed { line, library, cases: &cases };
+            let ratio = ratio(timed(Library::Proved), timed(Library::Reference), memory);
+            let quarters = format!("{:.2} to {:.2}", ratio.lower, ratio.upper);
+            println!(
+                "{inputs:>6}  {:<14}  {:>5.2}  {quarters:<16}  {counted:>5}  {:>13.3}  {:>9.3}",
+                line.name(),
+                ratio.median,
+                ratio.first,
+                ratio.second
+            );
+        }
+    }
+    if !counts {
+        println!("(instructions are counted where valgrind is there)");
+    }
+}
+
+/// How choosing grows: each library's time by its own for the largest list, and the ratio of the two.
+fn growth(memory: &mut Memory) {
+    let full = cases(8, MOST_GATES, MOST_FAULTS);
+    let by_inputs = [4, 5, 6, 7, 8].map(|inputs| (inputs, MOST_GATES, MOST_FAULTS));
+    let by_gates = [8, 16, 32, 48, 64].map(|gates| (8, gates, 31));
+    let by_faults = [0, 1, 7, 15, 31, 47, 63].map(|faults| (8, MOST_GATES, faults));
+    for kind in [Kind::Rm, Kind::Mrm] {
+        let line = Line::Choosing(Purpose::Isolating, kind);
+        println!();
+        println!("Growth of {}: time by that of 8 inputs, {MOST_GATES} gates, {MOST_FAULTS} faults", line.name());
+        println!();
+        println!("inputs  gates  faults  proved  reference  proved by reference");
+        for counts in [&by_inputs[..], &by_gates, &by_faults] {
+            for (inputs, gates, faults) in counts {
+                let cases = cases(*inputs, *gates, *faults);
+                let timed = |library, cases| Timed { line, library, cases };
+                let mut grown = |library| ratio(timed(library, &cases), timed(library, &full), memory).median;
+                let (proved, reference) = (grown(Library::Proved), grown(Library::Reference));
+                let both = ratio(timed(Library::Proved, &cases), timed(Library::Reference, &cases), memory);
+                println!("{inputs:>6}  {gates:>5}  {faults:>6}  {proved:>6.3}  {reference:>9.3}  {:>6.2}", both.median);
+            }
+        }
+    }
+}

@@ -1,0 +1,423 @@
+//! Every exported operation but the report against the reference, on seeded calls.
+
+use differential::compare::{Comparison, Kind, Operation, Purpose, NUMBERS};
+use differential::jobs::{any_job, encode, full_job, sized_job, small_job, Field};
+use differential::random::Random;
+use reference::Located;
+
+const KINDS: [Kind; 2] = [Kind::Rm, Kind::Mrm];
+const PURPOSES: [Purpose; 2] = [Purpose::Isolating, Purpose::Detecting];
+
+/// Numbers whose low bits alone would be in range.
+fn beyond(random: &mut Random, least: usize) -> usize {
+    match random.below(5) {
+        0 => least,
+        1 => least + random.below(300),
+        2 => usize::MAX - random.below(3),
+        3 => random.below(least.min(256)) + (1 << random.pick(&[8, 16, 31, 32, 63])),
+        _ => (random.number() as usize).max(least),
+    }
+}
+
+/// Mostly below the limit.
+fn around(random: &mut Random, limit: usize) -> usize {
+    if random.once_in(6) {
+        beyond(random, limit)
+    } else {
+        random.below(limit)
+    }
+}
+
+/// Mostly enough room; else from none up.
+fn room(random: &mut Random, enough: usize) -> usize {
+    match random.below(10) {
+        0 => 0,
+        1 => enough - 1,
+        2 => random.below(enough),
+        3 => enough + 1,
+        4 => enough + random.below(40),
+        _ => enough,
+    }
+}
+
+/// The counts of a job that may be damaged: its own, or any.
+fn counts(random: &mut Random, bytes: &[u8]) -> (usize, usize) {
+    match reference::read(bytes) {
+        Ok(job) => (job.inputs.into(), job.fault_count.into()),
+        Err(_) => (1 + random.below(8), random.below(12)),
+    }
+}
+
+/// A list of indices and its readings, both mostly as they should be. `work` holds the spectra of all circuits.
+fn list(random: &mut Random, inputs: usize, work: &[u16]) -> (Vec<u16>, Vec<u16>) {
+    let places = 1 << inputs;
+    let length = match random.below(8) {
+        0 => 0,
+        1 => random.below(400),
+        _ => random.below(9),
+    };
+    let mut indices: Vec<u16> = (0..length).map(|_| random.below(places) as u16).collect();
+    let circuit = random.below((work.len() / places).max(1));
+    let reading = |index: &u16| work.get(circuit * places + usize::from(*index)).copied().unwrap_or(0);
+    let mut readings: Vec<u16> = indices.iter().map(reading).collect();
+    if length > 0 && random.once_in(5) {
+        let last = length - 1;
+        readings[random.pick(&[0, last, last / 2])] ^= random.pick(&[1, 2, 0x100, 0x8000]);
+    }
+    if length > 0 && random.once_in(8) {
+        let place = random.below(length);
+        indices[place] = beyond(random, places).min(0xffff) as u16;
+    }
+    match random.below(16) {
+        0 => readings.push(random.below(3) as u16),
+        1 => drop(readings.pop()),
+        2 => indices.push(random.below(places) as u16),
+        3 => readings.clear(),
+        _ => {}
+    }
+    (indices, readings)
+}
+
+/// Makes every call that takes a job, each once or twice, with random arguments.
+fn every_call(to: &mut Comparison, bytes: &[u8]) {
+    let (inputs, faults) = counts(&mut to.random, bytes);
+    let (places, enough) = (1 << inputs, (faults + 1) << inputs);
+    to.check(bytes);
+    let lent = room(&mut to.random, bytes.len().max(1));
+    to.rewrite(bytes, lent);
+    for _ in 0..2 {
+        let circuit = around(&mut to.random, faults + 1);
+        let lent = room(&mut to.random, usize::div_ceil(places, 8));
+        to.table(bytes, circuit, lent);
+    }
+    for purpose in PURPOSES {
+        let kind = to.random.pick(&KINDS);
+        let polarity = around(&mut to.random, places);
+        let lent = room(&mut to.random, enough);
+        let signature = to.choose(bytes, purpose, kind, polarity, lent);
+        if let (Some(indices), Purpose::Isolating) = (signature, purpose) {
+            name_alone(to, bytes, kind, polarity, &indices, faults, places);
+        }
+    }
+    let (kind, polarity) = (to.random.pick(&KINDS), around(&mut to.random, places));
+    let mut work = vec![0; enough];
+    reference::locate(bytes, kind, polarity, &[], &[], &mut work);
+    let (indices, readings) = list(&mut to.random, inputs, &work);
+    let lent = room(&mut to.random, enough);
+    to.locate(bytes, kind, polarity, &indices, &readings, lent);
+}
+
+/// The readings of a circuit for an isolating signature name it alone.
+fn name_alone(
+    to: &mut Comparison,
+    bytes: &[u8],
+    kind: Kind,
+    polarity: usize,
+    indices: &[u16],
+    faults: usize,
+    places: usize,
+) {
+    let mut work = vec![0; (faults + 1) * places];
+    reference::locate(bytes, kind, polarity, &[], &[], &mut work);
+    let circuit = to.random.below(faults + 1);
+    let readings: Vec<u16> = indices.iter().map(|index| work[circuit * places + usize::from(*index)]).collect();
+    let located = to.locate(bytes, kind, polarity, indices, &readings, work.len());
+    assert_eq!(located, Some(Located::Alone(circuit)));
+}
+
+/// Bytes that are no job any more, mostly.
+fn damage(random: &mut Random, fields: &[Field]) -> Vec<u8> {
+    let mut fields = fields.to_vec();
+    if random.once_in(2) {
+        for _ in 0..1 + random.below(2) {
+            let place = random.below(fields.len());
+            fields[place].value = random.below(1 << fields[place].width) as u8;
+        }
+        return encode(&fields);
+    }
+    let mut bytes = encode(&fields);
+    match random.below(4) {
+        0 => bytes.truncate(random.below(bytes.len())),
+        1 => {
+            let count = 1 + random.below(4);
+            let value = random.pick(&[0, 0, 1, 0x80, 0xff]);
+            bytes.extend(vec![value; count]);
+        }
+        _ => {
+            for _ in 0..1 + random.below(3) {
+                let bit = random.below(8 * bytes.len());
+                bytes[bit / 8] ^= 0x80 >> (bit % 8);
+            }
+        }
+    }
+    bytes
+}
+
+/// A spectrum and undoing with random arguments.
+fn spectra(to: &mut Comparison) {
+    let inputs = 1 + to.random.below(8);
+    let places = 1usize << inputs;
+    let (mut table, kind) = (to.random.bytes(places.div_ceil(8)), to.random.pick(&KINDS));
+    if places < 8 {
+        table[0] &= !(0xff >> places);
+    }
+    let polarity = to.random.below(places);
+    let mut numbers = vec![0; places];
+    reference::spectrum(inputs, &table, kind, polarity, &mut numbers).expect("a table");
+
+    match to.random.below(16) {
+        0 => drop(table.pop()),
+        1 => table.push(0),
+        2 => table[0] ^= 1 << to.random.below(8),
+        _ => {}
+    }
+    let (given, lent) = (around(&mut to.random, places), room(&mut to.random, places));
+    let of = if to.random.once_in(8) { beyond(&mut to.random, 9) } else { inputs };
+    let of = if to.random.once_in(16) { to.random.below(10) } else { of };
+    to.spectrum(of, &table, kind, given, lent);
+
+    match to.random.below(12) {
+        0 => drop(numbers.pop()),
+        1 => numbers.push(0),
+        2 => numbers.clear(),
+        3 => numbers = to.random.numbers(places),
+        4 => numbers = (0..places).map(|_| to.random.below(2) as u16).collect(),
+        5 | 6 => {
+            let place = to.random.below(places);
+            numbers[place] = numbers[place].wrapping_add(to.random.pick(&[1, 2, 0x100, 0x8000, 0xfffe, 0xffff]));
+        }
+        _ => {}
+    }
+    let given = if to.random.once_in(3) { around(&mut to.random, places) } else { polarity };
+    let lent = room(&mut to.random, places.div_ceil(8));
+    let kind = if to.random.once_in(8) { to.random.pick(&KINDS) } else { kind };
+    to.undo(of, &numbers, kind, given, lent);
+}
+
+/// Each operation meets each of its refusals, and success, and no other refusal.
+#[test]
+fn every_refusal_of_every_operation() {
+    let mut to = Comparison::new(1);
+    for turn in 0..50_000 {
+        let fields = if turn % 40 == 0 { sized_job(&mut to.random) } else { small_job(&mut to.random) };
+        let bytes = if turn % 5 < 2 { encode(&fields) } else { damage(&mut to.random, &fields) };
+        every_call(&mut to, &bytes);
+        spectra(&mut to);
+    }
+    println!("{}", to.tally);
+    for operation in Operation::ALL {
+        for number in 0..NUMBERS {
+            let count = to.tally.of(operation, number);
+            let has = number == 0 || operation.refusals().contains(&number);
+            assert_eq!(count > 0, has, "{operation:?} answered {number} {count} times");
+        }
+    }
+}
+
+#[test]
+fn jobs_of_every_size() {
+    let mut to = Comparison::new(2);
+    for _ in 0..4000 {
+        let bytes = encode(&sized_job(&mut to.random));
+        every_call(&mut to, &bytes);
+    }
+}
+
+/// The most inputs, gates and faults, no two circuits alike: all kinds and purposes, and every table.
+#[test]
+fn full_jobs() {
+    let mut to = Comparison::new(3);
+    for turn in 0..100 {
+        let inputs = [8, 7, 6, 5][turn % 4];
+        let bytes = full_job(&mut to.random, inputs, 64, 63);
+        for circuit in 0..64 {
+            to.table(&bytes, circuit, 32);
+        }
+        for kind in KINDS {
+            for purpose in PURPOSES {
+                let polarity = to.random.below(1 << inputs);
+                let signature = to.choose(&bytes, purpose, kind, polarity, 64 << inputs).expect("distinct circuits");
+                if purpose == Purpose::Isolating {
+                    name_alone(&mut to, &bytes, kind, polarity, &signature, 63, 1 << inputs);
+                }
+            }
+        }
+    }
+}
+
+/// Every circuit, polarity, kind and purpose of small jobs.
+#[test]
+fn all_arguments_of_small_jobs() {
+    let mut to = Comparison::new(4);
+    for turn in 0..150 {
+        let (inputs, gates, faults) = (1 + turn % 4, to.random.below(10), to.random.below(8));
+        let bytes = encode(&any_job(&mut to.random, inputs, gates, faults));
+        let (places, enough) = (1 << inputs, (faults + 1) << inputs);
+        for circuit in 0..faults + 2 {
+            to.table(&bytes, circuit, 2);
+        }
+        for polarity in 0..places + 2 {
+            for kind in KINDS {
+                for purpose in PURPOSES {
+                    to.choose(&bytes, purpose, kind, polarity, enough);
+                }
+                for index in 0..places as u16 + 2 {
+                    for reading in 0..3 {
+                        to.locate(&bytes, kind, polarity, &[index], &[reading], enough);
+                    }
+                }
+            }
+        }
+    }
+}
+
+/// Every value of every field, the others as they were.
+#[test]
+fn every_value_of_every_field() {
+    let mut to = Comparison::new(5);
+    for _ in 0..5 {
+        let fields = any_job(&mut to.random, 3, 4, 4);
+        for place in 0..fields.len() {
+            let mut fields = fields.clone();
+            for value in 0..=u8::MAX >> (8 - fields[place].width) {
+                fields[place].value = value;
+                every_call(&mut to, &encode(&fields));
+            }
+        }
+    }
+}
+
+/// Every bit flipped, every shorter length, every spare bit, and bytes after the end.
+#[test]
+fn every_bit_and_every_length() {
+    let mut to = Comparison::new(6);
+    for turn in 0..100 {
+        let fields = if turn == 0 { any_job(&mut to.random, 8, 64, 63) } else { small_job(&mut to.random) };
+        let bytes = encode(&fields);
+        for bit in 0..8 * bytes.len() {
+            let mut bytes = bytes.clone();
+            bytes[bit / 8] ^= 0x80 >> (bit % 8);
+            every_call(&mut to, &bytes);
+        }
+        for length in 0..bytes.len() {
+            every_call(&mut to, &bytes[..length]);
+        }
+        for after in [0, 1, 0x80, 0xff] {
+            for count in [1, 2, 3, 300] {
+                let mut bytes = bytes.clone();
+                bytes.extend(vec![after; count]);
+                every_call(&mut to, &bytes);
+            }
+        }
+    }
+}
+
+/// Bytes of any content; the first two such that reading mostly gets further.
+#[test]
+fn any_bytes() {
+    let mut to = Comparison::new(7);
+    for _ in 0..40_000 {
+        let length = if to.random.once_in(20) { to.random.below(300) } else { to.random.below(24) };
+        let mut bytes = to.random.bytes(length);
+        if length > 1 && !to.random.once_in(4) {
+            bytes[0] = ((1 + to.random.below(8)) << 4) as u8;
+            bytes[1] &= 0x7f;
+        }
+        every_call(&mut to, &bytes);
+    }
+}
+
+/// Lent memory of every length from none to more than enough.
+#[test]
+fn every_length_of_lent_memory() {
+    let mut to = Comparison::new(8);
+    for turn in 0..40 {
+        let fields = if turn < 3 { any_job(&mut to.random, 8, 64, 63) } else { small_job(&mut to.random) };
+        let bytes = encode(&fields);
+        let (inputs, faults) = counts(&mut to.random, &bytes);
+        let enough = (faults + 1) << inputs;
+        for lent in 0..bytes.len() + 4 {
+            to.rewrite(&bytes, lent);
+        }
+        for lent in 0..37 {
+            to.table(&bytes, faults, lent);
+            to.spectrum(8, &[0xa5; 32], Kind::Mrm, 3, 8 * lent);
+            to.undo(8, &[0; 256], Kind::Mrm, 3, lent);
+        }
+        // Of the largest work, the lengths near every power of two and near enough.
+        let near = |lent: usize| enough.abs_diff(lent) < 4 || (lent & (lent + 1)) == 0 || (lent & (lent - 1)) == 0;
+        for lent in (0..enough + 5).filter(|lent| enough < 600 || near(*lent)) {
+            for purpose in PURPOSES {
+                let kind = to.random.pick(&KINDS);
+                to.choose(&bytes, purpose, kind, 0, lent);
+            }
+            to.locate(&bytes, Kind::Mrm, 0, &[0, 1, 0], &[0, 1, 0], lent);
+        }
+        to.choose(&bytes, Purpose::Isolating, Kind::Mrm, 0, enough + 5000);
+        to.locate(&bytes, Kind::Rm, 0, &[1], &[1], enough + 5000);
+    }
+}
+
+/// Every table of up to three inputs, at every polarity; and undone.
+#[test]
+fn every_small_table() {
+    let mut to = Comparison::new(9);
+    for inputs in 1..=3 {
+        let places = 1usize << inputs;
+        for table in 0..1usize << places {
+            let table = [(table << (8 - places)) as u8];
+            for polarity in 0..places {
+                for kind in KINDS {
+                    to.spectrum(inputs, &table, kind, polarity, places);
+                    let mut numbers = vec![0; places];
+                    reference::spectrum(inputs, &table, kind, polarity, &mut numbers).expect("a table");
+                    to.undo(inputs, &numbers, kind, polarity, 1);
+                }
+            }
+        }
+        for spare in 0..=u8::MAX {
+            to.spectrum(inputs, &[spare], Kind::Mrm, 0, places);
+        }
+    }
+    // Every four small numbers as a spectrum of two inputs.
+    for number in 0..6usize.pow(4) {
+        let numbers: Vec<u16> = (0..4).map(|place| (number / 6usize.pow(place) % 6) as u16).collect();
+        for kind in KINDS {
+            to.undo(2, &numbers, kind, number % 4, 1);
+        }
+    }
+}
+
+#[test]
+fn spectra_of_any_tables() {
+    let mut to = Comparison::new(10);
+    for _ in 0..40_000 {
+        spectra(&mut to);
+    }
+}
+
+/// Each number of a spectrum changed by itself.
+#[test]
+fn every_number_of_a_spectrum() {
+    let mut to = Comparison::new(11);
+    for inputs in 1..=8 {
+        let places = 1usize << inputs;
+        for kind in KINDS {
+            let table = to.random.bytes(32);
+            let mut table = table[..places.div_ceil(8)].to_vec();
+            if places < 8 {
+                table[0] &= !(0xff >> places);
+            }
+            let polarity = to.random.below(places);
+            let mut numbers = vec![0; places];
+            reference::spectrum(inputs, &table, kind, polarity, &mut numbers).expect("a table");
+            for place in 0..places {
+                for change in [1, 2, 3, 0x100, 0x7fff, 0x8000, 0xfffe, 0xffff] {
+                    let mut numbers = numbers.clone();
+                    numbers[place] = numbers[place].wrapping_add(change);
+                    to.undo(inputs, &numbers, kind, polarity, 32);
+                }
+            }
+        }
+    }
+}

@@ -1,0 +1,232 @@
+//! The exported functions, as include/horncurlew.h declares them, each behind a safe one over slices.
+//!
+//! Each safe function passes the pointers and lengths of slices that it was lent for the call. They are valid and
+//! aligned, and a mutable one overlaps no other; this is all that the library asks. It keeps no pointer and has no
+//! state, so that calls from several threads are free of each other. The pointer of an empty slice points nowhere; the
+//! library doesn't follow it.
+
+use crate::Entry;
+
+/// The most entries that a signature can have: one less than there are circuits.
+pub(crate) const MOST_ENTRIES: usize = 63;
+
+#[repr(C)]
+pub(crate) struct JobAnswer {
+    pub(crate) number: usize,
+    pub(crate) inputs: usize,
+    pub(crate) gates: usize,
+    pub(crate) faults: usize,
+}
+
+#[repr(C)]
+pub(crate) struct LengthAnswer {
+    pub(crate) number: usize,
+    pub(crate) length: usize,
+}
+
+#[repr(C)]
+pub(crate) struct ChoiceAnswer {
+    pub(crate) number: usize,
+    pub(crate) first: usize,
+    pub(crate) second: usize,
+    pub(crate) inputs: usize,
+    pub(crate) gates: usize,
+    pub(crate) faults: usize,
+    pub(crate) count: usize,
+    pub(crate) entries: [Entry; MOST_ENTRIES],
+}
+
+#[repr(C)]
+pub(crate) struct LocationAnswer {
+    pub(crate) number: usize,
+    pub(crate) agreeing: usize,
+    pub(crate) circuit: usize,
+}
+
+#[repr(C)]
+pub(crate) struct ReportAnswer {
+    pub(crate) written: usize,
+    pub(crate) length: usize,
+}
+
+extern "C" {
+    fn horncurlew_check(bytes: *const u8, bytes_length: usize) -> JobAnswer;
+    fn horncurlew_rewrite(bytes: *const u8, bytes_length: usize, out: *mut u8, out_length: usize) -> LengthAnswer;
+    fn horncurlew_table(
+        bytes: *const u8,
+        bytes_length: usize,
+        circuit: usize,
+        out: *mut u8,
+        out_length: usize,
+    ) -> usize;
+    fn horncurlew_spectrum(
+        inputs: usize,
+        table: *const u8,
+        table_length: usize,
+        kind: u8,
+        polarity: usize,
+        out: *mut u16,
+        out_length: usize,
+    ) -> usize;
+    fn horncurlew_undo(
+        inputs: usize,
+        numbers: *const u16,
+        numbers_length: usize,
+        kind: u8,
+        polarity: usize,
+        out: *mut u8,
+        out_length: usize,
+    ) -> usize;
+    fn horncurlew_choose(
+        bytes: *const u8,
+        bytes_length: usize,
+        purpose: u8,
+        kind: u8,
+        polarity: usize,
+        work: *mut u16,
+        work_length: usize,
+    ) -> ChoiceAnswer;
+    fn horncurlew_locate(
+        bytes: *const u8,
+        bytes_length: usize,
+        kind: u8,
+        polarity: usize,
+        indices: *const Entry,
+        indices_length: usize,
+        readings: *const u16,
+        readings_length: usize,
+        work: *mut u16,
+        work_length: usize,
+    ) -> LocationAnswer;
+    fn horncurlew_report(
+        bytes: *const u8,
+        bytes_length: usize,
+        work: *mut u16,
+        work_length: usize,
+        out: *mut u8,
+        out_length: usize,
+    ) -> ReportAnswer;
+}
+
+#[inline]
+pub(crate) fn check(bytes: &[u8]) -> JobAnswer {
+    // SAFETY: the slices' own pointers and lengths; see the module's comment.
+    unsafe { horncurlew_check(bytes.as_ptr(), bytes.len()) }
+}
+
+#[inline]
+pub(crate) fn rewrite(bytes: &[u8], out: &mut [u8]) -> LengthAnswer {
+    // SAFETY: as in `check`.
+    unsafe { horncurlew_rewrite(bytes.as_ptr(), bytes.len(), out.as_mut_ptr(), out.len()) }
+}
+
+#[inline]
+pub(crate) fn table(bytes: &[u8], circuit: usize, out: &mut [u8]) -> usize {
+    // SAFETY: as in `check`.
+    unsafe { horncurlew_table(bytes.as_ptr(), bytes.len(), circuit, out.as_mut_ptr(), out.len()) }
+}
+
+#[inline]
+pub(crate) fn spectrum(inputs: usize, table: &[u8], kind: u8, polarity: usize, out: &mut [u16]) -> usize {
+    // SAFETY: as in `check`.
+    unsafe { horncurlew_spectrum(inputs, table.as_ptr(), table.len(), kind, polarity, out.as_mut_ptr(), out.len()) }
+}
+
+#[inline]
+pub(crate) fn undo(inputs: usize, numbers: &[u16], kind: u8, polarity: usize, out: &mut [u8]) -> usize {
+    // SAFETY: as in `check`.
+    unsafe { horncurlew_undo(inputs, numbers.as_ptr(), numbers.len(), kind, polarity, out.as_mut_ptr(), out.len()) }
+}
+
+#[inline]
+pub(crate) fn choose(bytes: &[u8], purpose: u8, kind: u8, polarity: usize, work: &mut [u16]) -> ChoiceAnswer {
+    // SAFETY: as in `check`.
+    unsafe { horncurlew_choose(bytes.as_ptr(), bytes.len(), purpose, kind, polarity, work.as_mut_ptr(), work.len()) }
+}
+
+#[inline]
+pub(crate) fn locate(
+    bytes: &[u8],
+    kind: u8,
+    polarity: usize,
+    indices: &[Entry],
+    readings: &[u16],
+    work: &mut [u16],
+) -> LocationAnswer {
+    // SAFETY: as in `check`; an `Entry` is a `u16` in memory.
+    unsafe {
+        horncurlew_locate(
+            bytes.as_ptr(),
+            bytes.len(),
+            kind,
+            polarity,
+            indices.as_ptr(),
+            indices.len(),
+            readings.as_ptr(),
+            readings.len(),
+            work.as_mut_ptr(),
+            work.len(),
+        )
+    }
+}
+
+#[inline]
+pub(crate) fn report(bytes: &[u8], work: &mut [u16], out: &mut [u8]) -> ReportAnswer {
+    // SAFETY: as in `check`.
+    unsafe {
+        horncurlew_report(bytes.as_ptr(), bytes.len(), work.as_mut_ptr(), work.len(), out.as_mut_ptr(), out.len())
+    }
+}
+
+#[cfg(test)]
+mod tests {
+    use super::*;
+
+    const JOB_A: [u8; 12] = [0x20, 0x20, 0x00, 0x10, 0x41, 0x80, 0x00, 0x20, 0x00, 0x20, 0x40, 0x80];
+
+    /// Any number but 0 is MRM, and detecting.
+    #[test]
+    fn numbers_of_kinds_and_purposes() {
+        let choice = |purpose, kind| {
+            let answer = choose(&JOB_A, purpose, kind, 0, &mut [0; 16]);
+            answer.entries.map(Entry::index)[..3].to_vec()
+        };
+        assert_eq!(choice(0, 0), [1, 2, 3]);
+        for other in [1, 2, 3, 0x80, 0xff] {
+            assert_eq!(choice(0, other), [1, 3, 0]);
+            assert_eq!(choice(other, 0), [3, 0, 0]);
+            assert_eq!(choice(other, other), [3, 0, 0]);
+        }
+        for other in [1, 2, 0xff] {
+            let mut out = [0; 8];
+            assert_eq!(spectrum(3, &[0x5d], other, 5, &mut out), 0);
+            assert_eq!(out, [1, 2, 2, 3, 2, 3, 4, 5]);
+            let mut table = [0; 1];
+            assert_eq!(undo(3, &out, other, 5, &mut table), 0);
+            assert_eq!(table, [0x5d]);
+            assert_eq!(locate(&JOB_A, other, 0, &[Entry::new(3)], &[2], &mut [0; 16]).agreeing, 2);
+        }
+    }
+
+    /// What a call doesn't use of its answer is 0.
+    #[test]
+    fn unused_places() {
+        let refused = check(&[0x20, 0x20, 0x00]);
+        assert_eq!((refused.number, refused.inputs, refused.gates, refused.faults), (1, 0, 0, 0));
+        let refused = rewrite(&JOB_A, &mut [0; 11]);
+        assert_eq!((refused.number, refused.length), (10, 0));
+        for (polarity, number) in [(0, 0), (4, 13)] {
+            let answer = choose(&JOB_A, 0, 1, polarity, &mut [0; 16]);
+            assert_eq!((answer.number, answer.first, answer.second), (number, 0, 0));
+            assert!(answer.entries[answer.count..].iter().all(|entry| entry.index() == 0));
+        }
+        let alike = choose(&[0x20, 0x20, 0x00, 0x10, 0x40, 0xc0, 0x00, 0x80], 0, 1, 0, &mut [0; 8]);
+        assert_eq!((alike.number, alike.first, alike.second, alike.count), (15, 0, 1, 0));
+        assert_eq!((alike.inputs, alike.gates, alike.faults), (0, 0, 0));
+        assert!(alike.entries.iter().all(|entry| entry.index() == 0));
+        let nowhere = locate(&JOB_A, 1, 0, &[Entry::new(3)], &[3], &mut [0; 16]);
+        assert_eq!((nowhere.number, nowhere.agreeing, nowhere.circuit), (0, 0, 0));
+        let refused = locate(&JOB_A, 1, 0, &[Entry::new(4)], &[3], &mut [0; 16]);
+        assert_eq!((refused.number, refused.agreeing, refused.circuit), (16, 0, 0));
+    }
+}

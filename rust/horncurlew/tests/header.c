@@ -1,0 +1,63 @@
+/* Calls every function of horncurlew.h but the report's; ends with 0 if each answers as document 01 says of job A. */
+#include "horncurlew.h"
+
+#include <stdio.h>
+#include <string.h>
+
+static int failed = 0;
+
+static void expect(int holds, const char *what) {
+    if (!holds) {
+        printf("not so: %s\n", what);
+        failed = 1;
+    }
+}
+
+int main(void) {
+    /* An AND of two inputs; line 0 stuck at 0, line 0 at 1, line 1 at 1. */
+    static const uint8_t job[12] = {0x20, 0x20, 0x00, 0x10, 0x41, 0x80, 0x00, 0x20, 0x00, 0x20, 0x40, 0x80};
+    static const uint8_t alike[8] = {0x20, 0x20, 0x00, 0x10, 0x40, 0xc0, 0x00, 0x80};
+    uint16_t work[16], numbers[8];
+    uint8_t out[HORNCURLEW_LONGEST_JOB];
+
+    expect(sizeof(horncurlew_choice_answer) == 184, "size of a choice");
+
+    horncurlew_job_answer counts = horncurlew_check(job, sizeof job);
+    expect(counts.number == 0 && counts.inputs == 2 && counts.gates == 1 && counts.faults == 3, "check");
+    counts = horncurlew_check(NULL, 0);
+    expect(counts.number == HORNCURLEW_BYTES_END && counts.inputs == 0, "check of no bytes");
+
+    horncurlew_length_answer length = horncurlew_rewrite(job, sizeof job, out, sizeof out);
+    expect(length.number == 0 && length.length == 12 && memcmp(job, out, 12) == 0, "rewrite");
+    length = horncurlew_rewrite(job, sizeof job, NULL, 0);
+    expect(length.number == HORNCURLEW_MEMORY && length.length == 0, "rewrite without room");
+
+    expect(horncurlew_table(job, sizeof job, 3, out, 1) == 0 && out[0] == 0x50, "table");
+    expect(horncurlew_table(job, sizeof job, 4, out, 1) == HORNCURLEW_CIRCUIT, "table of no circuit");
+
+    static const uint8_t table[1] = {0x5d};
+    static const uint16_t spectrum[8] = {1, 2, 2, 3, 2, 3, 4, 5};
+    expect(horncurlew_spectrum(3, table, 1, HORNCURLEW_MRM, 5, numbers, 8) == 0, "spectrum");
+    expect(memcmp(numbers, spectrum, sizeof spectrum) == 0, "spectrum's numbers");
+    expect(horncurlew_undo(3, spectrum, 8, HORNCURLEW_MRM, 5, out, 1) == 0 && out[0] == 0x5d, "undo");
+    expect(horncurlew_undo(3, spectrum, 8, HORNCURLEW_RM, 5, out, 1) == HORNCURLEW_NO_SPECTRUM, "undo of another kind");
+
+    horncurlew_choice_answer choice =
+        horncurlew_choose(job, sizeof job, HORNCURLEW_ISOLATING, HORNCURLEW_MRM, 0, work, 16);
+    expect(choice.number == 0 && choice.inputs == 2 && choice.gates == 1 && choice.faults == 3, "choose");
+    expect(choice.count == 2 && choice.entries[0] == 1 && choice.entries[1] == 3, "signature");
+    for (size_t i = choice.count; i < HORNCURLEW_MOST_ENTRIES; i++)
+        expect(choice.entries[i] == 0, "unused entries");
+    choice = horncurlew_choose(job, sizeof job, HORNCURLEW_DETECTING, HORNCURLEW_RM, 0, work, 16);
+    expect(choice.number == 0 && choice.count == 1 && choice.entries[0] == 3, "choose detecting");
+    choice = horncurlew_choose(alike, sizeof alike, HORNCURLEW_ISOLATING, HORNCURLEW_MRM, 0, work, 16);
+    expect(choice.number == HORNCURLEW_ALIKE && choice.first == 0 && choice.second == 1, "alike");
+
+    static const uint16_t indices[2] = {1, 3}, readings[2] = {0, 2};
+    horncurlew_location_answer location =
+        horncurlew_locate(job, sizeof job, HORNCURLEW_MRM, 0, indices, 2, readings, 2, work, 16);
+    expect(location.number == 0 && location.agreeing == 1 && location.circuit == 2, "locate");
+    location = horncurlew_locate(job, sizeof job, HORNCURLEW_MRM, 0, NULL, 0, NULL, 0, work, 16);
+    expect(location.number == 0 && location.agreeing == 4 && location.circuit == 0, "locate by nothing");
+    return failed;
+}

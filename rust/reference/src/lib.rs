@@ -1,0 +1,29 @@
+//! Reed-Muller signatures of a small logic circuit, in plain safe Rust.
+//!
+//! A job holds a circuit of 1 to 8 inputs and up to 64 gates, and a list of up to 63 single faults. From its bytes come
+//! the tables of the good circuit and of the faulty ones, their spectra, a signature of few coefficients that tells the
+//! circuits apart, and the circuit that gives some readings. Document 01 defines each of these; the modules follow its
+//! sections.
+//!
+//! Every operation checks its arguments before it writes. A refused one writes nothing, but for refusal 15 (circuits
+//! that are alike), which leaves the spectra in the lent work. Nothing here panics, and only `report` uses the heap.
+
+#![forbid(unsafe_code)]
+
+mod choosing;
+mod differences;
+mod job;
+mod locating;
+pub mod refusal;
+mod report;
+mod spectra;
+mod tables;
+mod words;
+
+pub use choosing::{choose, Chosen, Purpose};
+pub use job::{read, write, Fault, Gate, Job, LONGEST_JOB, MOST_FAULTS, MOST_GATES, MOST_INPUTS};
+pub use locating::{locate, Located};
+pub use refusal::Refusal;
+pub use report::report;
+pub use spectra::{spectrum, undo, Kind};
+pub use tables::table;

@@ -1,0 +1,668 @@
+//! A slow and literal model of document 01, compared with the library on random jobs, whole and damaged.
+
+use reference::{choose, locate, read, report, spectrum, table, undo, write};
+use reference::{Chosen, Fault, Gate, Job, Kind, Located, Purpose};
+
+// ---- the model ----
+
+fn bits_of(bytes: &[u8]) -> Vec<u8> {
+    bytes.iter().flat_map(|byte| (0..8).map(move |i| byte >> (7 - i) & 1)).collect()
+}
+
+struct Bits {
+    bits: Vec<u8>,
+    at: usize,
+}
+
+impl Bits {
+    fn field(&mut self, width: usize) -> Result<u8, u8> {
+        let bits = self.bits.get(self.at..self.at + width).ok_or(1)?;
+        self.at += width;
+        Ok(bits.iter().fold(0, |value, bit| 2 * value + bit))
+    }
+}
+
+fn model_read(bytes: &[u8]) -> Result<Job, u8> {
+    let mut bits = Bits { bits: bits_of(bytes), at: 0 };
+    let mut job = Job {
+        inputs: bits.field(4)?,
+        gate_count: 0,
+        gates: [Gate::Buf(0); 64],
+        output: 0,
+        fault_count: 0,
+        faults: [Fault::Stuck(0, false); 63],
+    };
+    let n = job.inputs;
+    if !(1..=8).contains(&n) {
+        return Err(2);
+    }
+    job.gate_count = bits.field(7)?;
+    let g = job.gate_count;
+    if g > 64 {
+        return Err(3);
+    }
+    for q in 0..g {
+        let (kind, a, b) = (bits.field(3)?, bits.field(7)?, bits.field(7)?);
+        if !(a < n + q && b < n + q) {
+            return Err(4);
+        }
+        if kind >= 6 && b != a {
+            return Err(5);
+        }
+        job.gates[q as usize] = match kind {
+            0 => Gate::And(a, b),
+            1 => Gate::Or(a, b),
+            2 => Gate::Nand(a, b),
+            3 => Gate::Nor(a, b),
+            4 => Gate::Xor(a, b),
+            5 => Gate::Xnor(a, b),
+            6 => Gate::Not(a),
+            7 => Gate::Buf(a),
+            _ => unreachable!(),
+        };
+    }
+    job.output = bits.field(7)?;
+    if job.output >= n + g {
+        return Err(6);
+    }
+    job.fault_count = bits.field(6)?;
+    for c in 0..job.fault_count {
+        let (kind, a, b) = (bits.field(2)?, bits.field(7)?, bits.field(7)?);
+        let stuck = kind < 2;
+        if (stuck && a >= n + g) || (!stuck && (a >= n || b >= n)) {
+            return Err(7);
+        }
+        if (stuck && a != b) || (!stuck && a >= b) {
+            return Err(8);
+        }
+        job.faults[c as usize] = match kind {
+            0 => Fault::Stuck(a, false),
+            1 => Fault::Stuck(a, true),
+            2 => Fault::Bridge(a, b, true),
+            3 => Fault::Bridge(a, b, false),
+            _ => unreachable!(),
+        };
+    }
+    let spare = &bits.bits[bits.at..];
+    if spare.len() >= 8 || spare.contains(&1) {
+        return Err(9);
+    }
+    Ok(job)
+}
+
+/// The bytes of a record in order, or the refusal other than 10.
+fn model_write(job: &Job) -> Result<Vec<u8>, u8> {
+    let n = usize::from(job.inputs);
+    let g = usize::from(job.gate_count);
+    if !(1..=8).contains(&n) {
+        return Err(2);
+    }
+    if g > 64 {
+        return Err(3);
+    }
+    let mut bits = String::new();
+    bits += &format!("{n:04b}{g:07b}");
+    for q in 0..g {
+        let (kind, a, b) = match job.gates[q] {
+            Gate::And(a, b) => (0, a, b),
+            Gate::Or(a, b) => (1, a, b),
+            Gate::Nand(a, b) => (2, a, b),
+            Gate::Nor(a, b) => (3, a, b),
+            Gate::Xor(a, b) => (4, a, b),
+            Gate::Xnor(a, b) => (5, a, b),
+            Gate::Not(a) => (6, a, a),
+            Gate::Buf(a) => (7, a, a),
+        };
+        if usize::from(a) >= n + q || usize::from(b) >= n + q {
+            return Err(4);
+        }
+        bits += &format!("{kind:03b}{a:07b}{b:07b}");
+    }
+    if usize::from(job.output) >= n + g {
+        return Err(6);
+    }
+    if job.fault_count > 63 {
+        return Err(18);
+    }
+    bits += &format!("{:07b}{:06b}", job.output, job.fault_count);
+    for c in 0..usize::from(job.fault_count) {
+        let (kind, a, b) = match job.faults[c] {
+            Fault::Stuck(line, level) => (if level { 1 } else { 0 }, line, line),
+            Fault::Bridge(low, high, is_and) => (if is_and { 2 } else { 3 }, low, high),
+        };
+        if usize::from(a) >= (if kind < 2 { n + g } else { n }) || (kind >= 2 && usize::from(b) >= n) {
+            return Err(7);
+        }
+        if kind >= 2 && a >= b {
+            return Err(8);
+        }
+        bits += &format!("{kind:02b}{a:07b}{b:07b}");
+    }
+    while !bits.len().is_multiple_of(8) {
+        bits.push('0');
+    }
+    Ok((0..bits.len() / 8).map(|i| u8::from_str_radix(&bits[8 * i..8 * i + 8], 2).unwrap()).collect())
+}
+
+/// Entry m of the table of a circuit.
+fn model_entry(job: &Job, circuit: usize, m: usize) -> bool {
+    let n = usize::from(job.inputs);
+    let fault = if circuit == 0 { None } else { Some(job.faults[circuit - 1]) };
+    let mut lines = Vec::new();
+    for line in 0..n + usize::from(job.gate_count) {
+        let input = |i: u8| m >> i & 1 == 1;
+        let read = |line: u8| -> bool { lines[usize::from(line)] };
+        let mut value = if line < n {
+            input(line as u8)
+        } else {
+            match job.gates[line - n] {
+                Gate::And(a, b) => read(a) && read(b),
+                Gate::Or(a, b) => read(a) || read(b),
+                Gate::Nand(a, b) => !(read(a) && read(b)),
+                Gate::Nor(a, b) => !(read(a) || read(b)),
+                Gate::Xor(a, b) => read(a) != read(b),
+                Gate::Xnor(a, b) => read(a) == read(b),
+                Gate::Not(a) => !read(a),
+                Gate::Buf(a) => read(a),
+            }
+        };
+        match fault {
+            Some(Fault::Stuck(stuck, level)) if usize::from(stuck) == line => value = level,
+            Some(Fault::Bridge(low, high, true)) if line == low.into() || line == high.into() => {
+                value = input(low) && input(high);
+            }
+            Some(Fault::Bridge(low, high, false)) if line == low.into() || line == high.into() => {
+                value = input(low) || input(high);
+            }
+            _ => {}
+        }
+        lines.push(value);
+    }
+    lines[usize::from(job.output)]
+}
+
+fn model_table(job: &Job, circuit: usize) -> Vec<bool> {
+    (0..1 << job.inputs).map(|m| model_entry(job, circuit, m)).collect()
+}
+
+fn model_pack(table: &[bool]) -> Vec<u8> {
+    let mut bytes = vec![0; table.len().div_ceil(8)];
+    for (m, entry) in table.iter().enumerate() {
+        bytes[m / 8] |= u8::from(*entry) << (7 - m % 8);
+    }
+    bytes
+}
+
+fn model_spectrum(table: &[bool], kind: Kind, k: usize) -> Vec<u16> {
+    let sum = |j: usize| (0..table.len()).filter(|t| t & !j == 0).map(|t| u16::from(table[t ^ k])).sum::<u16>();
+    let coefficient = |j| if kind == Kind::Rm { sum(j) % 2 } else { sum(j) };
+    (0..table.len()).map(coefficient).collect()
+}
+
+/// The table of a spectrum by sums with signs, and whether the spectrum is that table's.
+fn model_undo(numbers: &[u16], kind: Kind, k: usize) -> Option<Vec<bool>> {
+    let mut table = vec![false; numbers.len()];
+    for t in 0..numbers.len() {
+        let signed = |j: &usize| {
+            let sign = if (j ^ t).count_ones().is_multiple_of(2) { 1 } else { -1 };
+            sign * i64::from(numbers[*j])
+        };
+        let mut entry = (0..numbers.len()).filter(|j| j & !t == 0).map(|j| signed(&j)).sum::<i64>();
+        if kind == Kind::Rm {
+            entry = entry.rem_euclid(2);
+        }
+        table[t ^ k] = entry == 1;
+    }
+    (model_spectrum(&table, kind, k) == numbers).then_some(table)
+}
+
+struct Model {
+    job: Job,
+    tables: Vec<Vec<bool>>,
+    spectra: Vec<Vec<u16>>,
+}
+
+fn model(job: &Job, kind: Kind, k: usize) -> Model {
+    let tables: Vec<_> = (0..=usize::from(job.fault_count)).map(|c| model_table(job, c)).collect();
+    let spectra = tables.iter().map(|table| model_spectrum(table, kind, k)).collect();
+    Model { job: *job, tables, spectra }
+}
+
+impl Model {
+    fn tells(&self, set: &[usize], pair: (usize, usize)) -> bool {
+        set.iter().any(|j| self.spectra[pair.0][*j] != self.spectra[pair.1][*j])
+    }
+
+    /// The signature, or the pair that is alike.
+    fn choose(&self, purpose: Purpose) -> Result<Vec<usize>, (usize, usize)> {
+        let circuits = self.tables.len();
+        let lower = if purpose == Purpose::Isolating { circuits } else { 1 };
+        let needed: Vec<_> = (0..lower).flat_map(|a| (a + 1..circuits).map(move |b| (a, b))).collect();
+        if let Some(pair) = needed.iter().find(|pair| self.tables[pair.0] == self.tables[pair.1]) {
+            return Err(*pair);
+        }
+        let mut order: Vec<usize> = (0..1 << self.job.inputs).collect();
+        order.sort_by_key(|j| (j.count_ones(), *j));
+        let mut taken = Vec::new();
+        for j in order {
+            if needed.iter().any(|pair| self.tells(&[j], *pair) && !self.tells(&taken, *pair)) {
+                taken.push(j);
+            }
+        }
+        let mut kept = taken.clone();
+        for j in taken.iter().rev() {
+            let rest: Vec<_> = kept.iter().copied().filter(|i| i != j).collect();
+            if needed.iter().all(|pair| self.tells(&rest, *pair)) {
+                kept = rest;
+            }
+        }
+        Ok(kept)
+    }
+
+    fn locate(&self, indices: &[u16], readings: &[u16]) -> Located {
+        let gives = |c: &usize| (0..indices.len()).all(|i| self.spectra[*c][usize::from(indices[i])] == readings[i]);
+        let agreeing: Vec<_> = (0..self.spectra.len()).filter(gives).collect();
+        match agreeing.len() {
+            0 => Located::Nowhere,
+            1 => Located::Alone(agreeing[0]),
+            count => Located::Several(agreeing[0], count),
+        }
+    }
+
+    /// The spectra, then what the work held.
+    fn work(&self, before: &[u16]) -> Vec<u16> {
+        let mut work: Vec<_> = self.spectra.concat();
+        work.extend_from_slice(&before[work.len()..]);
+        work
+    }
+}
+
+fn model_report(bytes: &[u8]) -> String {
+    let job = match model_read(bytes) {
+        Ok(job) => job,
+        Err(number) => return format!("refused {number}\n"),
+    };
+    let model = model(&job, Kind::Mrm, 0);
+    match model.choose(Purpose::Isolating) {
+        Err((a, b)) => format!("refused 15 {a} {b}\n"),
+        Ok(signature) => {
+            let mut text = format!("inputs {} gates {} faults {}\n", job.inputs, job.gate_count, job.fault_count);
+            text += "signature";
+            signature.iter().for_each(|j| text += &format!(" {j}"));
+            text += "\n";
+            for (c, spectrum) in model.spectra.iter().enumerate() {
+                text += &format!("{c}");
+                signature.iter().for_each(|j| text += &format!(" {}", spectrum[*j]));
+                text += "\n";
+            }
+            text
+        }
+    }
+}
+
+// ---- random cases ----
+
+struct Random(u64);
+
+impl Random {
+    fn next(&mut self) -> u64 {
+        self.0 = self.0.wrapping_add(0x9e37_79b9_7f4a_7c15);
+        let mut z = self.0;
+        z = (z ^ z >> 30).wrapping_mul(0xbf58_476d_1ce4_e5b9);
+        z = (z ^ z >> 27).wrapping_mul(0x94d0_49bb_1331_11eb);
+        z ^ z >> 31
+    }
+
+    fn below(&mut self, limit: usize) -> usize {
+        (self.next() % limit as u64) as usize
+    }
+
+    fn gate(&mut self, own: usize) -> Gate {
+        // Lines near its own make deep circuits.
+        let mut line = || if self.below(2) == 0 { self.below(own) } else { own - 1 - self.below(own.min(4)) } as u8;
+        let (a, b) = (line(), line());
+        match self.below(9) {
+            0 => Gate::And(a, b),
+            1 => Gate::Or(a, b),
+            2 => Gate::Nand(a, b),
+            3 => Gate::Nor(a, b),
+            4 => Gate::Xnor(a, b),
+            5 => Gate::Not(a),
+            6 => Gate::Buf(a),
+            _ => Gate::Xor(a, b),
+        }
+    }
+
+    fn fault(&mut self, inputs: usize, lines: usize) -> Fault {
+        if inputs > 1 && self.below(3) == 0 {
+            let high = 1 + self.below(inputs - 1);
+            Fault::Bridge(self.below(high) as u8, high as u8, self.below(2) == 0)
+        } else {
+            Fault::Stuck(self.below(lines) as u8, self.below(2) == 0)
+        }
+    }
+
+    /// A job; with `distinct`, faults that are alike are left out.
+    fn job(&mut self, inputs: usize, gates: usize, faults: usize, distinct: bool) -> Job {
+        let mut job = Job {
+            inputs: inputs as u8,
+            gate_count: gates as u8,
+            gates: [Gate::Buf(0); 64],
+            output: 0,
+            fault_count: 0,
+            faults: [Fault::Stuck(0, false); 63],
+        };
+        for q in 0..gates {
+            job.gates[q] = self.gate(inputs + q);
+        }
+        let lines = inputs + gates;
+        job.output = (lines - 1 - if self.below(4) == 0 { self.below(lines) } else { 0 }) as u8;
+        let mut tables = vec![model_table(&job, 0)];
+        for _ in 0..4 * faults {
+            if usize::from(job.fault_count) == faults {
+                break;
+            }
+            job.faults[usize::from(job.fault_count)] = self.fault(inputs, lines);
+            job.fault_count += 1;
+            if distinct {
+                let table = model_table(&job, job.fault_count.into());
+                if tables.contains(&table) {
+                    job.fault_count -= 1;
+                    job.faults[usize::from(job.fault_count)] = Fault::Stuck(0, false);
+                } else {
+                    tables.push(table);
+                }
+            }
+        }
+        job
+    }
+
+    fn small_job(&mut self) -> Job {
+        let (inputs, gates, faults) = (1 + self.below(5), self.below(14), self.below(12));
+        let distinct = self.below(4) != 0;
+        self.job(inputs, gates, faults, distinct)
+    }
+
+    fn kind(&mut self) -> Kind {
+        if self.below(2) == 0 {
+            Kind::Rm
+        } else {
+            Kind::Mrm
+        }
+    }
+
+    fn numbers(&mut self, count: usize) -> Vec<u16> {
+        (0..count).map(|_| self.next() as u16).collect()
+    }
+
+    fn damage(&mut self, bytes: &mut Vec<u8>) {
+        match self.below(5) {
+            0 => bytes.truncate(self.below(bytes.len() + 1)),
+            1 => bytes.push(self.below(3) as u8),
+            _ => {
+                for _ in 0..1 + self.below(2) {
+                    let bit = self.below(8 * bytes.len());
+                    bytes[bit / 8] ^= 0x80 >> (bit % 8);
+                }
+            }
+        }
+    }
+}
+
+/// Compares every operation on these bytes with the model.
+fn compare(random: &mut Random, bytes: &[u8]) {
+    let expected = model_read(bytes);
+    assert_eq!(read(bytes), expected);
+    let kind = random.kind();
+    let spoilt = random.numbers(8);
+    let mut work = spoilt.clone();
+    let Ok(job) = expected else {
+        let number = expected.unwrap_err();
+        let mut out = [0x5a; 32];
+        assert_eq!(table(bytes, random.below(70), &mut out), Err(number));
+        assert_eq!(out, [0x5a; 32]);
+        assert_eq!(choose(bytes, Purpose::Isolating, kind, random.below(300), &mut work), Chosen::Refused(number));
+        assert_eq!(locate(bytes, kind, random.below(300), &[0], &[], &mut work), Located::Refused(number));
+        assert_eq!(work, spoilt);
+        assert_eq!(String::from_utf8(report(bytes)).unwrap(), format!("refused {number}\n"));
+        return;
+    };
+    let places = 1usize << job.inputs;
+    let size = (usize::from(job.fault_count) + 1) * places;
+    let k = random.below(places);
+    let model = model(&job, kind, k);
+
+    let mut out = vec![0x5a; bytes.len() + 2];
+    assert_eq!(write(&job, &mut out), Ok(bytes.len()));
+    assert_eq!(&out[..bytes.len()], bytes);
+    assert_eq!(out[bytes.len()..], [0x5a; 2]);
+
+    for (c, entries) in model.tables.iter().enumerate() {
+        let packed = model_pack(entries);
+        let mut out = vec![0x5a; packed.len() + 1];
+        assert_eq!(table(bytes, c, &mut out[..packed.len() - 1]), Err(10));
+        assert_eq!(table(bytes, c, &mut out), Ok(()));
+        assert_eq!(out[..packed.len()], packed);
+        assert_eq!(out[packed.len()], 0x5a);
+    }
+    assert_eq!(table(bytes, model.tables.len(), &mut []), Err(11));
+
+    for purpose in [Purpose::Isolating, Purpose::Detecting] {
+        let spare = random.below(5);
+        let spoilt = random.numbers(size + spare);
+        let mut work = spoilt.clone();
+        assert_eq!(choose(bytes, purpose, kind, places + k, &mut work), Chosen::Refused(13));
+        assert_eq!(choose(bytes, purpose, kind, k, &mut work[..size - 1]), Chosen::Refused(10));
+        assert_eq!(work, spoilt);
+        let chosen = choose(bytes, purpose, kind, k, &mut work);
+        assert_eq!(work, model.work(&spoilt));
+        match (chosen, model.choose(purpose)) {
+            (Chosen::Alike(a, b), Err(pair)) => assert_eq!((a, b), pair),
+            (Chosen::Signature { inputs, gates, faults, count, entries }, Ok(signature)) => {
+                assert_eq!((inputs, gates), (job.inputs.into(), job.gate_count.into()));
+                assert_eq!(faults, job.fault_count.into());
+                assert_eq!(entries[..count].iter().map(|j| usize::from(*j)).collect::<Vec<_>>(), signature);
+                assert!(count <= faults);
+                if purpose == Purpose::Isolating {
+                    for (c, spectrum) in model.spectra.iter().enumerate() {
+                        let readings: Vec<_> = signature.iter().map(|j| spectrum[*j]).collect();
+                        assert_eq!(locate(bytes, kind, k, &entries[..count], &readings, &mut work), Located::Alone(c));
+                    }
+                }
+            }
+            (chosen, expected) => panic!("{chosen:?}, not {expected:?}"),
+        }
+    }
+
+    let length = random.below(4);
+    let indices: Vec<_> = (0..length).map(|_| random.below(places) as u16).collect();
+    let of = random.below(model.spectra.len());
+    let mut readings: Vec<_> = indices.iter().map(|j| model.spectra[of][usize::from(*j)]).collect();
+    if length > 0 && random.below(3) == 0 {
+        readings[random.below(length)] ^= 1;
+    }
+    let spare = random.below(5);
+    let spoilt = random.numbers(size + spare);
+    let mut work = spoilt.clone();
+    assert_eq!(locate(bytes, kind, k, &indices, &readings, &mut work[..size - 1]), Located::Refused(10));
+    let mut more = readings.clone();
+    more.push(0);
+    assert_eq!(locate(bytes, kind, k, &indices, &more, &mut work), Located::Refused(17));
+    more[0] = places as u16;
+    assert_eq!(locate(bytes, kind, k, &more, &[], &mut work), Located::Refused(16));
+    assert_eq!(work, spoilt);
+    assert_eq!(locate(bytes, kind, k, &indices, &readings, &mut work), model.locate(&indices, &readings));
+    assert_eq!(work, model.work(&spoilt));
+
+    assert_eq!(String::from_utf8(report(bytes)).unwrap(), model_report(bytes));
+}
+
+#[test]
+fn small_jobs() {
+    let mut random = Random(1);
+    for _ in 0..3000 {
+        let job = random.small_job();
+        compare(&mut random, &model_write(&job).unwrap());
+    }
+}
+
+#[test]
+fn damaged_jobs() {
+    let mut random = Random(2);
+    let mut seen = [0; 19];
+    for _ in 0..6000 {
+        let job = random.small_job();
+        let mut bytes = model_write(&job).unwrap();
+        random.damage(&mut bytes);
+        seen[model_read(&bytes).err().unwrap_or(0) as usize] += 1;
+        compare(&mut random, &bytes);
+    }
+    assert!(seen[..10].iter().all(|count| *count > 0), "{seen:?}");
+}
+
+#[test]
+fn large_jobs() {
+    let mut random = Random(3);
+    for turn in 0..24 {
+        let (inputs, gates) = (6 + turn % 3, 64 - random.below(30));
+        let job = random.job(inputs, gates, if turn < 6 { 63 } else { 20 }, turn % 4 != 0);
+        compare(&mut random, &model_write(&job).unwrap());
+    }
+}
+
+/// Jobs of a certain length but any content.
+#[test]
+fn any_bytes() {
+    let mut random = Random(4);
+    for _ in 0..20000 {
+        let length = random.below(40);
+        let mut bytes: Vec<_> = (0..length).map(|_| random.next() as u8).collect();
+        if length > 1 {
+            // Mostly few gates and lines, so that reading gets further.
+            bytes[0] = ((1 + random.below(8)) << 4) as u8;
+            bytes[1] &= 0x3f;
+        }
+        compare(&mut random, &bytes);
+    }
+}
+
+#[test]
+fn records() {
+    let mut random = Random(5);
+    let mut seen = [0; 19];
+    for _ in 0..6000 {
+        let mut job = random.small_job();
+        for _ in 0..random.below(3) {
+            let any = if random.below(2) == 0 { random.below(12) } else { random.below(256) } as u8;
+            let place = random.below(14);
+            match random.below(7) {
+                0 => job.inputs = any,
+                1 => job.gate_count = any,
+                2 => job.output = any,
+                3 => job.fault_count = any,
+                4 => job.gates[place] = Gate::Xor(any, 0),
+                5 => job.faults[place] = Fault::Stuck(any, true),
+                _ => job.faults[place] = Fault::Bridge(any, random.below(9) as u8, true),
+            }
+        }
+        let expected = model_write(&job);
+        let mut out = [0x5a; 300];
+        match &expected {
+            Err(number) => assert_eq!(write(&job, &mut out), Err(*number)),
+            Ok(bytes) => assert_eq!(write(&job, &mut out[..bytes.len() - 1]), Err(10)),
+        }
+        assert_eq!(out, [0x5a; 300]);
+        if let Ok(bytes) = &expected {
+            assert_eq!(write(&job, &mut out), Ok(bytes.len()));
+            assert_eq!(&out[..bytes.len()], bytes);
+            assert!(out[bytes.len()..].iter().all(|byte| *byte == 0x5a));
+        }
+        seen[expected.err().unwrap_or(0) as usize] += 1;
+    }
+    assert!([0, 2, 3, 4, 6, 18, 7, 8].iter().all(|number| seen[*number] > 0), "{seen:?}");
+}
+
+fn compare_table(entries: &[bool], kind: Kind, k: usize) {
+    let inputs = entries.len().trailing_zeros() as usize;
+    let packed = model_pack(entries);
+    let coefficients = model_spectrum(entries, kind, k);
+    let mut out = vec![7; entries.len() + 3];
+    assert_eq!(spectrum(inputs, &packed, kind, k, &mut out), Ok(()));
+    assert_eq!(out[..entries.len()], coefficients);
+    assert_eq!(out[entries.len()..], [7; 3]);
+    compare_undo(&coefficients, kind, k);
+}
+
+fn compare_undo(numbers: &[u16], kind: Kind, k: usize) {
+    let inputs = numbers.len().trailing_zeros() as usize;
+    let mut out = [0x5a; 34];
+    match model_undo(numbers, kind, k) {
+        None => {
+            assert_eq!(undo(inputs, numbers, kind, k, &mut out), Err(14));
+            assert_eq!(undo(inputs, numbers, kind, k, &mut []), Err(14));
+            assert_eq!(out, [0x5a; 34]);
+        }
+        Some(entries) => {
+            let packed = model_pack(&entries);
+            assert_eq!(undo(inputs, numbers, kind, k, &mut out[..packed.len() - 1]), Err(10));
+            assert_eq!(out, [0x5a; 34]);
+            assert_eq!(undo(inputs, numbers, kind, k, &mut out), Ok(()));
+            assert_eq!(out[..packed.len()], packed);
+            assert!(out[packed.len()..].iter().all(|byte| *byte == 0x5a));
+        }
+    }
+}
+
+/// Every table of up to three inputs in every polarity.
+#[test]
+fn small_tables() {
+    for inputs in 1..=3 {
+        let places = 1usize << inputs;
+        for table in 0..1usize << places {
+            let entries: Vec<_> = (0..places).map(|m| table >> m & 1 == 1).collect();
+            for k in 0..places {
+                compare_table(&entries, Kind::Rm, k);
+                compare_table(&entries, Kind::Mrm, k);
+            }
+        }
+    }
+}
+
+/// Tables of up to eight inputs, constant ones too, and spectra with a wrong number.
+#[test]
+fn random_tables() {
+    let mut random = Random(6);
+    for turn in 0..600 {
+        let places = 2usize << (turn % 8);
+        let density = [0, 1, 4, 7, 8][random.below(5)];
+        let entries: Vec<_> = (0..places).map(|_| random.below(8) < density).collect();
+        let (kind, k) = (random.kind(), random.below(places));
+        compare_table(&entries, kind, k);
+        let mut numbers = model_spectrum(&entries, kind, k);
+        let place = random.below(places);
+        numbers[place] = numbers[place].wrapping_add([1, 2, 256, 65535, 32768][random.below(5)]);
+        compare_undo(&numbers, kind, k);
+    }
+}
+
+/// All short lists of small numbers: exactly the spectra of some table are undone.
+#[test]
+fn small_spectra() {
+    for kind in [Kind::Rm, Kind::Mrm] {
+        for k in 0..4 {
+            let entries = |table: usize| (0..4).map(|m| table >> m & 1 == 1).collect::<Vec<_>>();
+            let spectra: Vec<_> = (0..16).map(|table| model_spectrum(&entries(table), kind, k)).collect();
+            for code in 0..6u16.pow(4) {
+                let numbers = [code % 6, code / 6 % 6, code / 36 % 6, code / 216];
+                let mut out = [0];
+                match spectra.iter().position(|spectrum| *spectrum == numbers) {
+                    None => assert_eq!(undo(2, &numbers, kind, k, &mut out), Err(14)),
+                    Some(table) => {
+                        assert_eq!(undo(2, &numbers, kind, k, &mut out), Ok(()));
+                        assert_eq!(out[..], model_pack(&entries(table)));
+                    }
+                }
+            }
+        }
+    }
+}
