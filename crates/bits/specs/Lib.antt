@@ -3,3 +3,4 @@ pub mod Bits
 pub mod Field
 pub mod Packed
 pub mod Parser
+pub mod Passing

@@ -19,7 +19,7 @@ use lib.Dec.{eqb, ltb}
 use lib.ListN.{length, length-append}
 use Rattle.bits.proofs.Below.{lt-or-ge}
 use Rattle.bits.proofs.Tests.{and-l, and-r, and-i, clash}
-use Rattle.picking.specs.Labels.{passing}
+use Rattle.bits.specs.Passing.{passing}
 use Rattle.method.specs.Method.{agree}
 use Rattle.choosing.specs.Choosing.{scanTo, scanOrder}
 

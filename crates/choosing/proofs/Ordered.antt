@@ -24,7 +24,8 @@ use lib.Pow.{pow-mono}
 use lib.Seq.{take-suc-set}
 use Rattle.job.specs.Layout.{maxInputs}
 use Rattle.spectra.proofs.Transforming.{one-fits}
-use Rattle.picking.specs.Labels.{passing, Holds}
+use Rattle.bits.specs.Passing.{passing}
+use Rattle.picking.specs.Labels.{Holds}
 use Rattle.choosing.specs.Choosing.{scanTo, scanOrder}
 use Rattle.choosing.specs.Looking.{maxPlaces, Listed}
 use Rattle.choosing.proofs.Indices.{length-passing, passing-more, length-scanTo}

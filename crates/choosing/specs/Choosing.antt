@@ -24,7 +24,7 @@ use Rattle.tables.specs.declared.Counts.{Counts}
 use Rattle.spectra.specs.Operations.{polarityOk, circuitSpectra, sameNumbers}
 use Rattle.spectra.specs.Spectrum.{coefficient}
 use Rattle.spectra.specs.declared.Kind.{Kind}
-use Rattle.picking.specs.Labels.{passing}
+use Rattle.bits.specs.Passing.{passing}
 use Rattle.picking.specs.Matrix.{signatureOf}
 use Rattle.method.specs.Method.{signature, firstPair, Pair}
 use Rattle.method.specs.Method.Pair.{nobody, pair}

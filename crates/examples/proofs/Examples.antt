@@ -14,7 +14,7 @@ use Rattle.spectra.specs.Spectrum.{inside, sumTo, subsetSum, coefficient, spect
 use Rattle.gates.specs.Answers.{answers, answer}
 use Rattle.gates.specs.Values.{inputValue, bridged}
 use Rattle.tables.specs.Circuit.{gateValue, ownValue, valuesTo, fixedBy, fixingOf, circuitEntry, circuitTable}
-use Rattle.picking.specs.Labels.{passing}
+use Rattle.bits.specs.Passing.{passing}
 use Rattle.method.specs.Method.{without, someBelow, agree, somePair, useful, full, takes, drops, signature, pairWith, pairFrom}
 use Rattle.choosing.specs.Choosing.{scanTo, chosenOf}
 use lib.Count.{onesIn, ones}

@@ -14,6 +14,7 @@ use mathlib.Core.Bool.{Bool, true, false, cond, true≢false}
 use mathlib.Core.Logic.{⊎-elim}
 use mathlib.Core.List.{List, [], _∷_, _++_}
 use lib.ListN.{length, length-append}
+use Rattle.bits.specs.Passing.{passing}
 use Rattle.method.proofs.Pairs.{by-test}
 use Rattle.locating.specs.Locating.{Location, agreeing, location}
 use Rattle.locating.specs.Locating.Location.{alone, several, nowhere}
@@ -32,16 +33,16 @@ nowhere-empty (c ∷ d ∷ more) e = absurd (true≢false (sym (ap isNowhere e))
 module _ (p : ℕ → Bool) where
   -- the numbers below one more
   agreeing-next : (n : ℕ) {l : List ℕ} {t : Bool} → agreeing p n ≡ l → p n ≡ t → agreeing p (suc n) ≡ l ++ cond t (n ∷ []) []
-  unfolding agreeing
+  unfolding passing
   agreeing-next n e f = ap₂ (λ (l : List ℕ) (t : Bool). l ++ cond t (n ∷ []) []) e f
 
   pub agreeing-none : (n : ℕ) → ((c : ℕ) → c < n → p c ≡ false) → agreeing p n ≡ []
-  unfolding agreeing
+  unfolding passing
   agreeing-none zero h = refl
   agreeing-none (suc n) h = agreeing-next n (agreeing-none n (λ c b. h c (omega arith))) (h n (omega arith))
 
   pub agreeing-some : (n c : ℕ) → c < n → p c ≡ true → 1 ≤ length (agreeing p n)
-  unfolding agreeing
+  unfolding passing
   agreeing-some zero c h t = absurd (not-suc-le-zero h)
   agreeing-some (suc n) c h t =
       let long : length (agreeing p (suc n)) ≡ length (agreeing p n) + length (cond (p n) (n ∷ []) []) =

@@ -19,6 +19,7 @@ use mathlib.Core.List.{List, [], _∷_, _++_}
 use borrow.Author.Tests.{eq-eqb, ne-eqb}
 use lib.Dec.{eqb}
 use lib.ListN.{length, getD, length-append}
+use Rattle.bits.specs.Passing.{passing}
 use Rattle.bits.specs.Answer.{Answer}
 use Rattle.bits.specs.Answer.Answer.{gives}
 use Rattle.spectra.specs.Operations.{sameNumbers}
@@ -47,12 +48,12 @@ cond-le true = omega arith
 cond-le false = omega arith
 
 pub scanned-none : (p : ℕ → Bool) (rows : ℕ) → Scanned p rows 0 0 0
-unfolding agreeing
+unfolding passing
 scanned-none p rows = record { within = omega arith; few = omega arith; counts = refl; first = refl }
 
 pub scanned-next : {p : ℕ → Bool} {rows c lowest count lowest' count' : ℕ} (u : Bool) → Scanned p rows c lowest count → c < rows → u ≡ p c
     → lowest' ≡ cond (u && eqb count 0) c lowest → count' ≡ count + cond u 1 0 → Scanned p rows (c + 1) lowest' count'
-unfolding agreeing
+unfolding passing
 scanned-next {p} {rows} {c} {lowest} {count} {lowest'} {count'} u w h e le ce =
     let small = cond-le u in
     record {

@@ -14,6 +14,7 @@ use mathlib.Core.List.{List, [], _∷_, _++_}
 use borrow.Author.Tests.{leb-true, lt-ltb, le-ltb, eq-eqb, ne-eqb}
 use lib.Dec.{leb, eqb}
 use lib.ListN.{length, getD, drop, length-append, List·getD-append}
+use Rattle.bits.specs.Passing.{passing}
 use Rattle.bits.specs.Answer.{Answer, Fills, Leaves, leaves, number, outcome, unless, onward}
 use Rattle.bits.specs.Answer.Answer.{gives, refused}
 use Rattle.bits.specs.declared.Refusal.{Refusal}
@@ -32,7 +33,7 @@ use Rattle.locating.proofs.Indexed.{numbers-same}
 use Rattle.locating.proofs.Scanned.{row-within}
 
 pub agreeing-same : (p q : ℕ → Bool) (d : ℕ) → ((c : ℕ) → c < d → p c ≡ q c) → agreeing p d ≡ agreeing q d
-unfolding agreeing
+unfolding passing
 agreeing-same p q zero same = refl
 agreeing-same p q (suc d) same =
     ap₂ (λ (l : List ℕ) (u : Bool). l ++ cond u (d ∷ []) []) (agreeing-same p q d (λ c h. same c (omega arith))) (same d (omega arith))

@@ -6,13 +6,14 @@
 --   location       the result that agreeing circuits give
 --   locatedOf      what locating answers and fills, given the length of the lent work
 --   locatedTold    what the operation's answer stands for
-use Prim.Native.Nat.{ℕ, zero, suc, _+_, _*_, _^_}
-use mathlib.Core.Bool.{Bool, true, false, _&&_, cond}
-use mathlib.Core.List.{List, [], _∷_, _++_, map}
+use Prim.Native.Nat.{ℕ, _+_, _*_, _^_}
+use mathlib.Core.Bool.{Bool, true, _&&_}
+use mathlib.Core.List.{List, [], _∷_, map}
 use lib.Dec.{leb, ltb, eqb}
 use lib.ListN.{length}
 use Rattle.bits.specs.Answer.{Answer, Fills, number, unless, onward}
 use Rattle.bits.specs.Answer.Answer.{gives, refused}
+use Rattle.bits.specs.Passing.{passing}
 use Rattle.job.specs.declared.Job.{Job}
 use Rattle.reading.specs.Reading.{reading}
 use Rattle.tables.specs.Circuit.{circuitEntry}
@@ -31,9 +32,8 @@ abbrev pub readingsOf : Kind → ℕ → Job → List ℕ → ℕ → List ℕ
 readingsOf kind k j indices c = map (coefficient kind (j .inputs) k (circuitEntry j c)) indices
 
 -- "A circuit, 0 to f, agrees when its coefficients at those indices, in list order, are the readings."
-unfoldable pub agreeing : (ℕ → Bool) → ℕ → List ℕ
-agreeing agrees zero = []
-agreeing agrees (suc c) = agreeing agrees c ++ cond (agrees c) (c ∷ []) []
+abbrev pub agreeing : (ℕ → Bool) → ℕ → List ℕ
+agreeing agrees circuits = passing agrees circuits
 
 -- "The result is the one agreeing circuit, or the lowest with the number of agreeing circuits when there are two or more, or none."
 abbrev pub location : List ℕ → Location

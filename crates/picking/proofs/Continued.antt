@@ -16,7 +16,8 @@ use lib.ListN.{length, take, drop, getD, set, length-append, drop-of-length-le}
 use lib.Seq.{drop-cons, take-suc-set, length-take-le}
 use Rattle.method.specs.Method.{agree, useful, takes}
 use Rattle.picking.specs.Matrix.{cell, apart, maxRows, maxEntries}
-use Rattle.picking.specs.Labels.{Holds, Labels, both, passing, isOpen, clear, seek, Fit, Sound, entriesOf}
+use Rattle.bits.specs.Passing.{passing}
+use Rattle.picking.specs.Labels.{Holds, Labels, both, isOpen, clear, seek, Fit, Sound, entriesOf}
 use Rattle.picking.specs.declared.classes.Column.{Column}
 use Rattle.picking.specs.declared.taking.Taken.{Taken}
 use Rattle.method.proofs.Takes.{takes-keeps, takes-useful}

@@ -18,7 +18,8 @@ use lib.ListN.{length, take, getD, set, replicate, length-set, length-replicate,
 use lib.Seq.{getD-set-same, getD-set-other, take-suc-set, take-set-le}
 use Rattle.method.specs.Method.{someBelow}
 use Rattle.picking.specs.Matrix.{maxRows}
-use Rattle.picking.specs.Labels.{Low, Flagged, stray, split, passing, isOpen}
+use Rattle.bits.specs.Passing.{passing}
+use Rattle.picking.specs.Labels.{Low, Flagged, stray, split, isOpen}
 use Rattle.method.proofs.Pairs.{by-test}
 
 pub label-below : {rows : ℕ} (bound : ℕ) (labels : List ℕ) (c : ℕ) → Low rows labels → c < rows → rows ≤ bound → getD labels c 0 < bound

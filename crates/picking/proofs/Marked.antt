@@ -17,7 +17,8 @@ use lib.ListN.{getD}
 use Rattle.bits.proofs.Tests.{and-l, and-r, and-i, clash}
 use Rattle.method.specs.Method.{someBelow, agree, useful, full}
 use Rattle.picking.specs.Matrix.{apart}
-use Rattle.picking.specs.Labels.{Labels, stray, split, passing, isOpen, clear}
+use Rattle.bits.specs.Passing.{passing}
+use Rattle.picking.specs.Labels.{Labels, stray, split, isOpen, clear}
 use Rattle.method.proofs.Pairs.{by-test, someBelow-some, some-someBelow, someBelow-none, somePair-some, some-somePair, all-full, some-full}
 
 -- numbers that a test tells apart differ, and the other way

@@ -23,7 +23,8 @@ use lib.Dec.{eqb}
 use lib.ListN.{length, drop, getD, length-drop, drop-of-length-le}
 use lib.Seq.{drop-cons, drop-drop, getD-drop}
 use Rattle.method.specs.Method.{useful, takes}
-use Rattle.picking.specs.Labels.{Low, passing, clear, seek, OpenFit}
+use Rattle.bits.specs.Passing.{passing}
+use Rattle.picking.specs.Labels.{Low, clear, seek, OpenFit}
 use Rattle.method.proofs.Pairs.{by-cond}
 use Rattle.method.proofs.Takes.{takes-idle}
 use Rattle.picking.proofs.Columns.{cell-within}

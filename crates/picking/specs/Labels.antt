@@ -6,7 +6,6 @@
 --   alikeMarked    two rows of one class whose marks differ
 --   split          the class of a label holds two marks
 --   Flagged        flags that say so of each label
---   passing        the numbers below a bound that pass a test
 --   isOpen         a row whose class holds two marks, and that is not its own label
 --   clear          all open rows have their labels' numbers at an entry
 --   seek           the place of the first entry that isn't clear
@@ -62,10 +61,6 @@ split rows labels marks label = someBelow rows (λ c. eqb (getD labels c 0) labe
 
 abbrev pub Flagged : ℕ → List ℕ → List ℕ → List Bool → Type 0
 Flagged rows labels marks flags = (label : ℕ) → label < maxRows → getD flags label false ≡ split rows labels marks label
-
-unfoldable pub passing : (ℕ → Bool) → ℕ → List ℕ
-passing test zero = []
-passing test (suc n) = passing test n ++ cond (test n) (n ∷ []) []
 
 abbrev pub isOpen : ℕ → List ℕ → List ℕ → ℕ → Bool
 isOpen rows labels marks c = not (eqb (getD labels c 0) c) && split rows labels marks (getD labels c 0)

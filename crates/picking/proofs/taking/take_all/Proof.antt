@@ -5,7 +5,8 @@ use lib.ListN.{length, drop}
 use denote.Ref.{now}
 use borrow.Author.Needs.{scaled-fits, zero≤, length-unmapped}
 use Rattle.picking.specs.Matrix.{cell, maxRows, maxEntries}
-use Rattle.picking.specs.Labels.{passing, isOpen, clear}
+use Rattle.bits.specs.Passing.{passing}
+use Rattle.picking.specs.Labels.{isOpen, clear}
 use Rattle.picking.proofs.Sizes.{count-within, place-fits}
 use Rattle.picking.proofs.Within.{entry-below}
 use Rattle.picking.proofs.Continued.{Continued, start-sound, continued-start, continued-next, continued-all, continued-room, seek-falls}
