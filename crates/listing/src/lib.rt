@@ -1,6 +1,6 @@
 // The packed tables of a job's circuits as text on standard output: a line of counts, then a line of hexadecimal bytes
-// for each circuit. A refused job is one line with the refusal's number. And the kind of spectrum that a
-// word names.
+// for each circuit. A refused job is one line with the refusal's number. And what the programs share: the kind of spectrum
+// that a word names, the entries of a table.
 ghost use mathlib.Core.Path.{_≡_};
 ghost use Prim.Native.Nat.{_+_, _*_, _<_, _≤_};
 ghost use lib.ListN.{length};
@@ -55,6 +55,16 @@ fn table_bytes(inputs: usize) -> usize
     ensures { λ r. ⌜ r ≡ tableBytes inputs ⌝ }
 {
     ((1 << inputs) + 7) / 8
+}
+
+// "1 to 8 inputs".
+const MAX_INPUTS: usize = 8;
+
+// The entries of a table; none where there are too many inputs.
+pub fn entries(inputs: usize) -> usize
+    ensures { λ r. ⌜ r ≤ 256 ⌝ }
+{
+    if MAX_INPUTS < inputs { 0 } else { 1 << inputs }
 }
 
 // A line for each circuit, whose tables of `bytes` bytes follow each other.

@@ -1,5 +1,4 @@
-//! C programs over include/horncurlew.h. They need gcc, which nothing else here does, so they run on request:
-//! `cargo test -p horncurlew -- --ignored`.
+//! C programs over include/horncurlew.h, compiled by the C compiler that Rust's own linking calls.
 
 use std::path::Path;
 use std::process::{Command, Output};
@@ -8,7 +7,7 @@ use std::process::{Command, Output};
 fn run(name: &str) -> Output {
     let package = Path::new(env!("CARGO_MANIFEST_DIR"));
     let program = Path::new(env!("CARGO_TARGET_TMPDIR")).join(name);
-    let compiled = Command::new("gcc")
+    let compiled = Command::new("cc")
         .args(["-std=c99", "-Wall", "-Wextra", "-Wpedantic", "-Wstrict-prototypes", "-Werror", "-o"])
         .arg(&program)
         .arg("-I")
@@ -16,20 +15,18 @@ fn run(name: &str) -> Output {
         .arg(package.join("tests").join(name).with_extension("c"))
         .arg(package.join("../../target/staticlib/libhorncurlew.a"))
         .output()
-        .expect("gcc runs");
+        .expect("the C compiler runs");
     assert!(compiled.status.success(), "{}", String::from_utf8_lossy(&compiled.stderr));
     Command::new(program).output().expect("the program runs")
 }
 
 #[test]
-#[ignore = "needs gcc"]
 fn every_operation() {
     let output = run("header");
     assert!(output.status.success(), "{}", String::from_utf8_lossy(&output.stdout));
 }
 
 #[test]
-#[ignore = "needs gcc"]
 fn report() {
     let output = run("header_report");
     assert!(output.status.success());

@@ -1,9 +1,9 @@
--- `published_spectra::entries` meets its contract: 2 ^ 8 is 256.
+-- `listing::entries` meets its contract: 2 ^ 8 is 256.
 use native.Mathlib.Omega.{arith}
-use Rattle.published_spectra.proofs.Sizes.{entries-le}
+use Rattle.listing.proofs.Sizes.{entries-le}
 use borrow.Author.Needs.{needs}
-use Rattle.published_spectra.proofs.entries.Statement.{statement}
-use Rattle.published_spectra.proofs.entries.Tie as tie
+use Rattle.listing.proofs.entries.Statement.{statement}
+use Rattle.listing.proofs.entries.Tie as tie
 
 shl-result : tie.Need-shl-result
 shl-result c = search needs
