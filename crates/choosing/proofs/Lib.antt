@@ -1,4 +1,5 @@
 pub mod Arrays
+pub mod Bounded
 pub mod Equality
 pub mod Indices
 pub mod Ordered

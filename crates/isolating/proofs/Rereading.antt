@@ -43,13 +43,13 @@ use Rattle.choosing.specs.declared.Chosen.{Chosen}
 use Rattle.choosing.specs.declared.Purpose.the-variants.{Isolating}
 use Rattle.choosing.specs.declared.Verdict.{Verdict}
 use Rattle.choosing.specs.declared.Verdict.the-variants.{Done, Alike, Refused}
+use Rattle.choosing.proofs.Bounded.{signature-short, signature-below}
 use Rattle.locating.specs.Locating.{Location}
 use Rattle.locating.specs.Scanning.{numbersAt}
 use Rattle.locating.proofs.Indexed.{index-below, numbers-same}
 use Rattle.isolating.specs.Demand.{ValidJob, ValidPolarity, ValidList, Enough, SomeAlike, ListedCircuit, Isolated, isolating, returned, readings, locating}
 use Rattle.isolating.specs.Relocating.{locatedFrom, relocatedBy, relocated, Relocated, NamedAlone, Readable}
 use Rattle.isolating.proofs.Opened.{indices-ok, chosen-opened}
-use Rattle.isolating.proofs.Signed.{signed-short, signed-valid}
 use Rattle.isolating.proofs.Theorem.{demand-3}
 
 pub faults-entries : (f : ℕ) → f ≤ maxFaults → f ≤ maxEntries
@@ -131,10 +131,10 @@ module _ (s : List ℕ) (kind : Kind) (k : ℕ) (work : List ℕ) where
           inputs-few = v .few;
           faults-few = v .faults-few;
           enough = omega arith;
-          short = le-trans (signed-short kind k j) (faults-entries (j .«fault_count») (v .faults-few));
+          short = le-trans (signature-short Isolating kind k j) (faults-entries (j .«fault_count») (v .faults-few));
           inside = λ i h.
               subst (λ (x : ℕ). x < 2 ^ (j .inputs)) (sym (List·getD-append l _ 0 i h))
-              (index-below (j .inputs) l i (indices-ok (j .inputs) l (signed-valid kind k j)) h);
+              (index-below (j .inputs) l i (indices-ok (j .inputs) l (signature-below Isolating kind k j)) h);
         }))
 
 pub numbers-read : (kind : Kind) (k : ℕ) (j : Job) (rest list : List ℕ) (c : ℕ) → ListedCircuit j c → ValidList j list

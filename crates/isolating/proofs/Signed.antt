@@ -1,11 +1,9 @@
 -- What holds of the signature that isolating's method fixes for a job (specs/Demand.antt).
 --
---   signed-short     it has at most as many entries as there are faults
---   signed-valid     each is below N
 --   signed-each      whichever one is dropped, two listed circuits have equal readings on the rest
 --   signed-apart     where no two circuits give equal outputs, it tells every two listed circuits apart
 --   signed-same      so listed circuits with equal readings on it are one circuit
-use Prim.Native.Nat.{ℕ, _+_, _^_, _≤_, _<_}
+use Prim.Native.Nat.{ℕ, _+_, _^_, _<_}
 use native.Mathlib.Omega.{arith}
 use mathlib.Core.Path.{_≡_}
 use mathlib.Core.Bool.{false}
@@ -16,26 +14,16 @@ use Rattle.job.specs.declared.Job.{Job}
 use Rattle.spectra.specs.declared.Kind.{Kind}
 use Rattle.method.specs.Method.{agree}
 use Rattle.method.proofs.Pairs.{full-all}
-use Rattle.method.proofs.Signatures.{signature-full, signature-minimal, signature-from, signature-bounded}
+use Rattle.method.proofs.Signatures.{signature-full, signature-minimal}
 use Rattle.choosing.specs.Choosing.{needed, coefOf, scanOrder, signatureIn}
 use Rattle.choosing.specs.declared.Purpose.the-variants.{Isolating}
-use Rattle.isolating.specs.Demand.{ValidList, ListedCircuit, SomeAlike, readings, rest}
-use Rattle.choosing.proofs.Indices.{scan-below}
+use Rattle.isolating.specs.Demand.{ListedCircuit, SomeAlike, readings, rest}
 use Rattle.isolating.proofs.Matched.{agree-readings, told-same}
 use Rattle.isolating.proofs.Paired.{needed-below, told-apart}
 
 module _ (kind : Kind) (k : ℕ) (j : Job) where
   abbrev signed : List ℕ
   signed = signatureIn Isolating kind k j
-
-  pub signed-short : length signed ≤ j .«fault_count»
-  signed-short =
-      let h : length signed + 1 ≤ j .«fault_count» + 1 =
-      signature-bounded (coefOf kind k j) (j .«fault_count» + 1) (needed Isolating) (scanOrder (j .inputs)) (omega arith) in
-      omega arith
-
-  pub signed-valid : ValidList j signed
-  signed-valid e m = scan-below (j .inputs) (signature-from (coefOf kind k j) (j .«fault_count» + 1) (needed Isolating) (scanOrder (j .inputs)) m)
 
   pub signed-each : (i : ℕ) → i < length signed
       → (a : ℕ) × (b : ℕ) × (a < b) × ListedCircuit j b × (readings kind k j (rest i signed) a ≡ readings kind k j (rest i signed) b)

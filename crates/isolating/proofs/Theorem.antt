@@ -31,6 +31,7 @@ use Rattle.method.specs.Method.Pair.{nobody, pair}
 use Rattle.choosing.specs.Choosing.{choiceBy, alikePair, coefOf, signatureIn}
 use Rattle.choosing.specs.Choosing.Finding.{chosen, alike}
 use Rattle.choosing.specs.declared.Purpose.the-variants.{Isolating}
+use Rattle.choosing.proofs.Bounded.{signature-short, signature-below}
 use Rattle.locating.specs.Locating.{agreeing, location}
 use Rattle.isolating.specs.Demand.{ValidJob, ValidPolarity, ValidList, Enough, ListedCircuit, SomeAlike, FirstAlike, readings, rest}
 use Rattle.isolating.specs.Demand.{isolating, returned, RefusedAlike, locating, Alone, Isolated, Located, Demand}
@@ -38,7 +39,7 @@ use Rattle.isolating.proofs.Agreed.{location-none, nowhere-none, locati
 use Rattle.isolating.proofs.Opened.{indices-ok, chose-answer, chose-taken, located-answer}
 use Rattle.isolating.proofs.Matched.{sameNumbers-eq, sameNumbers-ne}
 use Rattle.isolating.proofs.Paired.{pair-first, some-paired, none-paired}
-use Rattle.isolating.proofs.Signed.{signed-short, signed-valid, signed-each, signed-same}
+use Rattle.isolating.proofs.Signed.{signed-each, signed-same}
 
 pub found-told : (found : Pair) (counts : Counts) (l : List ℕ) (a b : ℕ) → choiceBy found counts l .finding ≡ alike a b → found ≡ pair a b
 found-told nobody counts l a b e = cc
@@ -110,8 +111,8 @@ isolated s kind k work other j read below enough enough-other none =
     record {
       comes-back = signed-told s kind k work j read below enough none;
       by-method = back;
-      short = subst (λ (l : List ℕ). length l ≤ j .«fault_count») (sym back) (signed-short kind k j);
-      valid = subst (ValidList j) (sym back) (signed-valid kind k j);
+      short = subst (λ (l : List ℕ). length l ≤ j .«fault_count») (sym back) (signature-short Isolating kind k j);
+      valid = subst (ValidList j) (sym back) (signature-below Isolating kind k j);
       each-counts =
           subst
           (λ (l : List ℕ). (i : ℕ) → i < length l
@@ -119,7 +120,7 @@ isolated s kind k work other j read below enough enough-other none =
           (sym back) (signed-each kind k j);
       named-alone =
           subst (λ (l : List ℕ). (c : ℕ) → ListedCircuit j c → Alone (locating s kind k l (readings kind k j l c) other) c) (sym back)
-          (λ c h. located-alone s kind k other j read below enough-other (signatureIn Isolating kind k j) (signed-valid kind k j) c h
+          (λ c h. located-alone s kind k other j read below enough-other (signatureIn Isolating kind k j) (signature-below Isolating kind k j) c h
           (λ d l e. signed-same kind k j (reading-valid s j read) below none d c l h e));
     }
 

@@ -35,12 +35,11 @@ use Rattle.spectra.proofs.WorkPlaces.{length-circuitSpectra, circuitSpectra-at}
 use Rattle.method.specs.Method.{Pair}
 use Rattle.method.specs.Method.Pair.{nobody, pair}
 use Rattle.method.proofs.Firsts.{firstPair-pair}
-use Rattle.method.proofs.Signatures.{signature-from, signature-bounded}
 use Rattle.picking.specs.Matrix.{signatureOf}
 use Rattle.picking.proofs.Columns.{cell-within}
-use Rattle.choosing.specs.Choosing.{Choice, needed, scanOrder, coefOf, signatureIn, sameTables, alikePair, choiceBy, chosenOf, chose}
+use Rattle.choosing.specs.Choosing.{Choice, needed, signatureIn, sameTables, alikePair, choiceBy, chosenOf, chose}
 use Rattle.choosing.specs.declared.Purpose.the-variants.{Isolating}
-use Rattle.choosing.proofs.Indices.{scan-below}
+use Rattle.choosing.proofs.Bounded.{signature-short, signature-below}
 use Rattle.locating.specs.Scanning.{numbersAt}
 use Rattle.sheet.specs.Sheet.{circuitLines, countsLine, signatureLine, numbersText, sheet, sheetText, listOf, textOf, reportText, maxText}
 use Rattle.sheet.proofs.Widths.{numbers-width, counts-width, signature-width, circuits-width, refused-width, alike-width}
@@ -109,9 +108,6 @@ module _ (j : Job) (v : Valid j) (below : 0 < 2 ^ (j .inputs)) where
   abbrev filled : List ℕ
   filled = circuitSpectra Mrm 0 j (j .«fault_count» + 1)
 
-  signed-below : (e : ℕ) → List·Memᴰ e signed → e < 2 ^ (j .inputs)
-  signed-below e m = scan-below (j .inputs) (signature-from (coefOf Mrm 0 j) (j .«fault_count» + 1) (needed Isolating) (scanOrder (j .inputs)) m)
-
   number-small : (rest : List ℕ) (c e : ℕ) → c < j .«fault_count» + 1 → e < 2 ^ (j .inputs)
       → getD (filled ++ rest) (c * 2 ^ (j .inputs) + e) 0 ≤ 2 ^ (j .inputs)
   number-small rest c e h l =
@@ -125,14 +121,14 @@ module _ (j : Job) (v : Valid j) (below : 0 < 2 ^ (j .inputs)) where
   job-small : (rest : List ℕ) → Small (countsOf j) signed (filled ++ rest)
   job-small rest =
       let limits = job-limits j v in
-      let few = signature-bounded (coefOf Mrm 0 j) (j .«fault_count» + 1) (needed Isolating) (scanOrder (j .inputs)) (omega arith) in
+      let few = signature-short Isolating Mrm 0 j in
       record {
         inputs-few = limits .inputs-few;
         gates-few = limits .gates-few;
         faults-few = limits .faults-few;
         short = omega arith;
-        indices = λ e m. omega (arith, signed-below e m);
-        numbers = λ c e h m. omega (arith, number-small rest c e h (signed-below e m));
+        indices = λ e m. omega (arith, signature-below Isolating Mrm 0 j e m);
+        numbers = λ c e h m. omega (arith, number-small rest c e h (signature-below Isolating Mrm 0 j e m));
       }
 
   decided-width : (rest : List ℕ) (p : Pair) → alikePair Isolating j ≡ p

@@ -28,16 +28,15 @@ use Rattle.spectra.proofs.WorkPlaces.{length-circuitSpectra}
 use Rattle.method.specs.Method.{Pair}
 use Rattle.method.specs.Method.Pair.{nobody, pair}
 use Rattle.method.proofs.Pairs.{by-test}
-use Rattle.method.proofs.Signatures.{signature-from, signature-bounded}
 use Rattle.picking.specs.Matrix.{maxEntries, signatureOf}
 use Rattle.picking.specs.declared.Signature.{Signature}
 use Rattle.picking.proofs.Within.{members-below, entry-below}
-use Rattle.choosing.specs.Choosing.{Finding, Chose, needed, scanOrder, coefOf, signatureIn, alikePair, choiceBy, chosenOf, verdictTold}
+use Rattle.choosing.specs.Choosing.{Finding, Chose, signatureIn, alikePair, choiceBy, chosenOf, verdictTold}
 use Rattle.choosing.specs.Choosing.Finding.{chosen, alike}
 use Rattle.choosing.specs.declared.Purpose.the-variants.{Isolating}
 use Rattle.choosing.specs.declared.Verdict.{Verdict}
 use Rattle.choosing.specs.declared.Verdict.the-variants.{Done, Alike, Refused}
-use Rattle.choosing.proofs.Indices.{scan-below}
+use Rattle.choosing.proofs.Bounded.{signature-short, signature-below}
 use Rattle.sheet.specs.Putting.{Puts, Room, Sheeted, Printable}
 use Rattle.sheet.specs.Sheet.{listOf, textOf, isolated, maxText, reported}
 use Rattle.sheet.specs.declared.Reported.the-variants.{Written, Short}
@@ -77,12 +76,12 @@ module _ (j : Job) (v : Valid j) (rest : List ℕ) where
         indices = λ i h.
             entry-below (2 ^ (j .inputs)) signed i
             (members-below (2 ^ (j .inputs)) signed
-            (λ e m. scan-below (j .inputs) (signature-from (coefOf Mrm 0 j) (j .«fault_count» + 1) (needed Isolating) (scanOrder (j .inputs)) m))) h;
+            (signature-below Isolating Mrm 0 j)) h;
       }
 
   job-prints : (p : Pair) → Prints (gives (choiceBy p (countsOf j) signed .finding)) (signatureOf (choiceBy p (countsOf j) signed .entries)) (length (filled ++ rest))
   job-prints nobody =
-      let short = signature-bounded (coefOf Mrm 0 j) (j .«fault_count» + 1) (needed Isolating) (scanOrder (j .inputs)) (omega arith) in
+      let short = signature-short Isolating Mrm 0 j in
       let few = few-faults (j .«fault_count») (v .faults-few) in
       let taken : listOf (signatureOf signed) ≡ signed = take-at signed _ (length signed) refl in (
         few-inputs (j .inputs) (v .few),
