@@ -2,8 +2,11 @@
 --
 --   Matching        what a loop knows that seeks the lowest number from a place on: none before k passes
 --   matching-none, matching-found, matching-next, matching-all   its start, its ways out and its step
+--   matching-later  it may start later
 --   both-found, both-labels, both-values                         whether two rows have the same label and value, by comparing
 --   refined         the lowest rows that have both are labels
+--   met-labels      so are those by two columns of labels
+--   met-from, met-at, met-le   one such label, sought from the larger of the two on
 use Prim.Native.Nat.{ℕ, zero, suc, _+_, _-_, _≤_, _<_}
 use native.Mathlib.Nat.{eq-or-lt-of-le, le-antisymm}
 use native.Mathlib.Numerals.{add-one}
@@ -16,7 +19,8 @@ use borrow.Author.Tests.{eqb-true, eq-eqb, ne-eqb}
 use lib.Dec.{eqb}
 use lib.ListN.{getD}
 use Rattle.bits.proofs.Tests.{and-l, and-r, and-i, clash}
-use Rattle.picking.specs.Labels.{Holds, Low, Labels, both, lowestFrom}
+use Rattle.bits.proofs.Packed.{tabulate-at}
+use Rattle.picking.specs.Labels.{Holds, Low, Labels, both, met, lowestFrom}
 use Rattle.method.proofs.Pairs.{by-test, by-cond}
 
 -- ---- the lowest number that passes
@@ -74,6 +78,19 @@ module _ (test : ℕ → Bool) where
         let e : c - k ≡ 0 = omega arith in
         let l : k ≡ c = omega (arith, w .within) in
         sym (w .rest ∙ ap (λ (n : ℕ). lowestFrom test n k) e ∙ l)
+
+  -- numbers that don't pass may be left out at the start
+  pub matching-later : {a b c : ℕ} → a ≤ b → b ≤ c → ((k : ℕ) → a ≤ k → k < b → test k ≡ false)
+      → lowestFrom test (c - a) a ≡ lowestFrom test (c - b) b
+  matching-later {a} {b} {c} h l none =
+      let e : a + (b - a) ≡ b = omega arith in
+      go (b - a) (omega arith) .rest ∙ ap (λ (k : ℕ). lowestFrom test (c - k) k) e
+    where
+      go : (d : ℕ) → a + d ≤ b → Matching a c (a + d)
+      go zero m = let e : a ≡ a + 0 = omega arith in subst (Matching a c) e (matching-none (omega arith))
+      go (suc d) m =
+          let e : a + d + 1 ≡ a + suc d = omega arith in
+          subst (Matching a c) e (matching-next (go d (omega arith)) (omega arith) (none (a + d) (omega arith) (omega arith)))
 
 -- ---- rows of one class with one value
 
@@ -149,3 +166,31 @@ module _ (rows : ℕ) (labels values : List ℕ) (low : Low rows labels) where
             (λ t. eq-eqb (getD R a 0) (getD R b 0) (holds a h ∙ one-lowest a b h k t ∙ sym (holds b k)) ∙ sym t)
             (λ f. ne-eqb (getD R a 0) (getD R b 0) (λ e. clash (lowest-both a b h k (sym (holds a h) ∙ e ∙ holds b k)) f) ∙ sym f);
       }
+
+  met-holds : Holds rows lowestOf (met rows labels values)
+  met-holds c h = tabulate-at rows lowestOf c h
+
+  pub met-labels : Labels rows (both labels values) (met rows labels values)
+  met-labels = refined met-holds
+
+  -- where the values are labels too, the lowest row that has both is not below either
+  module _ (values-low : Low rows values) (c : ℕ) (h : c < rows) {from : ℕ} (above : getD labels c 0 ≤ from)
+      (least : (x : ℕ) → getD labels c 0 ≤ x → getD values c 0 ≤ x → from ≤ x) where
+    pub met-from : from ≤ c
+    met-from = least c (low c h) (values-low c h)
+
+    pub met-at : {r : ℕ} → r ≡ lowestFrom (λ k. both labels values k c) (c - from) from → r ≡ getD (met rows labels values) c 0
+    met-at e =
+        e
+        ∙ sym (matching-later (λ k. both labels values k c) above met-from
+        (λ k a l.
+        both-values labels values k c
+        (λ (s : getD values k 0 ≡ getD values c 0).
+        let i : k < rows = omega (arith, met-from) in
+        let m : getD values k 0 ≤ k = values-low k i in
+        let n : from ≤ k = least k a (omega arith) in
+        omega arith)))
+        ∙ sym (met-holds c h)
+
+    pub met-le : {r : ℕ} → r ≡ lowestFrom (λ k. both labels values k c) (c - from) from → r ≤ c
+    met-le e = subst (λ (x : ℕ). x ≤ c) (sym (met-at e)) (met-labels .low c h)

@@ -3,7 +3,6 @@
 --   Passed          what a loop knows that has passed c numbers: the test holds of none
 --   passed-none, passed-stop, passed-next, passed-all   its start, its ways out and its step
 --   stray-found, stray-not                              whether a row's mark is its label's, by comparing
---   label-marked    a label's mark is there
 use Prim.Native.Nat.{ℕ, _+_, _≤_, _<_}
 use native.Mathlib.Numerals.{add-one}
 use native.Mathlib.Omega.{arith}
@@ -13,7 +12,7 @@ use mathlib.Core.List.{List}
 use borrow.Author.Tests.{eq-eqb, ne-eqb}
 use lib.ListN.{getD}
 use Rattle.method.specs.Method.{someBelow}
-use Rattle.picking.specs.Labels.{Low, stray}
+use Rattle.picking.specs.Labels.{stray}
 use Rattle.method.proofs.Pairs.{some-someBelow}
 
 module _ (test : ℕ → Bool) (rows : ℕ) where
@@ -46,6 +45,3 @@ module _ (labels marks : List ℕ) (c : ℕ) where
 
   pub stray-not : getD marks c 0 ≡ getD marks (getD labels c 0) 0 → stray labels marks c ≡ false
   stray-not e = ap not (eq-eqb (getD marks c 0) (getD marks (getD labels c 0) 0) e)
-
-pub label-marked : (rows : ℕ) (labels : List ℕ) (c room : ℕ) → Low rows labels → c < rows → rows ≤ room → getD labels c 0 < room
-label-marked rows labels c room low h l = omega (arith, low c h)

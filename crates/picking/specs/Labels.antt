@@ -2,6 +2,7 @@
 --
 --   Low, Labels    what makes numbers labels of a relation
 --   both           two rows have the same label and the same value
+--   met            the labels of the rows by two columns of labels
 --   stray          a row's mark is not its label's
 --   alikeMarked    two rows of one class whose marks differ
 --   split          the class of a label holds two marks
@@ -12,12 +13,13 @@
 --   OpenFit        what reading an open row's numbers and its label's asks for
 --   Fit            what `fits` tests
 --   Sound, Rest    the state of taking and of dropping
-use Prim.Native.Nat.{ℕ, zero, suc, _+_, _*_, _≤_, _<_}
+use Prim.Native.Nat.{ℕ, zero, suc, _+_, _-_, _*_, _≤_, _<_}
 use mathlib.Core.Path.{_≡_}
 use mathlib.Core.Bool.{Bool, true, false, not, cond, _&&_}
 use mathlib.Core.List.{List, [], _∷_, _++_}
 use lib.Dec.{eqb}
 use lib.ListN.{length, take, drop, getD}
+use Rattle.bits.specs.Packed.{tabulate}
 use Rattle.method.specs.Method.{someBelow, agree, drops, Pair}
 use Rattle.method.specs.Method.Pair.{nobody, pair}
 use Rattle.picking.specs.Matrix.{cell, apart, allBelow, maxRows, maxEntries}
@@ -44,6 +46,10 @@ both labels values a b = eqb (getD labels a 0) (getD labels b 0) && eqb (getD va
 unfoldable pub lowestFrom : (ℕ → Bool) → ℕ → ℕ → ℕ
 lowestFrom test zero k = k
 lowestFrom test (suc left) k = cond (test k) k (lowestFrom test left (suc k))
+
+-- the labels of the rows by two columns of labels: the lowest row that has both
+abbrev pub met : ℕ → List ℕ → List ℕ → List ℕ
+met rows labels others = tabulate rows (λ c. lowestFrom (λ k. both labels others k c) (c - getD labels c 0) (getD labels c 0))
 
 abbrev pub stray : List ℕ → List ℕ → ℕ → Bool
 stray labels marks c = not (eqb (getD marks c 0) (getD marks (getD labels c 0) 0))

@@ -1,5 +1,5 @@
 // Classes of rows that no entry so far tells apart. A row's label is the lowest row of its class.
-ghost use Prim.Native.Nat.{_+_, _-_, _*_, _≤_, _<_};
+ghost use Prim.Native.Nat.{ℕ, _+_, _-_, _*_, _≤_, _<_};
 ghost use mathlib.Core.Path.{_≡_};
 ghost use mathlib.Core.Bool.{not, cond, _&&_};
 ghost use lib.Dec.{eqb, ltb};
@@ -7,7 +7,7 @@ ghost use lib.ListN.{length, getD};
 ghost use Rattle.method.specs.Method.{someBelow, firstPair, pairWith, Pair};
 ghost use Rattle.method.specs.Method.Pair.{pair};
 ghost use Rattle.picking.specs.Matrix.{cell, apart, maxRows};
-ghost use Rattle.picking.specs.Labels.{Holds, Low, Labels, both, stray, lowestFrom, alikeMarked, pairTold};
+ghost use Rattle.picking.specs.Labels.{Holds, Low, Labels, both, met, stray, lowestFrom, alikeMarked, pairTold};
 use crate::MAX_ROWS;
 
 // A number for each row: its coefficient at an entry, or its label.
@@ -44,12 +44,12 @@ pub(crate) fn coefficients(work: &[u16], width: usize, rows: usize, entry: usize
     Column { of }
 }
 
-// The lowest row that has the label and the value of row c.
-fn lowest(labels: &[usize], values: &[usize], c: usize) -> usize
-    requires { ⌜ (c < length (now labels)) × (c < length (now values)) × (getD (now labels) c 0 ≤ c) ⌝ }
-    ensures { λ r. ⌜ r ≡ lowestFrom (λ k. both (now (labels .entry)) (now (values .entry)) k c) (c - getD (now (labels .entry)) c 0) (getD (now (labels .entry)) c 0) ⌝ }
+// The lowest row, from a row on, that has the label and the value of row c.
+fn lowest(labels: &[usize], values: &[usize], from: usize, c: usize) -> usize
+    requires { ⌜ (c < length (now labels)) × (c < length (now values)) × (from ≤ c) ⌝ }
+    ensures { λ r. ⌜ r ≡ lowestFrom (λ k. both (now (labels .entry)) (now (values .entry)) k c) (c - from) from ⌝ }
 {
-    let mut k = labels[c];
+    let mut k = from;
     while k < c {
         if labels[k] == labels[c] {
             if values[k] == values[c] {
@@ -69,20 +69,28 @@ pub(crate) fn refine(rows: usize, labels: Column, values: Column) -> Column
     let mut of = [0usize; MAX_ROWS];
     let mut c = 0;
     while c < rows {
-        of[c] = lowest(&labels.of, &values.of, c);
+        let from = labels.of[c];
+        of[c] = lowest(&labels.of, &values.of, from, c);
         c += 1;
     }
     Column { of }
 }
 
-// Whether every row has its label's mark.
-pub(crate) fn all_marked(rows: usize, marks: &[u8], labels: &[usize]) -> bool
-    requires { ⌜ (rows ≤ length (now marks)) × (rows ≤ length (now labels)) × Low rows (now labels) ⌝ }
-    ensures { λ r. ⌜ r ≡ not (someBelow rows (stray (now (labels .entry)) (now (marks .entry)))) ⌝ }
+fn larger(a: usize, b: usize) -> usize
+    ensures { λ r. ⌜ (a ≤ r) × (b ≤ r) × ((c : ℕ) → a ≤ c → b ≤ c → r ≤ c) ⌝ }
+{
+    if a < b { b } else { a }
+}
+
+// Whether every row has the mark of the lowest row that has its label in both columns: no row before its labels has them.
+pub(crate) fn all_told(rows: usize, marks: &[u8], labels: &[usize], others: &[usize]) -> bool
+    requires { ⌜ (rows ≤ length (now marks)) × (rows ≤ length (now labels)) × (rows ≤ length (now others)) × Low rows (now labels) × Low rows (now others) ⌝ }
+    ensures { λ r. ⌜ r ≡ not (someBelow rows (stray (met rows (now (labels .entry)) (now (others .entry))) (now (marks .entry)))) ⌝ }
 {
     let mut c = 0;
     while c < rows {
-        if marks[c] != marks[labels[c]] {
+        let from = larger(labels[c], others[c]);
+        if marks[c] != marks[lowest(labels, others, from, c)] {
             return false;
         }
         c += 1;

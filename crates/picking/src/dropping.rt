@@ -62,8 +62,7 @@ fn drop_from(
     let values = crate::classes::coefficients(work, width, rows, taken[i] as usize);
     let more = crate::classes::refine(rows, labels, values);
     let kept = drop_from(work, width, rows, marks, taken, i + 1, more);
-    let rest = crate::classes::refine(rows, labels, kept.labels);
-    if crate::classes::all_marked(rows, marks, &rest.of) {
+    if crate::classes::all_told(rows, marks, &labels.of, &kept.labels.of) {
         return kept;
     }
     keep(rows, kept, taken[i], values)

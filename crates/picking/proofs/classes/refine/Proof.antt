@@ -22,23 +22,29 @@ abbrev μ-loop : tie.MeasureT-loop
 loop-holds : tie.Need-loop-holds Inv-loop μ-loop
 loop-holds c = filling-none _ _
 
+mul-from : tie.Need-mul-from Inv-loop μ-loop
+mul-from c = scaled-fits _ 64 8 (filling-room (c .before .loop .inv) (c .before .before .pre .0) (c .loop-test .taken)) (lit< tt)
+
+element-copy-out-from : tie.Need-element-copy-out-from Inv-loop μ-loop
+element-copy-out-from c = filling-room (c .before .loop .inv) (c .before .before .pre .0) (c .loop-test .taken)
+
 lowest-requires : tie.Need-lowest-requires Inv-loop μ-loop
-lowest-requires c κs = let h = filling-room (c .before .before .before .before .before .before .before .loop .inv) (c .before .before .before .before .before .before .before .before .pre .0) (c .before .before .before .before .before .before .loop-test .taken) in (count-within (c .before .before .before .lowest-arg2 .given .0) h, count-within (c .lowest-arg4 .given .0) h, c .before .before .before .before .before .before .before .before .pre .1 (c .before .before .before .before .before .before .before .loop .c) (c .before .before .before .before .before .before .loop-test .taken))
+lowest-requires c κs = let h = filling-room (c .before .before .before .before .before .before .before .before .loop .inv) (c .before .before .before .before .before .before .before .before .before .pre .0) (c .before .before .before .before .before .before .before .loop-test .taken) in (count-within (c .before .before .before .lowest-arg2 .given .0) h, count-within (c .lowest-arg4 .given .0) h, c .before .before .before .before .before .before .before .before .before .pre .1 (c .before .before .before .before .before .before .before .before .loop .c) (c .before .before .before .before .before .before .before .loop-test .taken))
 
 mul-of : tie.Need-mul-of Inv-loop μ-loop
-mul-of c = scaled-fits _ 64 8 (filling-room (c .before .before .before .before .before .before .before .before .loop .inv) (c .before .before .before .before .before .before .before .before .before .pre .0) (c .before .before .before .before .before .before .before .loop-test .taken)) (lit< tt)
+mul-of c = scaled-fits _ 64 8 (filling-room (c .before .before .before .before .before .before .before .before .before .loop .inv) (c .before .before .before .before .before .before .before .before .before .before .pre .0) (c .before .before .before .before .before .before .before .before .loop-test .taken)) (lit< tt)
 
 array-write-of : tie.Need-array-write-of Inv-loop μ-loop
-array-write-of c = filling-room (c .before .before .before .before .before .before .before .before .loop .inv) (c .before .before .before .before .before .before .before .before .before .pre .0) (c .before .before .before .before .before .before .before .loop-test .taken)
+array-write-of c = filling-room (c .before .before .before .before .before .before .before .before .before .loop .inv) (c .before .before .before .before .before .before .before .before .before .before .pre .0) (c .before .before .before .before .before .before .before .before .loop-test .taken)
 
 add-c : tie.Need-add-c Inv-loop μ-loop
-add-c c = fits-le (add-one-le (c .before .before .before .before .before .before .before .loop-test .taken)) (c .before .before .before .before .before .before .before .before .before .fits .rows)
+add-c c = fits-le (add-one-le (c .before .before .before .before .before .before .before .before .loop-test .taken)) (c .before .before .before .before .before .before .before .before .before .before .fits .rows)
 
 loop-less : tie.Need-loop-less Inv-loop μ-loop
-loop-less c = falls _ _ (c .before .before .before .before .before .before .before .loop-test .taken)
+loop-less c = falls _ _ (c .before .before .before .before .before .before .before .before .loop-test .taken)
 
 loop-again : tie.Need-loop-again Inv-loop μ-loop
-loop-again c = filling-next (c .before .before .before .before .before .before .before .before .loop .inv) (c .before .before .before .before .before .before .before .before .before .pre .0) (c .before .before .before .before .before .before .before .loop-test .taken) (c .lowest .ensures)
+loop-again c = filling-next (c .before .before .before .before .before .before .before .before .before .loop .inv) (c .before .before .before .before .before .before .before .before .before .before .pre .0) (c .before .before .before .before .before .before .before .before .loop-test .taken) (c .lowest .ensures)
 
 returns : tie.Need-returns Inv-loop μ-loop
 returns c = let a = c .before .before .args in refined (a .rows) (a .t2 .of) (a .t3 .of) (c .before .before .pre .1) (filling-all (c .before .loop .inv) (c .loop-test .left))
@@ -50,6 +56,8 @@ refine-spec =
     Inv-loop
     μ-loop
     loop-holds
+    mul-from
+    element-copy-out-from
     lowest-requires
     mul-of
     array-write-of

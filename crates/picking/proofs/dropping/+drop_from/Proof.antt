@@ -7,6 +7,8 @@ use lib.ListN.{length}
 use denote.Ref.{now}
 use borrow.Author.Needs.{scaled-fits, length-unmapped}
 use Rattle.picking.specs.Matrix.{maxRows, maxEntries}
+use Rattle.picking.specs.Labels.{met}
+use Rattle.picking.proofs.Refined.{met-labels}
 use Rattle.picking.proofs.Sizes.{count-within, place-fits}
 use Rattle.picking.proofs.Within.{entry-below}
 use Rattle.picking.proofs.Resting.{place-inside, place-falls, start-some, next-labels, rest-end, rest-drop, rest-keep}
@@ -15,7 +17,7 @@ use borrow.Fn.PlainCycle.{Measures, is, falls, and}
 use Rattle.picking.proofs.dropping.drop_from.Reads as drop-from
 use Rattle.picking.proofs.dropping.drop_from.Kinds as drop-from-kinds
 use Rattle.picking.proofs.dropping.+drop_from.Lts-drop_from as drop-from-lts
-use Rattle.picking.proofs.classes.all_marked.Reads as all-marked-reads
+use Rattle.picking.proofs.classes.all_told.Reads as all-told-reads
 use Rattle.picking.proofs.classes.coefficients.Reads as coefficients-reads
 use Rattle.picking.proofs.classes.refine.Reads as refine-reads
 use Rattle.picking.proofs.dropping.keep.Reads as keep-reads
@@ -43,8 +45,8 @@ claims t = (
   refine-reads.Learnt,
   drop-from-below t,
   drop-from.Post,
-  all-marked-reads.Asked,
-  all-marked-reads.Learnt,
+  all-told-reads.Asked,
+  all-told-reads.Learnt,
   keep-reads.Asked,
   keep-reads.Learnt,
 )
@@ -75,29 +77,26 @@ drop-from-add-drop-from : (t : ℕ) → drop-from-lts.Need-add-drop-from (claims
 drop-from-add-drop-from t c = place-fits 1 (c .before .before .before .before .before .before .before .good .1 .1 .1 .1 .0 .1) (add-one-le (place-inside (c .before .before .before .before .before .before .before .pre .1 .3) (c .before .before .before .if1 .left)))
 
 drop-from-drop-from-requires : (t : ℕ) → drop-from-lts.Need-drop-from-requires (claims t) (drop-from-at t) drop-from.Post
-drop-from-drop-from-requires t c κs = let a = c .before .before .before .before .before .before .before .args in let h = place-inside (c .before .before .before .before .before .before .before .pre .1 .3) (c .before .before .before .if1 .left) in (place-falls h (c .before .before .before .before .before .before .before .pre .0), (c .before .before .before .before .before .before .before .pre .1 .0, c .before .before .before .before .before .before .before .pre .1 .1, c .before .before .before .before .before .before .before .pre .1 .2, add-one-le h, next-labels (now (a .work)) (a .width) (a .rows) (now (a .taken)) (a .i) h (a .labels .of) (c .before .coefficients .result .of) (c .refine .result .of) (c .before .before .before .before .before .before .before .pre .1 .4) (c .before .coefficients .ensures) (c .refine .ensures)))
+drop-from-drop-from-requires t c κs = let a = c .before .before .before .before .before .before .before .args in let h = place-inside (c .before .before .before .before .before .before .before .pre .1 .3) (c .before .before .before .if1 .left) in (place-falls h (c .before .before .before .before .before .before .before .pre .0), (c .before .before .before .before .before .before .before .pre .1 .0, c .before .before .before .before .before .before .before .pre .1 .1, c .before .before .before .before .before .before .before .pre .1 .2, add-one-le h, next-labels (now (a .work)) (a .width) (a .rows) (now (a .taken)) (a .i) h (a .t7 .of) (c .before .coefficients .result .of) (c .refine .result .of) (c .before .before .before .before .before .before .before .pre .1 .4) (c .before .coefficients .ensures) (c .refine .ensures)))
 
-drop-from-refine-requires-2 : (t : ℕ) → drop-from-lts.Need-refine-requires-2 (claims t) (drop-from-at t) drop-from.Post
-drop-from-refine-requires-2 t c κs = (c .before .before .before .before .before .before .before .before .pre .1 .0 .most, c .before .before .before .before .before .before .before .before .pre .1 .4 .low)
-
-drop-from-all-marked-requires : (t : ℕ) → drop-from-lts.Need-all-marked-requires (claims t) (drop-from-at t) drop-from.Post
+drop-from-all-told-requires : (t : ℕ) → drop-from-lts.Need-all-told-requires (claims t) (drop-from-at t) drop-from.Post
 unfolding maxRows
-drop-from-all-marked-requires t c κs = (c .before .before .before .before .before .before .before .before .before .before .before .before .pre .1 .0 .marked, count-within (c .all-marked-arg2 .given .0) (c .before .before .before .before .before .before .before .before .before .before .before .before .pre .1 .0 .most), c .before .before .before .refine2 .ensures .low)
+drop-from-all-told-requires t c κs = (c .before .before .before .before .before .before .before .before .before .before .before .before .before .before .pre .1 .0 .marked, count-within (c .before .before .before .all-told-arg2 .given .0) (c .before .before .before .before .before .before .before .before .before .before .before .before .before .before .pre .1 .0 .most), count-within (c .all-told-arg4 .given .0) (c .before .before .before .before .before .before .before .before .before .before .before .before .before .before .pre .1 .0 .most), c .before .before .before .before .before .before .before .before .before .before .before .before .before .before .pre .1 .4 .low, c .before .before .before .before .before .before .drop-from .ensures .labelled .low)
 
 drop-from-returns-2 : (t : ℕ) → drop-from-lts.Need-returns-2 (claims t) (drop-from-at t) drop-from.Post
-drop-from-returns-2 t c = let a = c .before .before .before .before .before .before .before .before .before .before .before .before .before .before .args in rest-drop (now (a .work)) (a .width) (a .rows) (now (a .marks)) (now (a .taken)) (a .i) (c .before .before .before .before .before .before .drop-from .result) (a .labels .of) (c .before .before .before .before .before .refine2 .result .of) (place-inside (c .before .before .before .before .before .before .before .before .before .before .before .before .before .before .pre .1 .3) (c .before .before .before .before .before .before .before .before .before .before .if1 .left)) (c .before .before .before .before .before .before .drop-from .ensures) (c .before .before .before .before .before .before .before .before .before .before .before .before .before .before .pre .1 .4) (c .before .before .before .before .before .refine2 .ensures) (c .before .all-marked .ensures) (c .if2 .taken)
+drop-from-returns-2 t c = let a = c .before .before .before .before .before .before .before .before .before .before .before .before .before .before .before .before .args in rest-drop (now (a .work)) (a .width) (a .rows) (now (a .marks)) (now (a .taken)) (a .i) (c .before .before .before .before .before .before .before .before .drop-from .result) (a .t7 .of) (met (a .rows) (a .t7 .of) (c .before .before .before .before .before .before .before .before .drop-from .result .labels .of)) (place-inside (c .before .before .before .before .before .before .before .before .before .before .before .before .before .before .before .before .pre .1 .3) (c .before .before .before .before .before .before .before .before .before .before .before .before .if1 .left)) (c .before .before .before .before .before .before .before .before .drop-from .ensures) (c .before .before .before .before .before .before .before .before .before .before .before .before .before .before .before .before .pre .1 .4) (met-labels (a .rows) (a .t7 .of) (c .before .before .before .before .before .before .before .before .drop-from .result .labels .of) (c .before .before .before .before .before .before .before .before .before .before .before .before .before .before .before .before .pre .1 .4 .low)) (c .before .all-told .ensures) (c .if2 .taken)
 
 drop-from-mul-keep : (t : ℕ) → drop-from-lts.Need-mul-keep (claims t) (drop-from-at t) drop-from.Post
-drop-from-mul-keep t c = let a = c .before .before .before .before .before .before .before .before .before .before .before .before .before .before .args in scaled-fits (a .i) (length (now (a .taken))) 2 (place-inside (c .before .before .before .before .before .before .before .before .before .before .before .before .before .before .pre .1 .3) (c .before .before .before .before .before .before .before .before .before .before .if1 .left)) (c .before .before .before .before .before .before .before .before .before .before .before .before .before .before .good .1 .1 .1 .1 .0 .1)
+drop-from-mul-keep t c = let a = c .before .before .before .before .before .before .before .before .before .before .before .before .before .before .before .before .args in scaled-fits (a .i) (length (now (a .taken))) 2 (place-inside (c .before .before .before .before .before .before .before .before .before .before .before .before .before .before .before .before .pre .1 .3) (c .before .before .before .before .before .before .before .before .before .before .before .before .if1 .left)) (c .before .before .before .before .before .before .before .before .before .before .before .before .before .before .before .before .good .1 .1 .1 .1 .0 .1)
 
 drop-from-shared-slice-read-keep : (t : ℕ) → drop-from-lts.Need-shared-slice-read-keep (claims t) (drop-from-at t) drop-from.Post
-drop-from-shared-slice-read-keep t c = place-inside (c .before .before .before .before .before .before .before .before .before .before .before .before .before .before .before .pre .1 .3) (c .before .before .before .before .before .before .before .before .before .before .before .if1 .left)
+drop-from-shared-slice-read-keep t c = place-inside (c .before .before .before .before .before .before .before .before .before .before .before .before .before .before .before .before .before .pre .1 .3) (c .before .before .before .before .before .before .before .before .before .before .before .before .before .if1 .left)
 
 drop-from-keep-requires : (t : ℕ) → drop-from-lts.Need-keep-requires (claims t) (drop-from-at t) drop-from.Post
-drop-from-keep-requires t c κs = (c .before .before .before .before .before .before .before .before .before .before .before .before .before .before .before .pre .1 .0 .most, start-some (c .before .before .before .before .before .before .before .before .before .before .before .before .before .before .before .args .i) (c .before .before .before .before .before .before .before .before .before .before .before .before .before .before .before .pre .1 .2) (c .before .before .before .before .before .before .before .drop-from .ensures .room), c .before .before .before .before .before .before .before .drop-from .ensures .within, c .before .before .before .before .before .before .before .drop-from .ensures .labelled .low)
+drop-from-keep-requires t c κs = (c .before .before .before .before .before .before .before .before .before .before .before .before .before .before .before .before .before .pre .1 .0 .most, start-some (c .before .before .before .before .before .before .before .before .before .before .before .before .before .before .before .before .before .args .i) (c .before .before .before .before .before .before .before .before .before .before .before .before .before .before .before .before .before .pre .1 .2) (c .before .before .before .before .before .before .before .before .before .drop-from .ensures .room), c .before .before .before .before .before .before .before .before .before .drop-from .ensures .within, c .before .before .before .before .before .before .before .before .before .drop-from .ensures .labelled .low)
 
 drop-from-returns-3 : (t : ℕ) → drop-from-lts.Need-returns-3 (claims t) (drop-from-at t) drop-from.Post
-drop-from-returns-3 t c = let a = c .before .before .before .before .before .before .before .before .before .before .before .before .before .before .before .before .args in rest-keep (now (a .work)) (a .width) (a .rows) (now (a .marks)) (now (a .taken)) (a .i) (c .before .before .before .before .before .before .before .before .drop-from .result) (a .labels .of) (c .before .before .before .before .before .before .before .refine2 .result .of) (place-inside (c .before .before .before .before .before .before .before .before .before .before .before .before .before .before .before .before .pre .1 .3) (c .before .before .before .before .before .before .before .before .before .before .before .before .if1 .left)) (c .before .before .before .before .before .before .before .before .drop-from .ensures) (c .before .before .before .before .before .before .before .before .before .before .before .before .before .before .before .before .pre .1 .4) (c .before .before .before .before .before .before .before .refine2 .ensures) (c .keep .result) (c .before .before .before .before .before .before .before .before .before .before .coefficients .result .of) (c .before .before .before .all-marked .ensures) (c .before .before .if2 .left) (c .before .before .before .before .before .before .before .before .before .before .coefficients .ensures) (c .keep .ensures .0) (c .keep .ensures .1) (c .keep .ensures .2)
+drop-from-returns-3 t c = let a = c .before .before .before .before .before .before .before .before .before .before .before .before .before .before .before .before .before .before .args in rest-keep (now (a .work)) (a .width) (a .rows) (now (a .marks)) (now (a .taken)) (a .i) (c .before .before .before .before .before .before .before .before .before .before .drop-from .result) (a .t7 .of) (met (a .rows) (a .t7 .of) (c .before .before .before .before .before .before .before .before .before .before .drop-from .result .labels .of)) (place-inside (c .before .before .before .before .before .before .before .before .before .before .before .before .before .before .before .before .before .before .pre .1 .3) (c .before .before .before .before .before .before .before .before .before .before .before .before .before .before .if1 .left)) (c .before .before .before .before .before .before .before .before .before .before .drop-from .ensures) (c .before .before .before .before .before .before .before .before .before .before .before .before .before .before .before .before .before .before .pre .1 .4) (met-labels (a .rows) (a .t7 .of) (c .before .before .before .before .before .before .before .before .before .before .drop-from .result .labels .of) (c .before .before .before .before .before .before .before .before .before .before .before .before .before .before .before .before .before .before .pre .1 .4 .low)) (c .keep .result) (c .before .before .before .before .before .before .before .before .before .before .before .before .coefficients .result .of) (c .before .before .before .all-told .ensures) (c .before .before .if2 .left) (c .before .before .before .before .before .before .before .before .before .before .before .before .coefficients .ensures) (c .keep .ensures .0) (c .keep .ensures .1) (c .keep .ensures .2)
 
 pub +drop-from-spec : {M : Type 1} → statement M
 +drop-from-spec = close μ-drop-from λ t. drop-from-lts.spec (claims t)
@@ -112,8 +111,7 @@ pub +drop-from-spec : {M : Type 1} → statement M
     (drop-from-refine-requires t)
     (drop-from-add-drop-from t)
     (drop-from-drop-from-requires t)
-    (drop-from-refine-requires-2 t)
-    (drop-from-all-marked-requires t)
+    (drop-from-all-told-requires t)
     (drop-from-returns-2 t)
     (drop-from-mul-keep t)
     (drop-from-shared-slice-read-keep t)
