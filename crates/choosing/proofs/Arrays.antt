@@ -2,12 +2,12 @@
 --
 --   faulty-mark    a circuit other than the good one has mark 1
 --   mark-fits      a row's number fits in a byte
---   order-fits     so does an index's order
+--   order-fits     so does a number of ones
 --   Holding        what a loop has done after c turns: the places below c hold their values
 --   holding-none, holding-next, holding-all   its start, its step and its end
 --   rows-within, rows-held                    at the most rows
 --   places-held                               at the most places
-use Prim.Native.Nat.{ℕ, zero, suc, _+_, _≤_, _<_}
+use Prim.Native.Nat.{ℕ, zero, suc, _+_, _^_, _≤_, _<_}
 use native.Mathlib.Nat.{not-suc-le-zero}
 use native.Mathlib.Omega.{arith}
 use mathlib.Core.Path.{_≡_, refl, _∙_}
@@ -34,8 +34,8 @@ pub mark-fits : (c : ℕ) → c < maxRows → Fits w8 c
 unfolding maxRows
 mark-fits c h = omega arith
 
-pub order-fits : (e : ℕ) → e < 256 → Fits w8 (ones e)
-order-fits e h = omega (arith, ones-le 8 e h)
+pub order-fits : (e : ℕ) → e < 2 ^ 32 → Fits w8 (ones e)
+order-fits e h = omega (arith, ones-le 32 e h)
 
 pub record Holding (size : ℕ) (f : ℕ → ℕ) (c : ℕ) (l : List ℕ) : Type 0 where
   pub long : length l ≡ size

@@ -4,6 +4,7 @@
 --   filled-fits      the spectra in the work are a matrix for the method
 --   filled-choice, filled-answer   what the method picks, with the marks of a purpose, is the choice
 --   choice-of-job    the choice over coefficients that are the job's is the job's choice
+--   chosen-short     too little work is refused before circuits are compared
 --   chosen-unfilled  a refusal of the spectra is choosing's
 --   chosen-room      where they are filled, the work holds them
 --   chosen-filled    and the choice over the work is choosing's answer
@@ -171,6 +172,11 @@ module _ (purpose : Purpose) (s : List ℕ) (kind : Kind) (k : ℕ) (work : List
     filled : spectra ≡ gives (record { value = countsOf job; filled = circuitSpectra kind k job (job .«fault_count» + 1) })
     decided : chosen-so ≡ gives (record { value = choice purpose kind k job; filled = circuitSpectra kind k job (job .«fault_count» + 1) })
 
+  chosen-short : (j : Job) → reading s ≡ gives j → ltb k (2 ^ (j .inputs)) ≡ true → leb ((j .«fault_count» + 1) * 2 ^ (j .inputs)) (length work) ≡ false
+      → chosen-so ≡ refused 10
+  unfolding chosenOf
+  chosen-short j r p q = simp (r, p, q)
+
   checks : (a : Answer Job) → reading s ≡ a → Refuses ⊎ Passes
   unfolding jobSpectraOf chosenOf
   checks (refused i) r = inl (record { because = i; neither = rw r; nothing = rw r })
@@ -185,7 +191,7 @@ module _ (purpose : Purpose) (s : List ℕ) (kind : Kind) (k : ℕ) (work : List
         filled = simp (r, p, q);
         decided = simp (r, p, q);
       }))
-      (λ q. inl (record { because = 10; neither = simp (r, p, q); nothing = simp (r, p, q) })))
+      (λ q. inl (record { because = 10; neither = simp (r, p, q); nothing = chosen-short j r p q })))
       (λ p. inl (record { because = 13; neither = simp (r, p); nothing = simp (r, p) }))
 
   abbrev both : Refuses ⊎ Passes

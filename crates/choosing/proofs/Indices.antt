@@ -5,6 +5,7 @@
 --   passing-more                 below more numbers, no fewer pass
 --   scan-has, scan-below         every index below N is looked at, and no other
 --   length-scanTo                no more indices are listed than there are
+--   length-all                   and as many, once no index has a higher order
 --   agree-scan, scan-agree       rows agree on all indices when their coefficients are the same
 use Prim.Native.Nat.{ℕ, zero, suc, _+_, _^_, _≤_, _<_}
 use native.Mathlib.Nat.{not-suc-le-zero, eq-or-lt-of-le, le-of-suc-le-suc}
@@ -127,6 +128,14 @@ length-scanTo (suc size) order =
     let s = length-suc size order in
     let small = length-scanTo size order in
     let one = cond-le (ltb (ones size) order) in
+    omega arith
+
+-- if all orders below a size are few, all indices are listed
+pub length-all : (size order : ℕ) → ((e : ℕ) → e < size → ones e < order) → length (scanTo size order) ≡ size
+length-all zero order h = length-none order
+length-all (suc size) order h =
+    let s : length (scanTo (suc size) order) ≡ length (scanTo size order) + 1 = length-suc size order ∙ rw (lt-ltb (ones size) order (h size (omega arith))) in
+    let small : length (scanTo size order) ≡ size = length-all size order (λ e l. h e (omega arith)) in
     omega arith
 
 -- ---- rows that agree on them

@@ -1,175 +1,319 @@
--- The indices as the code lists them: those of one order after those of lower order (specs/Choosing.antt, specs/Looking.antt).
+-- The indices as the code lists them: each at the next place of its order (specs/Choosing.antt, specs/Looking.antt).
 --
---   index-fits                     an index fits in two bytes
---   index-passed, index-added      what adding an index does if it has another order than the one wanted, and if it has that
---   Adding                         what a loop has done after e turns: the indices below e of the order wanted are added
---   adding-none, adding-next, adding-all   its start, its step and its end
---   adding-room                    there is room for one more
---   Looked                         what a loop has done after so many orders: the indices of lower order are listed
---   looked-none, looked-next, looked-all   its start, its step and its end
---   looked-asks                    what adding one more order asks for
-use Prim.Native.Nat.{ℕ, suc, _+_, _*_, _%_, _^_, _≤_, _<_, min}
+--   order-within, order-few    an index has few ones
+--   index-fits                 it fits in two bytes
+--   place-few, place-apart     its place is below the number of indices, and no other index has it
+--   Raised                     numbers, one for each order, that each index below e has raised by one
+--   raised-none, raised-at, raised-next      their start, the one that index e raises, and their step
+--   counts-none, counts-few, counts-all      raised from 0, they count the indices of each order
+--   Starting                   what a loop has done after so many orders: their first places are there
+--   starting-none, starting-fits, starting-next, starting-all   its start, its room, its step and its end
+--   Placing                    what a loop has done after e turns: the indices below e stand at their places
+--   placing-none, placing-inside, placing-next, placing-all     its start, its room, its step and its end
+--   placed-listed              indices that stand at their places are listed in the order of looking
+--   orders-within, most-places, shifted-few  sizes as the code has them
+--   listed-length, listed-within             a list that stands in an array is no longer than the array
+use Prim.Native.Nat.{ℕ, zero, suc, _+_, _*_, _%_, _^_, _≤_, _<_, min}
+use native.Mathlib.Nat.{not-suc-le-zero, eq-or-lt-of-le, le-of-suc-le-suc, le-refl, zero-add}
 use native.Mathlib.Numerals.{add-one}
 use native.Mathlib.Omega.{arith}
-use mathlib.Core.Path.{_≡_, refl, sym, ap, ap₂, _∙_}
+use mathlib.Core.Path.{_≡_, refl, sym, ap, ap₂, subst, _∙_}
 use mathlib.Core.Bool.{Bool, true, false, cond}
+use mathlib.Core.Logic.{⊎-elim}
 use mathlib.Core.List.{List, [], _∷_, _++_, append-nil, append-assoc}
 use mir.Syntax.{w16}
 use mir.Val.{Fits}
-use borrow.Author.Tests.{eq-eqb, ne-eqb, eqb-true}
-use lib.Count.{ones}
+use borrow.Author.Tests.{eq-eqb, ne-eqb, eqb-true, eqb-false}
+use lib.Count.{ones, ones-le}
 use lib.Dec.{eqb}
-use lib.ListN.{length, take, set, length-append, length-set, length-take}
+use lib.ListN.{length, take, getD, set, replicate, length-append, length-set, length-take, getD-replicate}
 use lib.Pow.{pow-mono}
-use lib.Seq.{take-suc-set}
+use lib.Seq.{take-suc, getD-set-same, getD-set-other}
 use Rattle.job.specs.Layout.{maxInputs}
 use Rattle.spectra.proofs.Transforming.{one-fits}
+use Rattle.bits.proofs.Below.{lt-or-ge}
 use Rattle.bits.specs.Passing.{passing}
+use Rattle.method.proofs.Pairs.{by-test}
 use Rattle.picking.specs.Labels.{Holds}
 use Rattle.choosing.specs.Choosing.{scanTo, scanOrder}
-use Rattle.choosing.specs.Looking.{maxPlaces, Listed}
-use Rattle.choosing.proofs.Indices.{length-passing, passing-more, length-scanTo}
+use Rattle.choosing.specs.Looking.{maxPlaces, maxOrders, ofOrder, placeOf, Placed, Listed}
+use Rattle.choosing.proofs.Arrays.{Holding, holding-none, holding-next, holding-all}
+use Rattle.choosing.proofs.Indices.{length-passing, passing-more, length-scanTo, length-all}
 
 -- ---- one index
+
+order-within : (e : ℕ) → e < maxPlaces → ones e < maxOrders
+unfolding maxPlaces maxOrders
+order-within e h = omega (arith, ones-le maxInputs e h)
+
+pub order-few : {e order : ℕ} → e < maxPlaces → order ≡ ones e → order < 9
+unfolding maxOrders maxInputs
+order-few {e} h o = omega (arith, order-within e h)
 
 pub index-fits : (index : ℕ) → index < maxPlaces → Fits w16 index
 unfolding maxPlaces maxInputs
 index-fits index h = omega arith
 
-pub index-passed : (places : List ℕ) (count index order wanted : ℕ) → (order ≡ wanted → ⊥)
-    → (count ≡ count + cond (eqb order wanted) 1 0) × (places ≡ cond (eqb order wanted) (set places count index) places)
-index-passed places count index order wanted d =
-    (rw (ne-eqb order wanted d) (omega arith), rw (ne-eqb order wanted d))
+length-order : (size order : ℕ) → length (scanTo size (suc order)) ≡ length (scanTo size order) + length (ofOrder order size)
+unfolding scanTo
+length-order size order = length-append (scanTo size order) (ofOrder order size)
 
-pub index-added : (places : List ℕ) (count index order wanted : ℕ) → order ≡ wanted
-    → (count + 1 ≡ count + cond (eqb order wanted) 1 0) × (set places count index ≡ cond (eqb order wanted) (set places count index) places)
-index-added places count index order wanted e =
-    (rw (eq-eqb order wanted e), rw (eq-eqb order wanted e))
+scan-more : (size a b : ℕ) → a ≤ b → length (scanTo size a) ≤ length (scanTo size b)
+scan-more size a zero h = let e : a ≡ 0 = omega arith in rw e (omega arith)
+scan-more size a (suc b) h =
+    ⊎-elim (λ (e : a ≡ suc b). rw e (omega arith))
+    (λ (l : a < suc b). omega (arith, scan-more size a b (le-of-suc-le-suc l), length-order size b))
+    (eq-or-lt-of-le h)
 
--- ---- the indices of one order
+-- one index more has the order, or has not
+order-next : (e : ℕ) → length (ofOrder (ones e) (suc e)) ≡ length (ofOrder (ones e) e) + 1
+order-next e = length-passing (λ i. eqb (ones i) (ones e)) e ∙ rw (eq-eqb (ones e) (ones e) refl)
 
-abbrev ofOrder : ℕ → ℕ → List ℕ
-ofOrder wanted e = passing (λ i. eqb (ones i) wanted) e
+order-same : (order e : ℕ) → (order ≡ ones e → ⊥) → length (ofOrder order (suc e)) ≡ length (ofOrder order e)
+order-same order e d =
+    length-passing (λ i. eqb (ones i) order) e ∙ rw (ne-eqb (ones e) order (λ p. d (sym p))) (omega arith)
 
-pub record Adding (size wanted room e count : ℕ) (places : List ℕ) : Type 0 where
-  pub within : e ≤ size
-  pub long : length places ≡ room
-  pub listed : Listed (scanTo size wanted ++ ofOrder wanted e) count places
+order-more : (order a b : ℕ) → a ≤ b → length (ofOrder order a) ≤ length (ofOrder order b)
+order-more order a b h = passing-more (λ i. eqb (ones i) order) a b h
 
-listed-as : {l m : List ℕ} {count : ℕ} {places : List ℕ} → l ≡ m → Listed l count places → Listed m count places
-listed-as e w = record { counted = w .counted ∙ ap length e; held = w .held ∙ e }
+place-within : (size e : ℕ) → e < size → placeOf size e < length (scanTo size (suc (ones e)))
+place-within size e h =
+    let all = length-order size (ones e) in
+    let one = order-next e in
+    let few = order-more (ones e) (suc e) size h in
+    omega arith
 
-pub adding-none : (size wanted : ℕ) {start : ℕ} {places : List ℕ} → Listed (scanTo size wanted) start places
-    → Adding size wanted (length places) 0 start places
-unfolding passing
-adding-none size wanted w =
-    record { within = omega arith; long = refl; listed = listed-as (sym (append-nil (scanTo size wanted))) w }
+place-few : (size e : ℕ) → e < size → placeOf size e < size
+place-few size e h = omega (arith, place-within size e h, length-scanTo size (suc (ones e)))
 
--- one index more stands in the list if it has the order wanted
-added : (u : Bool) (l : List ℕ) (e : ℕ) {count count' : ℕ} {places places' : List ℕ} → (u ≡ true → count < length places) → Listed l count places
-    → count' ≡ count + cond u 1 0 → places' ≡ cond u (set places count e) places → Listed (l ++ cond u (e ∷ []) []) count' places'
-added true l e {count} {count'} {places} {places'} room w c p =
-    let next : count' ≡ suc count = c ∙ add-one count in
-    record {
-      counted = omega (arith, w .counted, length-append l (e ∷ []));
-      held =
-          ap₂ (λ (n : ℕ) (s : List ℕ). take n s) next p ∙ take-suc-set places count e (room refl)
-          ∙ ap (λ (s : List ℕ). s ++ (e ∷ [])) (w .held);
-    }
-added false l e {count} {count'} {places} {places'} room w c p =
-    let same : count' ≡ count = omega arith in
-    record {
-      counted = omega (arith, w .counted, length-append l []);
-      held = ap₂ (λ (n : ℕ) (s : List ℕ). take n s) same p ∙ w .held ∙ sym (append-nil l);
-    }
+lower-first : (size a b : ℕ) → a < size → ones a < ones b → placeOf size a < placeOf size b
+lower-first size a b h o = omega (arith, place-within size a h, scan-more size (suc (ones a)) (ones b) o)
 
-length-added : (u : Bool) (places : List ℕ) (count e : ℕ) → length (cond u (set places count e) places) ≡ length places
-length-added true places count e = length-set places count e
-length-added false places count e = refl
+place-apart : (size a b : ℕ) → a < b → b < size → placeOf size a ≡ placeOf size b → ⊥
+place-apart size a b h k p =
+    let inside : a < size = omega arith in
+    ⊎-elim
+    (λ (l : ones a < ones b). omega (arith, lower-first size a b inside l))
+    (λ (g : ones b ≤ ones a). ⊎-elim
+    (λ (l : ones b < ones a). omega (arith, lower-first size b a k l))
+    (λ (l : ones a ≤ ones b).
+    let same : ones a ≡ ones b = omega arith in
+    let q : placeOf size a ≡ length (scanTo size (ones a)) + length (ofOrder (ones a) b) =
+    p ∙ ap (λ (o : ℕ). length (scanTo size o) + length (ofOrder o b)) (sym same) in
+    omega (arith, order-next a, order-more (ones a) (suc a) b h))
+    (lt-or-ge (ones b) (ones a)))
+    (lt-or-ge (ones a) (ones b))
 
-module _ {size wanted room e count : ℕ} {places : List ℕ} (w : Adding size wanted room e count places) where
-  pub adding-room : {order : ℕ} → e < size → size ≤ room → order ≡ ones e → order ≡ wanted → count < length places
-  unfolding scanTo
-  adding-room h r o k =
-      let more : length (ofOrder wanted (suc e)) ≡ length (ofOrder wanted e) + 1 =
-      length-passing (λ i. eqb (ones i) wanted) e ∙ rw (eq-eqb (ones e) wanted (sym o ∙ k)) in
-      let few : length (ofOrder wanted (suc e)) ≤ length (ofOrder wanted size) = passing-more (λ i. eqb (ones i) wanted) (suc e) size h in
-      let all : length (scanTo size (suc wanted)) ≤ size = length-scanTo size (suc wanted) in
-      let both : length (scanTo size (suc wanted)) ≡ length (scanTo size wanted) + length (ofOrder wanted size) =
-      length-append (scanTo size wanted) (ofOrder wanted size) in
-      let now : count ≡ length (scanTo size wanted) + length (ofOrder wanted e) =
-      w .listed .counted ∙ length-append (scanTo size wanted) (ofOrder wanted e) in
-      omega (arith, w .long)
+-- ---- numbers raised by the indices of each order
 
-  pub adding-next : {order count' : ℕ} {places' : List ℕ} → e < size → size ≤ room → order ≡ ones e
-      → (count' ≡ count + cond (eqb order wanted) 1 0) × (places' ≡ cond (eqb order wanted) (set places count e) places)
-      → Adding size wanted room (e + 1) count' places'
-  unfolding passing
-  adding-next {order} {count'} {places'} h r o p =
+pub record Raised (base : ℕ → ℕ) (e : ℕ) (l : List ℕ) : Type 0 where
+  pub long : length l ≡ maxOrders
+  pub held : Holds maxOrders (λ order. base order + length (ofOrder order e)) l
+
+raised-none : (base : ℕ → ℕ) (l : List ℕ) → length l ≡ 9 → Holds maxOrders base l → Raised base 0 l
+unfolding maxOrders maxInputs passing
+raised-none base l e h = record { long = e; held = λ order k. h order k ∙ omega arith }
+
+module _ {base : ℕ → ℕ} {e order : ℕ} {l : List ℕ} (w : Raised base e l) (h : e < maxPlaces) (o : order ≡ ones e) where
+  raised-inside : order < length l
+  raised-inside = omega (arith, order-within e h, w .long)
+
+  raised-at : getD l order 0 ≡ base (ones e) + length (ofOrder (ones e) e)
+  raised-at = ap (λ (x : ℕ). getD l x 0) o ∙ w .held (ones e) (order-within e h)
+
+  raised-same : (k x : ℕ) → k ≡ order → x ≡ getD l order 0 → getD (set l order (x + 1)) k 0 ≡ base k + length (ofOrder k (e + 1))
+  raised-same k x q p =
+      let own : k ≡ ones e = q ∙ o in
+      let now : x ≡ base k + length (ofOrder k e) = p ∙ raised-at ∙ ap (λ (i : ℕ). base i + length (ofOrder i e)) (sym own) in
+      let more : length (ofOrder k (e + 1)) ≡ length (ofOrder k e) + 1 =
+      ap₂ (λ (i j : ℕ). length (ofOrder i j)) own (add-one e) ∙ order-next e ∙ ap (λ (i : ℕ). length (ofOrder i e) + 1) (sym own) in
+      let put : getD (set l order (x + 1)) k 0 ≡ x + 1 =
+      ap (λ (i : ℕ). getD (set l order (x + 1)) i 0) q ∙ getD-set-same l order (x + 1) 0 raised-inside in
+      put ∙ omega arith
+
+  raised-other : (k x : ℕ) → k < maxOrders → (k ≡ order → ⊥) → getD (set l order (x + 1)) k 0 ≡ base k + length (ofOrder k (e + 1))
+  raised-other k x b d =
+      let same : length (ofOrder k (e + 1)) ≡ length (ofOrder k e) =
+      ap (λ (j : ℕ). length (ofOrder k j)) (add-one e) ∙ order-same k e (λ p. d (p ∙ sym o)) in
+      getD-set-other l order k (x + 1) 0 d ∙ w .held k b ∙ ap (λ (i : ℕ). base k + i) (sym same)
+
+  pub raised-next : {x : ℕ} → x ≡ getD l order 0 → Raised base (e + 1) (set l order (x + 1))
+  raised-next {x} p =
       record {
-        within = omega arith;
-        long = ap length (p .1) ∙ length-added (eqb order wanted) places count e ∙ w .long;
-        listed =
-            listed-as
-            (append-assoc (scanTo size wanted) (ofOrder wanted e) (cond (eqb order wanted) (e ∷ []) [])
-            ∙ ap (λ (x : ℕ). scanTo size wanted ++ (ofOrder wanted e ++ cond (eqb x wanted) (e ∷ []) [])) o
-            ∙ ap (λ (x : ℕ). scanTo size wanted ++ ofOrder wanted x) (sym (add-one e)))
-            (added (eqb order wanted) (scanTo size wanted ++ ofOrder wanted e) e (λ t. adding-room h r o (eqb-true order wanted t)) (w .listed)
-            (p .0) (p .1));
+        long = length-set l order (x + 1) ∙ w .long;
+        held = λ k b.
+            by-test (eqb k order)
+            (λ t. raised-same k x (eqb-true k order t) p)
+            (λ f. raised-other k x b (eqb-false k order f));
       }
 
-  pub adding-all : size ≤ e → Listed (scanTo size (wanted + 1)) count places × (length places ≡ room)
-  unfolding scanTo
-  adding-all h =
-      let end : e ≡ size = omega (arith, w .within) in (
-        listed-as
-            (ap (λ (x : ℕ). scanTo size wanted ++ ofOrder wanted x) end ∙ ap (scanTo size) (sym (add-one wanted)))
-            (w .listed),
-        w .long,
-      )
+pub counts-none : Raised (λ order. 0) 0 (replicate 9 0)
+unfolding maxOrders maxInputs
+counts-none = raised-none (λ order. 0) (replicate 9 0) refl (λ order h. getD-replicate 9 order 0 0 h)
 
--- ---- all orders
+pub counts-few : {e order : ℕ} {l : List ℕ} → Raised (λ order. 0) e l → e < maxPlaces → order ≡ ones e → getD l order 0 < 256
+unfolding maxPlaces maxInputs
+counts-few {e} w h o = omega (arith, raised-at w h o, length-order e (ones e), length-scanTo e (suc (ones e)))
 
-pub record Looked (n order count : ℕ) (places : List ℕ) : Type 0 where
-  pub within : order ≤ n + 1
-  pub long : length places ≡ 256
-  pub listed : Listed (scanTo (2 ^ n) order) count places
+-- raised from 0, they count the indices of each order
+pub counts-all : {size e : ℕ} {l : List ℕ} → Raised (λ order. 0) e l → e ≤ size → size ≤ e → Holds maxOrders (λ order. length (ofOrder order size)) l
+counts-all {size} {e} w h k order b =
+    let end : e ≡ size = omega arith in
+    w .held order b ∙ ap (λ (x : ℕ). 0 + length (ofOrder order x)) end ∙ zero-add (length (ofOrder order size))
 
-pub looked-none : (n : ℕ) (places : List ℕ) → length places ≡ 256 → Looked n 0 0 places
+-- ---- the first place of each order
+
+pub record Starting (size order place : ℕ) (l : List ℕ) : Type 0 where
+  pub reached : place ≡ length (scanTo size order)
+  pub starts : Holding 9 (λ order. length (scanTo size order)) order l
+
+pub starting-none : (size : ℕ) (l : List ℕ) → length l ≡ 9 → Starting size 0 0 l
 unfolding scanTo
-looked-none n places e = record { within = omega arith; long = e; listed = record { counted = refl; held = refl } }
+starting-none size l e = record { reached = refl; starts = holding-none (λ order. length (scanTo size order)) l e }
+
+pub orders-within : {order : ℕ} → order < 9 → order < maxOrders
+unfolding maxOrders maxInputs
+orders-within h = h
+
+module _ {size order place count : ℕ} {l : List ℕ} (w : Starting size order place l) (c : count ≡ length (ofOrder order size)) where
+  starting-sum : place + count ≡ length (scanTo size (suc order))
+  starting-sum = omega (arith, w .reached, c, length-order size order)
+
+  pub starting-fits : size ≤ maxPlaces → place + count ≤ 256
+  unfolding maxPlaces maxInputs
+  starting-fits few = omega (arith, starting-sum, length-scanTo size (suc order))
+
+  pub starting-next : order < 9 → Starting size (order + 1) (place + count) (set l order place)
+  starting-next h =
+      record {
+        reached = starting-sum ∙ ap (λ (x : ℕ). length (scanTo size x)) (sym (add-one order));
+        starts = holding-next (w .starts) h (w .reached);
+      }
+
+pub starting-all : {size order place : ℕ} {l : List ℕ} → Starting size order place l → 9 ≤ order → Holds maxOrders (λ order. length (scanTo size order)) l
+unfolding maxOrders maxInputs
+starting-all w h = holding-all (w .starts) h
+
+-- ---- all indices
+
+pub record Placing (size e : ℕ) (next places : List ℕ) : Type 0 where
+  pub within : e ≤ size
+  pub long : length places ≡ 256
+  pub raised : Raised (λ order. length (scanTo size order)) e next
+  pub placed : (i : ℕ) → i < e → getD places (placeOf size i) 0 ≡ i
+
+pub placing-none : (size : ℕ) (next places : List ℕ) → length next ≡ 9 → length places ≡ 256 → Holds maxOrders (λ order. length (scanTo size order)) next
+    → Placing size 0 next places
+placing-none size next places n e h =
+    record {
+      within = omega arith;
+      long = e;
+      raised = raised-none (λ order. length (scanTo size order)) next n h;
+      placed = λ i k. absurd (not-suc-le-zero k);
+    }
+
+module _ {size e order : ℕ} {next places : List ℕ} (w : Placing size e next places) (few : size ≤ maxPlaces) (h : e < size) (o : order ≡ ones e) where
+  below : e < maxPlaces
+  below = omega arith
+
+  placing-at : getD next order 0 ≡ placeOf size e
+  placing-at = raised-at (w .raised) below o
+
+  pub placing-inside : getD next order 0 < 256
+  unfolding maxPlaces maxInputs
+  placing-inside = omega (arith, placing-at, place-few size e h)
+
+  pub placing-next : Placing size (e + 1) (set next order (getD next order 0 + 1)) (set places (getD next order 0) e)
+  placing-next =
+      let at = getD next order 0 in
+      record {
+        within = omega arith;
+        long = length-set places at e ∙ w .long;
+        raised = raised-next (w .raised) below o refl;
+        placed = λ i (k : i < e + 1).
+            ⊎-elim
+            (λ (b : i < e). getD-set-other places at (placeOf size i) e 0 (λ p. place-apart size i e b h (p ∙ placing-at)) ∙ w .placed i b)
+            (λ (b : e ≤ i).
+            let p : i ≡ e = omega arith in
+            ap (λ (x : ℕ). getD (set places at e) (placeOf size x) 0) p
+            ∙ ap (λ (x : ℕ). getD (set places at e) x 0) (sym placing-at)
+            ∙ getD-set-same places at e 0 (omega (arith, placing-inside, w .long))
+            ∙ sym p)
+            (lt-or-ge i e);
+      }
+
+pub placing-all : {size e : ℕ} {next places : List ℕ} → Placing size e next places → size ≤ e → Placed size places
+placing-all w h i k = w .placed i (omega arith)
+
+-- ---- the list that they make
+
+module _ (size : ℕ) (places : List ℕ) (long : size ≤ length places) (placed : Placed size places) where
+  -- one index more stands after a list, or not
+  abbrev Starts : List ℕ → Type 0
+  Starts l = take (length l) places ≡ l
+
+  starts-more : (u : Bool) (l : List ℕ) (m : ℕ) → (u ≡ true → (length l < length places) × (getD places (length l) 0 ≡ m)) → Starts l
+      → Starts (l ++ cond u (m ∷ []) [])
+  starts-more true l m h s =
+      let one : length (l ++ (m ∷ [])) ≡ suc (length l) = omega (arith, length-append l (m ∷ [])) in
+      ap (λ (x : ℕ). take x places) one ∙ take-suc places (length l) 0 (h refl .0)
+      ∙ ap₂ (λ (r : List ℕ) (x : ℕ). r ++ (x ∷ [])) s (h refl .1)
+  starts-more false l m h s = subst Starts (sym (append-nil l)) s
+
+  abbrev upTo : ℕ → ℕ → List ℕ
+  upTo order m = scanTo size order ++ ofOrder order m
+
+  upTo-length : (order m : ℕ) → ones m ≡ order → length (upTo order m) ≡ placeOf size m
+  upTo-length order m e =
+      length-append (scanTo size order) (ofOrder order m)
+      ∙ ap (λ (x : ℕ). length (scanTo size x) + length (ofOrder x m)) (sym e)
+
+  upTo-starts : (order m : ℕ) → m ≤ size → Starts (scanTo size order) → Starts (upTo order m)
+  unfolding passing
+  upTo-starts order zero h s = subst Starts (sym (append-nil (scanTo size order))) s
+  upTo-starts order (suc m) h s =
+      let u = eqb (ones m) order in
+      subst Starts (append-assoc (scanTo size order) (ofOrder order m) (cond u (m ∷ []) []))
+      (starts-more u (upTo order m) m
+      (λ t.
+      let e : length (upTo order m) ≡ placeOf size m = upTo-length order m (eqb-true (ones m) order t) in
+      (omega (arith, place-few size m h), ap (λ (x : ℕ). getD places x 0) e ∙ placed m h))
+      (upTo-starts order m (omega arith) s))
+
+  scan-starts : (order : ℕ) → Starts (scanTo size order)
+  unfolding scanTo
+  scan-starts zero = refl
+  scan-starts (suc order) = upTo-starts order size (le-refl size) (scan-starts order)
+
+pub most-places : {n : ℕ} → n ≡ 256 → n ≡ maxPlaces
+unfolding maxPlaces maxInputs
+most-places e = e
 
 -- the number of indices as the machine works it out
 abbrev shifted : ℕ → ℕ
 shifted n = 1 * 2 ^ n % 2 ^ 64
 
-module _ {n order count : ℕ} {places : List ℕ} (few : n ≤ maxInputs) (w : Looked n order count places) where
+module _ {n : ℕ} (few : n ≤ maxInputs) where
   shifted-is : shifted n ≡ 2 ^ n
   unfolding maxInputs
   shifted-is = one-fits n (omega arith)
 
-  pub looked-asks : (orders : List ℕ) → length orders ≡ 256 → Holds maxPlaces ones orders
-      → (shifted n ≤ maxPlaces) × (shifted n ≤ length places) × (length orders ≡ maxPlaces) × Holds maxPlaces ones orders
-      × Listed (scanTo (shifted n) order) count places
+  pub shifted-few : shifted n ≤ maxPlaces
+  unfolding maxPlaces
+  shifted-few = rw shifted-is (pow-mono {i = n} {j = maxInputs} few)
+
+  pub placed-listed : {count : ℕ} {places : List ℕ} → length places ≡ 256 → (count ≡ shifted n) × Placed (shifted n) places
+      → Listed (scanOrder n) count places
   unfolding maxPlaces maxInputs
-  looked-asks orders e o =
-      let most : 2 ^ n ≤ 2 ^ 8 = pow-mono {i = n} {j = 8} few in
-      let size : shifted n ≡ 2 ^ n = shifted-is in
-      (rw size most, rw (size, w .long) most, e, o, rw size (w .listed))
-
-  pub looked-next : {count' : ℕ} {places' : List ℕ} → order ≤ n
-      → Listed (scanTo (shifted n) (order + 1)) count' places' × (length places' ≡ length places) → Looked n (order + 1) count' places'
-  looked-next {count'} {places'} h p =
+  placed-listed {count} {places} e p =
+      let all : length (scanOrder n) ≡ 2 ^ n = length-all (2 ^ n) (n + 1) (λ i h. omega (arith, ones-le n i h)) in
+      let counted : count ≡ length (scanOrder n) = p .0 ∙ shifted-is ∙ sym all in
+      let room : 2 ^ n ≤ length places = omega (arith, shifted-few, shifted-is, e) in
       record {
-        within = omega arith;
-        long = p .1 ∙ w .long;
-        listed = listed-as (ap (λ (x : ℕ). scanTo x (order + 1)) shifted-is) (p .0);
+        counted = counted;
+        held = ap (λ (x : ℕ). take x places) counted
+            ∙ scan-starts (2 ^ n) places room (subst (λ (x : ℕ). Placed x places) shifted-is (p .1)) (n + 1);
       }
-
-  pub looked-all : n < order → Listed (scanOrder n) count places
-  looked-all h =
-      let end : order ≡ n + 1 = omega (arith, w .within) in
-      listed-as (ap (scanTo (2 ^ n)) end) (w .listed)
 
 pub listed-length : {list places : List ℕ} {count : ℕ} → Listed list count places → count ≡ length (take count places)
 listed-length w = w .counted ∙ ap length (sym (w .held))

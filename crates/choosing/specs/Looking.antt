@@ -1,15 +1,22 @@
 -- How the code lists the indices in the order of looking, and hands the spectra to the method.
 --
 --   maxPlaces   the most coefficients of a circuit
+--   maxOrders   the most orders of an index
+--   ofOrder     the indices of one order below a bound
+--   placeOf     the place of an index in the order of looking
+--   Placed      the indices stand at their places
 --   Listed      a list stands at the start of an array, and so many places are taken
 --   Filled      the counts are a job's, and its spectra lie within the work
 --   choiceIn    the choice over any coefficients of the counted circuits
 --   answerOf    the answer that stands for a choice
-use Prim.Native.Nat.{ℕ, _+_, _*_, _^_, _≤_}
+use Prim.Native.Nat.{ℕ, suc, _+_, _*_, _^_, _≤_, _<_}
 use mathlib.Core.Path.{_≡_}
 use mathlib.Core.Bool.{_&&_}
 use mathlib.Core.List.{List}
-use lib.ListN.{length, take}
+use lib.Count.{ones}
+use lib.Dec.{eqb}
+use lib.ListN.{length, take, getD}
+use Rattle.bits.specs.Passing.{passing}
 use Rattle.job.specs.Layout.{maxInputs, maxFaults}
 use Rattle.tables.specs.declared.Counts.{Counts}
 use Rattle.bits.specs.declared.Refusal.the-variants.{Memory}
@@ -18,7 +25,7 @@ use Rattle.method.specs.Method.{agree, signature, firstPair}
 use Rattle.picking.specs.declared.Found.{Found}
 use Rattle.picking.specs.declared.Found.the-variants.{Told, Unfit}
 use Rattle.picking.specs.declared.Found.the-variants as found
-use Rattle.choosing.specs.Choosing.{Choice, Finding, choiceBy, needed, scanOrder}
+use Rattle.choosing.specs.Choosing.{Choice, Finding, choiceBy, needed, scanTo, scanOrder}
 use Rattle.choosing.specs.Choosing.Finding.{chosen, alike}
 use Rattle.choosing.specs.declared.Chosen.{Chosen}
 use Rattle.choosing.specs.declared.Purpose.{Purpose}
@@ -29,6 +36,21 @@ use Rattle.choosing.specs.declared.Verdict.the-variants.{Done, Alike, Re
 unfoldable pub maxPlaces : ℕ
 unfolding maxInputs
 maxPlaces = 2 ^ maxInputs
+
+-- 0 to 8
+unfoldable pub maxOrders : ℕ
+unfolding maxInputs
+maxOrders = suc maxInputs
+
+abbrev pub ofOrder : ℕ → ℕ → List ℕ
+ofOrder order e = passing (λ i. eqb (ones i) order) e
+
+-- after those of lower order, and after the lower ones of its own
+abbrev pub placeOf : ℕ → ℕ → ℕ
+placeOf size e = length (scanTo size (ones e)) + length (ofOrder (ones e) e)
+
+abbrev pub Placed : ℕ → List ℕ → Type 0
+Placed size places = (e : ℕ) → e < size → getD places (placeOf size e) 0 ≡ e
 
 pub record Listed (list : List ℕ) (count : ℕ) (places : List ℕ) : Type 0 where
   pub counted : count ≡ length list

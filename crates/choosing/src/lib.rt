@@ -1,18 +1,16 @@
 // Signatures: the few coefficients that tell the circuits of a job apart (document 01, "Choosing").
 ghost use Prim.Native.Nat.{_+_, _^_, _≤_, _<_};
 ghost use mathlib.Core.Path.{_≡_};
-ghost use mathlib.Core.Bool.{cond};
 ghost use mathlib.Core.List.{[]};
 ghost use lib.Count.{ones};
-ghost use lib.Dec.{eqb};
-ghost use lib.ListN.{length, set};
+ghost use lib.ListN.{length};
 ghost use Rattle.job.specs.Layout.{maxInputs};
 ghost use Rattle.picking.specs.Labels.{Holds};
 ghost use Rattle.picking.specs.Matrix.{cell, maxRows, signatureOf};
 ghost use Rattle.choosing.specs.Choosing.{mark, scanTo, scanOrder, chosenOf, chose, verdictTold};
 ghost use Rattle.choosing.specs.declared.Purpose.the-variants.{Detecting};
 ghost use Rattle.choosing.specs.declared.Verdict.the-variants.{Refused};
-ghost use Rattle.choosing.specs.Looking.{maxPlaces, Listed, Filled, choiceIn, verdictOf, answerOf};
+ghost use Rattle.choosing.specs.Looking.{maxPlaces, maxOrders, ofOrder, Placed, Listed, Filled, choiceIn, verdictOf, answerOf};
 use bits::Refusal;
 use picking::Found;
 use picking::Signature;
@@ -42,6 +40,9 @@ pub struct Chosen {
 // The most coefficients of a circuit, 2 to the power 8.
 const MAX_PLACES: usize = 256;
 
+// An index has 0 to 8 ones.
+const MAX_ORDERS: usize = 9;
+
 // A mark for each circuit: those with different marks are to be told apart.
 struct Marks {
     of: [u8; picking::MAX_ROWS],
@@ -50,6 +51,11 @@ struct Marks {
 // The order of each index.
 struct Orders {
     of: [u8; MAX_PLACES],
+}
+
+// A number for each order.
+struct PerOrder {
+    of: [usize; MAX_ORDERS],
 }
 
 // Indices by order, then by value.
@@ -97,36 +103,61 @@ fn all_orders() -> Orders
     let mut of = [0u8; MAX_PLACES];
     let mut e = 0;
     while e < MAX_PLACES {
-        of[e] = u32::count_ones(e as u32) as u8;
+        let index = e as u32;
+        of[e] = u32::count_ones(index) as u8;
         e += 1;
     }
     Orders { of }
 }
 
-// Adds an index to the list if it has the order that is looked at.
-fn add_index(scan: &mut [u16], count: usize, index: usize, order: usize, wanted: usize) -> usize
-    requires { ⌜ (index < maxPlaces) × (order ≡ wanted → count < length (now scan)) ⌝ }
-    ensures { λ r. ⌜ (r ≡ count + cond (eqb order wanted) 1 0) × (now (scan .exit) ≡ cond (eqb order wanted) (set (now (scan .entry)) count index) (now (scan .entry))) ⌝ }
+// How many indices below `size` there are of each order.
+fn count_orders(orders: &[u8], size: usize) -> PerOrder
+    requires { ⌜ (size ≤ maxPlaces) × (length (now orders) ≡ maxPlaces) × Holds maxPlaces ones (now orders) ⌝ }
+    ensures { λ r. ⌜ Holds maxOrders (λ order. length (ofOrder order size)) (r .of) ⌝ }
 {
-    if order != wanted {
-        return count;
-    }
-    scan[count] = index as u16;
-    count + 1
-}
-
-// Adds the indices below `size` of one order to the list of those of lower order.
-fn add_order(scan: &mut [u16], orders: &[u8], size: usize, wanted: usize, start: usize) -> usize
-    requires { ⌜ (size ≤ maxPlaces) × (size ≤ length (now scan)) × (length (now orders) ≡ maxPlaces) × Holds maxPlaces ones (now orders) × Listed (scanTo size wanted) start (now scan) ⌝ }
-    ensures { λ r. ⌜ Listed (scanTo size (wanted + 1)) r (now (scan .exit)) × (length (now (scan .exit)) ≡ length (now (scan .entry))) ⌝ }
-{
-    let mut count = start;
+    let mut of = [0usize; MAX_ORDERS];
     let mut e = 0;
     while e < size {
-        count = add_index(scan, count, e, orders[e] as usize, wanted);
+        let order = orders[e] as usize;
+        of[order] = of[order] + 1;
         e += 1;
     }
-    count
+    PerOrder { of }
+}
+
+// The place of the first index of each order, after all those of lower order.
+fn first_places(orders: &[u8], size: usize) -> PerOrder
+    requires { ⌜ (size ≤ maxPlaces) × (length (now orders) ≡ maxPlaces) × Holds maxPlaces ones (now orders) ⌝ }
+    ensures { λ r. ⌜ Holds maxOrders (λ order. length (scanTo size order)) (r .of) ⌝ }
+{
+    let counts = count_orders(orders, size);
+    let mut of = [0usize; MAX_ORDERS];
+    let mut place = 0;
+    let mut order = 0;
+    while order < MAX_ORDERS {
+        of[order] = place;
+        place += counts.of[order];
+        order += 1;
+    }
+    PerOrder { of }
+}
+
+// Puts each index at the next place of its order.
+fn put_indices(orders: &[u8], firsts: PerOrder, size: usize) -> Scan
+    requires { ⌜ (size ≤ maxPlaces) × (length (now orders) ≡ maxPlaces) × Holds maxPlaces ones (now orders) × Holds maxOrders (λ order. length (scanTo size order)) (firsts .of) ⌝ }
+    ensures { λ r. ⌜ (r .count ≡ size) × Placed size (r .of) ⌝ }
+{
+    let mut next = firsts.of;
+    let mut of = [0u16; MAX_PLACES];
+    let mut e = 0;
+    while e < size {
+        let order = orders[e] as usize;
+        let place = next[order];
+        of[place] = e as u16;
+        next[order] = place + 1;
+        e += 1;
+    }
+    Scan { count: size, of }
 }
 
 // The indices of n inputs, by order, then by value.
@@ -136,14 +167,8 @@ fn scan_order(n: usize) -> Scan
 {
     let size = 1 << n;
     let orders = all_orders();
-    let mut of = [0u16; MAX_PLACES];
-    let mut count = 0;
-    let mut order = 0;
-    while order <= n {
-        count = add_order(&mut of, &orders.of, size, order, count);
-        order += 1;
-    }
-    Scan { count, of }
+    let firsts = first_places(&orders.of, size);
+    put_indices(&orders.of, firsts, size)
 }
 
 // Beside a refusal the signature is empty.

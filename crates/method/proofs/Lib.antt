@@ -6,3 +6,4 @@ pub mod Bounded
 pub mod Signatures
 pub mod Unchanged
 pub mod Firsts
+pub mod Applied

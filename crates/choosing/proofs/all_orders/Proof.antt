@@ -17,11 +17,11 @@ abbrev μ-loop : tie.MeasureT-loop
 loop-holds : tie.Need-loop-holds Inv-loop μ-loop
 loop-holds c = holding-none ones _ refl
 
-cast-of : tie.Need-cast-of Inv-loop μ-loop
-cast-of c = omega (arith, c .loop-test .taken)
+cast-index : tie.Need-cast-index Inv-loop μ-loop
+cast-index c = omega (arith, c .loop-test .taken)
 
-cast-of-2 : tie.Need-cast-of-2 Inv-loop μ-loop
-cast-of-2 c = order-fits (c .before .loop .e) (c .loop-test .taken)
+cast-of : tie.Need-cast-of Inv-loop μ-loop
+cast-of c = order-fits _ (omega (arith, c .loop-test .taken))
 
 array-write-of : tie.Need-array-write-of Inv-loop μ-loop
 array-write-of c = c .loop-test .taken
@@ -45,8 +45,8 @@ all-orders-spec =
     Inv-loop
     μ-loop
     loop-holds
+    cast-index
     cast-of
-    cast-of-2
     array-write-of
     add-e
     loop-less

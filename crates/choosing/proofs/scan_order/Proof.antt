@@ -1,59 +1,28 @@
 -- `choosing::scan_order` meets its contract.
 use native.Mathlib.Omega.{arith}
-use Prim.Native.Nat.{_+_, _-_}
-use mathlib.Core.Path.{refl, sym}
+use borrow.Author.Needs.{length-unmapped}
 use Rattle.job.specs.Layout.{maxInputs}
-use Rattle.choosing.proofs.Ordered.{Looked, looked-none, looked-asks, looked-next, looked-all}
+use Rattle.choosing.proofs.Ordered.{most-places, shifted-few, placed-listed}
 use Rattle.choosing.proofs.scan_order.Statement.{statement}
 use Rattle.choosing.proofs.scan_order.Tie as tie
 
-abbrev Inv-loop : tie.InvT-loop
-Inv-loop n size orders of₀ count₀ order₀ of count order = Looked n order count of
-
-abbrev μ-loop : tie.MeasureT-loop
-μ-loop n size orders of₀ count₀ order₀ of count order = n + 1 - order
-
-shl-size : tie.Need-shl-size Inv-loop μ-loop
+shl-size : tie.Need-shl-size
 unfolding maxInputs
 shl-size c = omega (arith, c .pre)
 
-all-orders-requires : tie.Need-all-orders-requires Inv-loop μ-loop
+all-orders-requires : tie.Need-all-orders-requires
 all-orders-requires c κs = tt
 
-loop-holds : tie.Need-loop-holds Inv-loop μ-loop
-loop-holds c = looked-none (c .before .args .n) _ refl
+first-places-requires : tie.Need-first-places-requires
+first-places-requires c κs = (shifted-few (c .before .before .before .before .pre), most-places (c .first-places-arg2 .given .0), c .before .before .before .all-orders .ensures)
 
-slice-aggregate-add-order : tie.Need-slice-aggregate-add-order Inv-loop μ-loop
-slice-aggregate-add-order c = sym (c .before .before .loop .inv .long)
+put-indices-requires : tie.Need-put-indices-requires
+put-indices-requires c κs = (shifted-few (c .before .before .before .before .before .before .before .before .pre), most-places (c .before .before .before .before .first-places-arg2 .given .0), c .before .before .before .before .before .before .before .all-orders .ensures, c .before .before .before .first-places .ensures)
 
-add-order-requires : tie.Need-add-order-requires Inv-loop μ-loop
-add-order-requires c κs = looked-asks (c .before .before .before .before .before .before .before .pre) (c .before .before .before .before .before .loop .inv) (c .before .before .before .before .before .before .all-orders .result .of) (c .add-order-arg2 .given .0) (c .before .before .before .before .before .before .all-orders .ensures)
-
-add-order : tie.Need-add-order Inv-loop μ-loop
-unfolding maxInputs
-add-order c = omega (arith, c .before .before .before .before .before .before .loop-test .taken, c .before .before .before .before .before .before .before .before .before .pre)
-
-loop-less : tie.Need-loop-less Inv-loop μ-loop
-loop-less c = omega (arith, c .before .before .before .before .before .before .loop-test .taken)
-
-loop-again : tie.Need-loop-again Inv-loop μ-loop
-loop-again c = looked-next (c .before .before .before .before .before .before .before .before .before .pre) (c .before .before .before .before .before .before .before .loop .inv) (c .before .before .before .before .before .before .loop-test .taken) (c .before .add-order .ensures)
-
-returns : tie.Need-returns Inv-loop μ-loop
-returns c = looked-all (c .before .before .before .pre) (c .before .loop .inv) (c .loop-test .left)
+returns : tie.Need-returns
+returns c = placed-listed (c .before .before .before .before .before .before .before .before .before .pre) (length-unmapped _ (c .put-indices .result .of) _ (c .put-indices .ok .1 .1 .1 .0 .1 .0 .1)) (c .put-indices .ensures)
 
 pub scan-order-spec : {M : Type 1} → statement M
 scan-order-spec =
     tie.close
-    (tie.spec
-    Inv-loop
-    μ-loop
-    shl-size
-    all-orders-requires
-    loop-holds
-    slice-aggregate-add-order
-    add-order-requires
-    add-order
-    loop-less
-    loop-again
-    returns)
+    (tie.spec shl-size all-orders-requires first-places-requires put-indices-requires returns)
