@@ -37,7 +37,7 @@ use Rattle.method.proofs.Pairs.{by-test}
 use Rattle.picking.specs.Labels.{Holds}
 use Rattle.choosing.specs.Choosing.{scanTo, scanOrder}
 use Rattle.choosing.specs.Looking.{maxPlaces, maxOrders, ofOrder, placeOf, Placed, Listed}
-use Rattle.choosing.proofs.Arrays.{Holding, holding-none, holding-next, holding-all}
+use Rattle.picking.proofs.Columns.{Filling, filling-start, filling-next, filling-all}
 use Rattle.choosing.proofs.Indices.{length-passing, passing-more, length-scanTo, length-all}
 
 -- ---- one index
@@ -165,11 +165,11 @@ counts-all {size} {e} w h k order b =
 
 pub record Starting (size order place : ℕ) (l : List ℕ) : Type 0 where
   pub reached : place ≡ length (scanTo size order)
-  pub starts : Holding 9 (λ order. length (scanTo size order)) order l
+  pub starts : Filling 9 9 (λ order. length (scanTo size order)) l order
 
 pub starting-none : (size : ℕ) (l : List ℕ) → length l ≡ 9 → Starting size 0 0 l
 unfolding scanTo
-starting-none size l e = record { reached = refl; starts = holding-none (λ order. length (scanTo size order)) l e }
+starting-none size l e = record { reached = refl; starts = filling-start 9 (λ order. length (scanTo size order)) l e }
 
 pub orders-within : {order : ℕ} → order < 9 → order < maxOrders
 unfolding maxOrders maxInputs
@@ -187,12 +187,12 @@ module _ {size order place count : ℕ} {l : List ℕ} (w : Starting size order 
   starting-next h =
       record {
         reached = starting-sum ∙ ap (λ (x : ℕ). length (scanTo size x)) (sym (add-one order));
-        starts = holding-next (w .starts) h (w .reached);
+        starts = filling-next (w .starts) (le-refl 9) h (w .reached);
       }
 
 pub starting-all : {size order place : ℕ} {l : List ℕ} → Starting size order place l → 9 ≤ order → Holds maxOrders (λ order. length (scanTo size order)) l
 unfolding maxOrders maxInputs
-starting-all w h = holding-all (w .starts) h
+starting-all w h = filling-all (w .starts) h
 
 -- ---- all indices
 

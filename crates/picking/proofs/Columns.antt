@@ -1,8 +1,8 @@
 -- Columns filled row after row: a number for each row (specs/Labels.antt).
 --
 --   column-start    a column of zeros
---   Filling         what a loop knows that has filled c rows
---   filling-none, filling-next, filling-all   its start, its step and its end
+--   Filling         what a loop knows that has filled c rows of an array
+--   filling-start, filling-none, filling-next, filling-all   its start, in any array and in a column, its step and its end
 --   filling-room    there is room for another row
 --   cell-within     a row's number at an entry lies within the work
 use Prim.Native.Nat.{ℕ, suc, _+_, _*_, _≤_, _<_}
@@ -20,21 +20,24 @@ pub column-start : Holds maxRows (λ c. 0) (replicate 64 0)
 unfolding maxRows
 column-start c h = getD-replicate 64 c 0 0 h
 
-pub record Filling (rows : ℕ) (f : ℕ → ℕ) (of : List ℕ) (c : ℕ) : Type 0 where
+pub record Filling (room rows : ℕ) (f : ℕ → ℕ) (of : List ℕ) (c : ℕ) : Type 0 where
   pub within : c ≤ rows
-  pub whole : length of ≡ maxRows
+  pub whole : length of ≡ room
   pub done : Holds c f of
 
-pub filling-none : (rows : ℕ) (f : ℕ → ℕ) → Filling rows f (replicate 64 0) 0
+pub filling-start : {room : ℕ} (rows : ℕ) (f : ℕ → ℕ) (of : List ℕ) → length of ≡ room → Filling room rows f of 0
+filling-start rows f of e = record { within = omega arith; whole = e; done = below-none (λ (k : ℕ). getD of k 0 ≡ f k) }
+
+pub filling-none : (rows : ℕ) (f : ℕ → ℕ) → Filling maxRows rows f (replicate 64 0) 0
 unfolding maxRows
-filling-none rows f = record { within = omega arith; whole = refl; done = below-none (λ (k : ℕ). getD (replicate 64 0) k 0 ≡ f k) }
+filling-none rows f = filling-start rows f (replicate 64 0) refl
 
-module _ {rows : ℕ} {f : ℕ → ℕ} {of : List ℕ} {c : ℕ} (w : Filling rows f of c) where
-  pub filling-room : rows ≤ maxRows → c < rows → c < 64
-  unfolding maxRows
-  filling-room h l = omega arith
+pub filling-room : {rows c : ℕ} → rows ≤ maxRows → c < rows → c < 64
+unfolding maxRows
+filling-room h l = omega arith
 
-  pub filling-next : {v : ℕ} → rows ≤ maxRows → c < rows → v ≡ f c → Filling rows f (set of c v) (c + 1)
+module _ {room rows : ℕ} {f : ℕ → ℕ} {of : List ℕ} {c : ℕ} (w : Filling room rows f of c) where
+  pub filling-next : {v : ℕ} → rows ≤ room → c < rows → v ≡ f c → Filling room rows f (set of c v) (c + 1)
   filling-next {v} h l e =
       record {
         within = omega arith;

@@ -1,21 +1,23 @@
 -- `choosing::all_orders` meets its contract.
+use native.Mathlib.Nat.{le-refl}
 use native.Mathlib.Omega.{arith}
 use Prim.Native.Nat.{_-_}
 use mathlib.Core.Path.{refl}
 use lib.Count.{ones}
 use borrow.Author.Count.{falls}
-use Rattle.choosing.proofs.Arrays.{order-fits, Holding, holding-none, holding-next, places-held}
+use Rattle.choosing.proofs.Arrays.{order-fits, places-held}
+use Rattle.picking.proofs.Columns.{Filling, filling-start, filling-next}
 use Rattle.choosing.proofs.all_orders.Statement.{statement}
 use Rattle.choosing.proofs.all_orders.Tie as tie
 
 abbrev Inv-loop : tie.InvT-loop
-Inv-loop of₀ e₀ of e = Holding 256 ones e of
+Inv-loop of₀ e₀ of e = Filling 256 256 ones of e
 
 abbrev μ-loop : tie.MeasureT-loop
 μ-loop of₀ e₀ of e = 256 - e
 
 loop-holds : tie.Need-loop-holds Inv-loop μ-loop
-loop-holds c = holding-none ones _ refl
+loop-holds c = filling-start 256 ones _ refl
 
 cast-index : tie.Need-cast-index Inv-loop μ-loop
 cast-index c = omega (arith, c .loop-test .taken)
@@ -33,7 +35,7 @@ loop-less : tie.Need-loop-less Inv-loop μ-loop
 loop-less c = falls _ _ (c .loop-test .taken)
 
 loop-again : tie.Need-loop-again Inv-loop μ-loop
-loop-again c = holding-next (c .before .loop .inv) (c .loop-test .taken) refl
+loop-again c = filling-next (c .before .loop .inv) (le-refl 256) (c .loop-test .taken) refl
 
 returns : tie.Need-returns Inv-loop μ-loop
 returns c = places-held (c .before .loop .inv) (c .loop-test .left)

@@ -1,21 +1,23 @@
 -- `choosing::marks_of` meets its contract.
+use native.Mathlib.Nat.{le-refl}
 use native.Mathlib.Omega.{arith}
 use Prim.Native.Nat.{_-_}
 use mathlib.Core.Path.{refl}
 use borrow.Author.Count.{falls}
 use Rattle.choosing.specs.Choosing.{mark}
-use Rattle.choosing.proofs.Arrays.{Holding, holding-none, holding-next, rows-within, rows-held}
+use Rattle.choosing.proofs.Arrays.{rows-within, rows-held}
+use Rattle.picking.proofs.Columns.{Filling, filling-start, filling-next}
 use Rattle.choosing.proofs.marks_of.Statement.{statement}
 use Rattle.choosing.proofs.marks_of.Tie as tie
 
 abbrev Inv-loop : tie.InvT-loop
-Inv-loop purpose of₀ c₀ of c = Holding 64 (mark purpose) c of
+Inv-loop purpose of₀ c₀ of c = Filling 64 64 (mark purpose) of c
 
 abbrev μ-loop : tie.MeasureT-loop
 μ-loop purpose of₀ c₀ of c = 64 - c
 
 loop-holds : tie.Need-loop-holds Inv-loop μ-loop
-loop-holds c = holding-none (mark (c .args .purpose)) _ refl
+loop-holds c = filling-start 64 (mark (c .args .purpose)) _ refl
 
 mark-of-requires : tie.Need-mark-of-requires Inv-loop μ-loop
 mark-of-requires c κs = rows-within (c .loop-test .taken)
@@ -30,7 +32,7 @@ loop-less : tie.Need-loop-less Inv-loop μ-loop
 loop-less c = falls _ _ (c .before .loop-test .taken)
 
 loop-again : tie.Need-loop-again Inv-loop μ-loop
-loop-again c = holding-next (c .before .before .loop .inv) (c .before .loop-test .taken) (c .mark-of .ensures)
+loop-again c = filling-next (c .before .before .loop .inv) (le-refl 64) (c .before .loop-test .taken) (c .mark-of .ensures)
 
 returns : tie.Need-returns Inv-loop μ-loop
 returns c = rows-held (c .before .loop .inv) (c .loop-test .left)

@@ -11,13 +11,13 @@ use Rattle.picking.proofs.Sizes.{place-fits, start-fits}
 use Prim.Native.Nat.{_+_, _-_, _*_}
 use mathlib.Core.Path.{refl}
 use borrow.Author.Count.{falls}
-use Rattle.picking.specs.Matrix.{cell}
+use Rattle.picking.specs.Matrix.{cell, maxRows}
 use Rattle.picking.proofs.Columns.{Filling, filling-none, filling-room, filling-next, filling-all, cell-within}
 use Rattle.picking.proofs.classes.coefficients.Statement.{statement}
 use Rattle.picking.proofs.classes.coefficients.Tie as tie
 
 abbrev Inv-loop : tie.InvT-loop
-Inv-loop work width rows entry of₀ c₀ of c = Filling rows (λ j. cell work width j entry) of c
+Inv-loop work width rows entry of₀ c₀ of c = Filling maxRows rows (λ j. cell work width j entry) of c
 
 abbrev μ-loop : tie.MeasureT-loop
 μ-loop work width rows entry of₀ c₀ of c = rows - c
@@ -41,10 +41,10 @@ cast-of : tie.Need-cast-of Inv-loop μ-loop
 cast-of c = fits-widen {w = w16} tt (c .shared-slice-known .given (c .before .before .loop .c * (c .before .before .before .args .width) + (c .before .before .before .args .entry)))
 
 mul-of-3 : tie.Need-mul-of-3 Inv-loop μ-loop
-mul-of-3 c = scaled-fits _ 64 8 (filling-room (c .before .before .loop .inv) (c .before .before .before .pre .0) (c .before .loop-test .taken)) (lit< tt)
+mul-of-3 c = scaled-fits _ 64 8 (filling-room (c .before .before .before .pre .0) (c .before .loop-test .taken)) (lit< tt)
 
 array-write-of : tie.Need-array-write-of Inv-loop μ-loop
-array-write-of c = filling-room (c .before .before .loop .inv) (c .before .before .before .pre .0) (c .before .loop-test .taken)
+array-write-of c = filling-room (c .before .before .before .pre .0) (c .before .loop-test .taken)
 
 add-c : tie.Need-add-c Inv-loop μ-loop
 add-c c = fits-le (add-one-le (c .before .loop-test .taken)) (c .before .before .before .fits .rows)

@@ -7,6 +7,7 @@ use Rattle.picking.proofs.Sizes.{count-within}
 use Prim.Native.Nat.{_-_}
 use lib.ListN.{getD}
 use borrow.Author.Count.{falls}
+use Rattle.picking.specs.Matrix.{maxRows}
 use Rattle.picking.specs.Labels.{both, lowestFrom}
 use Rattle.picking.proofs.Columns.{Filling, filling-none, filling-room, filling-next, filling-all}
 use Rattle.picking.proofs.Refined.{refined}
@@ -14,7 +15,7 @@ use Rattle.picking.proofs.classes.refine.Statement.{statement}
 use Rattle.picking.proofs.classes.refine.Tie as tie
 
 abbrev Inv-loop : tie.InvT-loop
-Inv-loop rows labels values of₀ c₀ of c = Filling rows (λ j. lowestFrom (λ k. both (labels .of) (values .of) k j) (j - getD (labels .of) j 0) (getD (labels .of) j 0)) of c
+Inv-loop rows labels values of₀ c₀ of c = Filling maxRows rows (λ j. lowestFrom (λ k. both (labels .of) (values .of) k j) (j - getD (labels .of) j 0) (getD (labels .of) j 0)) of c
 
 abbrev μ-loop : tie.MeasureT-loop
 μ-loop rows labels values of₀ c₀ of c = rows - c
@@ -23,19 +24,19 @@ loop-holds : tie.Need-loop-holds Inv-loop μ-loop
 loop-holds c = filling-none _ _
 
 mul-from : tie.Need-mul-from Inv-loop μ-loop
-mul-from c = scaled-fits _ 64 8 (filling-room (c .before .loop .inv) (c .before .before .pre .0) (c .loop-test .taken)) (lit< tt)
+mul-from c = scaled-fits _ 64 8 (filling-room (c .before .before .pre .0) (c .loop-test .taken)) (lit< tt)
 
 element-copy-out-from : tie.Need-element-copy-out-from Inv-loop μ-loop
-element-copy-out-from c = filling-room (c .before .loop .inv) (c .before .before .pre .0) (c .loop-test .taken)
+element-copy-out-from c = filling-room (c .before .before .pre .0) (c .loop-test .taken)
 
 lowest-requires : tie.Need-lowest-requires Inv-loop μ-loop
-lowest-requires c κs = let h = filling-room (c .before .before .before .before .before .before .before .before .loop .inv) (c .before .before .before .before .before .before .before .before .before .pre .0) (c .before .before .before .before .before .before .before .loop-test .taken) in (count-within (c .before .before .before .lowest-arg2 .given .0) h, count-within (c .lowest-arg4 .given .0) h, c .before .before .before .before .before .before .before .before .before .pre .1 (c .before .before .before .before .before .before .before .before .loop .c) (c .before .before .before .before .before .before .before .loop-test .taken))
+lowest-requires c κs = let h = filling-room (c .before .before .before .before .before .before .before .before .before .pre .0) (c .before .before .before .before .before .before .before .loop-test .taken) in (count-within (c .before .before .before .lowest-arg2 .given .0) h, count-within (c .lowest-arg4 .given .0) h, c .before .before .before .before .before .before .before .before .before .pre .1 (c .before .before .before .before .before .before .before .before .loop .c) (c .before .before .before .before .before .before .before .loop-test .taken))
 
 mul-of : tie.Need-mul-of Inv-loop μ-loop
-mul-of c = scaled-fits _ 64 8 (filling-room (c .before .before .before .before .before .before .before .before .before .loop .inv) (c .before .before .before .before .before .before .before .before .before .before .pre .0) (c .before .before .before .before .before .before .before .before .loop-test .taken)) (lit< tt)
+mul-of c = scaled-fits _ 64 8 (filling-room (c .before .before .before .before .before .before .before .before .before .before .pre .0) (c .before .before .before .before .before .before .before .before .loop-test .taken)) (lit< tt)
 
 array-write-of : tie.Need-array-write-of Inv-loop μ-loop
-array-write-of c = filling-room (c .before .before .before .before .before .before .before .before .before .loop .inv) (c .before .before .before .before .before .before .before .before .before .before .pre .0) (c .before .before .before .before .before .before .before .before .loop-test .taken)
+array-write-of c = filling-room (c .before .before .before .before .before .before .before .before .before .before .pre .0) (c .before .before .before .before .before .before .before .before .loop-test .taken)
 
 add-c : tie.Need-add-c Inv-loop μ-loop
 add-c c = fits-le (add-one-le (c .before .before .before .before .before .before .before .before .loop-test .taken)) (c .before .before .before .before .before .before .before .before .before .before .fits .rows)
