@@ -21,9 +21,12 @@ from s c = drop (place c) (stringOf s)
 abbrev pub past : Cursor → ℕ → Cursor
 past c w = record { byte = (place c + w) / 8; bit = (place c + w) % 8 }
 
--- no field of the layout is wider than a byte
+-- a gate's three fields together, 3 + 7 + 7 bits, are the widest that is read at once; from any bit on, three bytes hold them
+abbrev pub maxWidth : ℕ
+maxWidth = 17
+
 abbrev pub isWidth : ℕ → Bool
-isWidth w = leb 1 w && leb w 8
+isWidth w = leb 1 w && leb w maxWidth
 
 unfoldable pub fieldAt : List ℕ → Cursor → ℕ → Field
 fieldAt s c w = cond (isWidth w && leb w (length (from s c))) (Value (valueOf (take w (from s c))) (past c w)) Cut

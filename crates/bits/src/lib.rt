@@ -80,7 +80,10 @@ fn byte_or_zero(s: &[u8], at: usize) -> usize
     if at < s.len() { s[at] as usize } else { 0 }
 }
 
-// The field of `width` bits at a place. A width outside 1 to 8 is no field of the layout, and is answered as cut.
+// A gate's three fields, 3 + 7 + 7 bits, are the widest that is read at once; from any bit on, three bytes hold them.
+const MAX_WIDTH: usize = 17;
+
+// The field of `width` bits at a place. A width outside 1 to MAX_WIDTH is no field of the layout, and is answered as cut.
 pub fn read_field(s: &[u8], c: Cursor, width: usize) -> Field
     ensures { λ r. ⌜ r ≡ fieldAt (now (s .entry)) c width ⌝ }
 {
@@ -92,7 +95,7 @@ pub fn read_field(s: &[u8], c: Cursor, width: usize) -> Field
     if width < 1 {
         return Field::Cut;
     }
-    if 8 < width {
+    if MAX_WIDTH < width {
         return Field::Cut;
     }
     let at = byte + bit / 8;
@@ -100,12 +103,13 @@ pub fn read_field(s: &[u8], c: Cursor, width: usize) -> Field
     if s.len() < at + (end + 7) / 8 {
         return Field::Cut;
     }
-    let word = byte_or_zero(s, at) * 256 + byte_or_zero(s, at + 1);
+    let word = (byte_or_zero(s, at) * 256 + byte_or_zero(s, at + 1)) * 256
+        + byte_or_zero(s, at + 2);
     let next = Cursor {
         byte: at + end / 8,
         bit: (end % 8) as u8,
     };
-    Field::Value((word >> (16 - end)) % (1 << width), next)
+    Field::Value((word >> (24 - end)) % (1 << width), next)
 }
 
 // Whether from a place on there are only spare bits: less than a byte, no bit of it 1.

@@ -1,4 +1,5 @@
 pub mod Entries
+pub mod Joined
 pub mod Parts
 pub mod Refusals
 pub mod Telling

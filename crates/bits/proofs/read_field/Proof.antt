@@ -50,33 +50,48 @@ byte-or-zero-requires-2 c κs = search needs
 add-word : tie.Need-add-word
 add-word c = search needs
 
-add-t13 : tie.Need-add-t13
-add-t13 c = search needs
+mul-word-2 : tie.Need-mul-word-2
+mul-word-2 c = search needs
 
-cast-t15 : tie.Need-cast-t15
-cast-t15 c = search needs
+add-byte-or-zero-2 : tie.Need-add-byte-or-zero-2
+add-byte-or-zero-2 c = search needs
 
-sub-t12 : tie.Need-sub-t12
-sub-t12 c = search needs
+byte-or-zero-requires-3 : tie.Need-byte-or-zero-requires-3
+byte-or-zero-requires-3 c κs = search needs
 
-shr-t10 : tie.Need-shr-t10
-shr-t10 c = search needs
+add-word-2 : tie.Need-add-word-2
+add-word-2 c = search needs
 
-shl-t14 : tie.Need-shl-t14
-shl-t14 c = search needs
+add-t18 : tie.Need-add-t18
+add-t18 c = search needs
 
-rem-t13 : tie.Need-rem-t13
-rem-t13 c = rw (shift-exact (c .before .before .before .before .before .before .before .before .args .width) (c .before .before .before .if3 .left)) (pow-pos (c .before .before .before .before .before .before .before .before .args .width))
+cast-t19 : tie.Need-cast-t19
+cast-t19 c = search needs
+
+sub-t16 : tie.Need-sub-t16
+sub-t16 c = search needs
+
+shr-t12 : tie.Need-shr-t12
+shr-t12 c = search needs
+
+shl-t17 : tie.Need-shl-t17
+shl-t17 c = search needs
+
+rem-t18 : tie.Need-rem-t18
+rem-t18 c = let a = c .before .before .before .before .before .before .before .before .before .args in rw (shift-exact (a .width) (c .before .before .before .before .if3 .left)) (pow-pos (a .width))
 
 returns-5 : tie.Need-returns-5
 returns-5 c =
-    fieldAt-window (now (c .before .before .before .before .before .before .before .before .args .s)) (c .before .before .before .before .before .before .before .before .args .c) (c .before .before .before .before .before .before .before .before .args .width)
-    (c .before .byte-or-zero .ensures .0)
-    (c .byte-or-zero2 .ensures .0)
-    (c .byte-or-zero2 .ensures .1)
-    (c .before .before .before .before .if2 .left)
-    (c .before .before .before .if3 .left)
-    (c .before .before .if4 .left)
+    let a = c .before .before .before .before .before .before .before .before .before .args in
+    fieldAt-window (now (a .s)) (a .c) (a .width)
+    (c .before .before .byte-or-zero .ensures .0)
+    (c .before .byte-or-zero2 .ensures .0)
+    (c .before .byte-or-zero2 .ensures .1)
+    (c .byte-or-zero3 .ensures .0)
+    (c .byte-or-zero3 .ensures .1)
+    (c .before .before .before .before .before .if2 .left)
+    (c .before .before .before .before .if3 .left)
+    (c .before .before .before .if4 .left)
 
 pub read-field-spec : {M : Type 1} → statement M
 read-field-spec =
@@ -96,10 +111,14 @@ read-field-spec =
     add-byte-or-zero
     byte-or-zero-requires-2
     add-word
-    add-t13
-    cast-t15
-    sub-t12
-    shr-t10
-    shl-t14
-    rem-t13
+    mul-word-2
+    add-byte-or-zero-2
+    byte-or-zero-requires-3
+    add-word-2
+    add-t18
+    cast-t19
+    sub-t16
+    shr-t12
+    shl-t17
+    rem-t18
     returns-5)
