@@ -1,4 +1,5 @@
 pub mod Entries
+pub mod FaultKinds
 pub mod Joined
 pub mod Parts
 pub mod Refusals
