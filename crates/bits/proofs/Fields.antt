@@ -6,6 +6,7 @@
 --   fieldAt-cut     where a field has no room, it is cut
 --   fieldAt-value   where it has room, its value stands there
 --   fieldAt-late, fieldAt-short, fieldAt-window   the same for the tests and the arithmetic of the code
+--   room-near       where four bytes are left, a field has room
 --   shift-exact     a one shifted by at most `maxWidth` is a power of two
 --   spare-none, spare-more, spare-last   which bits are spare bits alone, for the tests and the arithmetic of the code
 --   field-found     what a field that was read says of the string
@@ -26,7 +27,7 @@ use lib.Seq.{drop-drop, length-take-le}
 use Rattle.bits.specs.Answer.{unless}
 use Rattle.bits.specs.Answer.Answer.{refused}
 use Rattle.bits.specs.Bits.{bitsOf, stringOf, valueOf, valueFrom}
-use Rattle.bits.specs.Field.{place, from, past, maxWidth, isWidth, fieldAt, spareOnly}
+use Rattle.bits.specs.Field.{place, from, past, maxWidth, isWidth, fieldAt, spareOnly, windowAt}
 use Rattle.bits.specs.Parser.{parsed, field}
 use Rattle.bits.specs.declared.Cursor.{Cursor}
 use Rattle.bits.specs.declared.Field.{Field}
@@ -34,7 +35,8 @@ use Rattle.bits.specs.declared.Field.the-variants.{Value, Cut}
 use Rattle.bits.proofs.Adjacent.{field-room}
 use Rattle.bits.proofs.Tests.{and-r, and-i}
 use Rattle.bits.proofs.Bits.{AllBits, bits-take, bits-drop, bits-stringOf, length-bitsOf, length-stringOf, bitsOf-drop, drop-at-byte, valueOf-bitsOf, valueOf-lt}
-use Rattle.bits.proofs.Window.{threeBytes, valueOf-window}
+use Rattle.bits.proofs.Packed.{Bytes}
+use Rattle.bits.proofs.Window.{valueOf-window}
 
 pub length-from : (s : List ℕ) (c : Cursor) → length (from s c) ≡ length s * 8 - place c
 unfolding from
@@ -71,7 +73,7 @@ fieldAt-value s c w p q h =
 pub shift-exact : (w : ℕ) → w ≤ maxWidth → (1 * 2 ^ w) % 18446744073709551616 ≡ 2 ^ w
 shift-exact w h = shl-exact 1 w 64 (lit< tt) (omega arith) ∙ one-mul (2 ^ w)
 
--- The code's tests and arithmetic: the byte and the bit at which a field starts, and the number of its three bytes.
+-- The code's tests and arithmetic: the byte and the bit at which a field starts, and the number of four bytes.
 module _ (s : List ℕ) (c : Cursor) (w : ℕ) where
   abbrev atByte : ℕ
   atByte = c .byte + c .bit / 8
@@ -85,19 +87,23 @@ module _ (s : List ℕ) (c : Cursor) (w : ℕ) where
   pub fieldAt-short : length s < atByte + (toBit + 7) / 8 → fieldAt s c w ≡ Cut
   fieldAt-short h = fieldAt-cut s c w (λ p q. rw length-from (omega arith))
 
-  pub fieldAt-window : {x y z : ℕ} → x ≡ getD s atByte 0 → y ≡ getD s (atByte + 1) 0 → y < 256 → z ≡ getD s (atByte + 2) 0 → z < 256
-      → 1 ≤ w → w ≤ maxWidth → atByte + (toBit + 7) / 8 ≤ length s
-      → Value (threeBytes x y z / 2 ^ (24 - toBit) % ((1 * 2 ^ w) % 18446744073709551616)) (record { byte = atByte + toBit / 8; bit = toBit % 8 }) ≡ fieldAt s c w
+  pub room-near : w ≤ maxWidth → atByte + 3 < length s → atByte + (toBit + 7) / 8 ≤ length s
+  room-near q h = omega arith
+
+  pub fieldAt-window : {v word : ℕ} → Bytes s → 1 ≤ w → w ≤ maxWidth → atByte + (toBit + 7) / 8 ≤ length s
+      → word ≡ windowAt s atByte → v ≡ word / 2 ^ (32 - toBit) % 2 ^ w
+      → Value v (record { byte = atByte + toBit / 8; bit = toBit % 8 }) ≡ fieldAt s c w
   unfolding from
-  fieldAt-window {x} {y} {z} ex ey hy ez hz p q h =
+  fieldAt-window bytes p q h f e =
       let start : place c ≡ atByte * 8 + c .bit % 8 = omega arith in
       let d : atByte + toBit / 8 ≡ (place c + w) / 8 = omega arith in
       let r : toBit % 8 ≡ (place c + w) % 8 = omega arith in
       let l : w ≤ length s * 8 - place c = omega arith in
       let inside : atByte * 8 + c .bit % 8 + w ≤ length s * 8 = omega arith in
       ap₂ Value
-      (ap₂ (λ (u v : ℕ). u / 2 ^ (24 - toBit) % v) (ap₂ (λ (u v : ℕ). u * 256 + v) (ap₂ (λ (u v : ℕ). u * 256 + v) ex ey) ez) (shift-exact w q)
-      ∙ sym (valueOf-window s atByte (c .bit % 8) w (subst (λ (u : ℕ). u < 256) ey hy) (subst (λ (u : ℕ). u < 256) ez hz) inside (omega arith))
+      (e
+      ∙ ap (λ (x : ℕ). x / 2 ^ (32 - toBit) % 2 ^ w) f
+      ∙ sym (valueOf-window s atByte (c .bit % 8) w bytes inside (omega arith))
       ∙ ap (λ (k : ℕ). valueOf (take w (drop k (stringOf s)))) (sym start))
       (λ t. record { byte = d t; bit = r t })
       ∙ sym (fieldAt-value s c w p q (rw length-from l))
