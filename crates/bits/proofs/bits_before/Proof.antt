@@ -20,7 +20,9 @@ rem-result : tie.Need-rem-result
 rem-result c = rw (shift-exact (c .args .width) (c .pre .2)) (pow-pos (c .args .width))
 
 returns : tie.Need-returns
-returns c = let a = c .args in ap (λ (k : ℕ). a .word / 2 ^ (32 - a .end) % k) (shift-exact (a .width) (c .pre .2))
+returns c =
+    let a = c .args in
+    ap (λ (k : ℕ). a .word / 2 ^ (32 - a .end) % k) (shift-exact (a .width) (c .pre .2))
 
 pub bits-before-spec : {M : Type 1} → statement M
 bits-before-spec = tie.close (tie.spec sub-result shr-result shl-result rem-result returns)

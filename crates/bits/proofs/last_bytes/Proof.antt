@@ -36,7 +36,9 @@ mul-result-3 : tie.Need-mul-result-3
 mul-result-3 c = search needs
 
 returns : tie.Need-returns
-returns c = let a = c .before .before .before .before .args in window-last (now (a .s)) (a .at) (c .before .before .byte-or-zero .ensures .0) (c .before .byte-or-zero2 .ensures .0) (c .byte-or-zero3 .ensures .0) (c .before .before .before .before .pre .1)
+returns c =
+    let a = c .before .before .before .before .args in
+    window-last (now (a .s)) (a .at) (c .before .before .byte-or-zero .ensures .0) (c .before .byte-or-zero2 .ensures .0) (c .byte-or-zero3 .ensures .0) (c .before .before .before .before .pre .1)
 
 pub last-bytes-spec : {M : Type 1} → statement M
 last-bytes-spec =

@@ -27,7 +27,9 @@ enum-told c = search needs
 
 returns : tie.Need-returns
 unfolding lineBits
-returns c = let a = c .before .before .before .before .args in (entry-cut (now (a .s)) (a .at) (a .kind-bits) (c .before .before .before .before .pre) (sym (c .before .before .read-field .ensures) ∙ c .enum-told .given .1), tt)
+returns c =
+    let a = c .before .before .before .before .args in
+    (entry-cut (now (a .s)) (a .at) (a .kind-bits) (c .before .before .before .before .pre) (sym (c .before .before .read-field .ensures) ∙ c .enum-told .given .1), tt)
 
 div-t8 : tie.Need-div-t8
 div-t8 c = search needs

@@ -26,11 +26,15 @@ returns c = simp (sym (c .before .before .read-entry .ensures .0) ∙ ap (entryT
 
 returns-2 : tie.Need-returns-2
 unfolding faultKindBits
-returns-2 c = let a = c .before .before .before .before .before .before .before .args in stuck-outside (now (a .s)) (a .at) (a .inputs) (a .lines) (c .before .before .before .kind .given .1) (c .before .before .before .before .before .read-entry .ensures) (c .before .if1 .taken) (c .if2 .taken)
+returns-2 c =
+    let a = c .before .before .before .before .before .before .before .args in
+    stuck-outside (now (a .s)) (a .at) (a .inputs) (a .lines) (c .before .before .before .kind .given .1) (c .before .before .before .before .before .read-entry .ensures) (c .before .if1 .taken) (c .if2 .taken)
 
 returns-3 : tie.Need-returns-3
 unfolding faultKindBits
-returns-3 c = let a = c .before .before .before .before .before .before .before .before .args in stuck-unlike (now (a .s)) (a .at) (a .inputs) (a .lines) (c .before .before .before .before .kind .given .1) (c .before .before .before .before .before .before .read-entry .ensures) (c .before .before .if1 .taken) (c .before .if2 .left) (c .if3 .taken)
+returns-3 c =
+    let a = c .before .before .before .before .before .before .before .before .args in
+    stuck-unlike (now (a .s)) (a .at) (a .inputs) (a .lines) (c .before .before .before .before .kind .given .1) (c .before .before .before .before .before .before .read-entry .ensures) (c .before .before .if1 .taken) (c .before .if2 .left) (c .if3 .taken)
 
 cast-fault-of : tie.Need-cast-fault-of
 unfolding lineBits
@@ -45,19 +49,27 @@ fault-of-requires c κs = search needs
 
 returns-4 : tie.Need-returns-4
 unfolding faultKindBits
-returns-4 c = let a = c .before .before .before .before .before .before .before .before .before .args in stuck-found (now (a .s)) (a .at) (a .inputs) (a .lines) (c .before .before .before .before .before .kind .given .1) (c .before .before .before .before .before .before .before .read-entry .ensures) (c .before .before .before .if1 .taken) (c .before .before .if2 .left) (c .before .if3 .left) (c .fault-of .ensures)
+returns-4 c =
+    let a = c .before .before .before .before .before .before .before .before .before .args in
+    stuck-found (now (a .s)) (a .at) (a .inputs) (a .lines) (c .before .before .before .before .before .kind .given .1) (c .before .before .before .before .before .before .before .read-entry .ensures) (c .before .before .before .if1 .taken) (c .before .before .if2 .left) (c .before .if3 .left) (c .fault-of .ensures)
 
 returns-5 : tie.Need-returns-5
 unfolding faultKindBits
-returns-5 c = let a = c .before .before .before .before .before .before .before .args in bridge-outside (now (a .s)) (a .at) (a .inputs) (a .lines) (c .before .before .before .kind .given .1) (c .before .before .before .before .before .read-entry .ensures) (c .before .if1 .left) (c .if4 .taken)
+returns-5 c =
+    let a = c .before .before .before .before .before .before .before .args in
+    bridge-outside (now (a .s)) (a .at) (a .inputs) (a .lines) (c .before .before .before .kind .given .1) (c .before .before .before .before .before .read-entry .ensures) (c .before .if1 .left) (c .if4 .taken)
 
 returns-6 : tie.Need-returns-6
 unfolding faultKindBits
-returns-6 c = let a = c .before .before .before .before .before .before .before .before .args in bridge-above (now (a .s)) (a .at) (a .inputs) (a .lines) (c .before .before .before .before .kind .given .1) (c .before .before .before .before .before .before .read-entry .ensures) (c .before .before .if1 .left) (c .before .if4 .left) (c .if5 .taken)
+returns-6 c =
+    let a = c .before .before .before .before .before .before .before .before .args in
+    bridge-above (now (a .s)) (a .at) (a .inputs) (a .lines) (c .before .before .before .before .kind .given .1) (c .before .before .before .before .before .before .read-entry .ensures) (c .before .before .if1 .left) (c .before .if4 .left) (c .if5 .taken)
 
 returns-7 : tie.Need-returns-7
 unfolding faultKindBits
-returns-7 c = let a = c .before .before .before .before .before .before .before .before .before .args in bridge-order (now (a .s)) (a .at) (a .inputs) (a .lines) (c .before .before .before .before .before .kind .given .1) (c .before .before .before .before .before .before .before .read-entry .ensures) (c .before .before .before .if1 .left) (c .before .before .if4 .left) (c .before .if5 .left) (c .if6 .taken)
+returns-7 c =
+    let a = c .before .before .before .before .before .before .before .before .before .args in
+    bridge-order (now (a .s)) (a .at) (a .inputs) (a .lines) (c .before .before .before .before .before .kind .given .1) (c .before .before .before .before .before .before .before .read-entry .ensures) (c .before .before .before .if1 .left) (c .before .before .if4 .left) (c .before .if5 .left) (c .if6 .taken)
 
 cast-fault-of-3 : tie.Need-cast-fault-of-3
 unfolding lineBits
@@ -72,7 +84,9 @@ fault-of-requires-2 c κs = search needs
 
 returns-8 : tie.Need-returns-8
 unfolding faultKindBits
-returns-8 c = let a = c .before .before .before .before .before .before .before .before .before .before .args in bridge-found (now (a .s)) (a .at) (a .inputs) (a .lines) (c .before .before .before .before .before .before .kind .given .1) (c .before .before .before .before .before .before .before .before .read-entry .ensures) (c .before .before .before .before .if1 .left) (c .before .before .before .if4 .left) (c .before .before .if5 .left) (c .before .if6 .left) (c .fault-of2 .ensures)
+returns-8 c =
+    let a = c .before .before .before .before .before .before .before .before .before .before .args in
+    bridge-found (now (a .s)) (a .at) (a .inputs) (a .lines) (c .before .before .before .before .before .before .kind .given .1) (c .before .before .before .before .before .before .before .before .read-entry .ensures) (c .before .before .before .before .if1 .left) (c .before .before .before .if4 .left) (c .before .before .if5 .left) (c .before .if6 .left) (c .fault-of2 .ensures)
 
 pub read-fault-spec : {M : Type 1} → statement M
 read-fault-spec =
