@@ -6,6 +6,7 @@
 --   bitsOf-join       the bits of a number put together from two parts are those of the parts
 --   valueOf-bitsOf    the number in the w bits of v is v modulo 2 ^ w
 --   AllBits           each element of a list is 0 or 1
+--   valueOf-append    the number in bits and then others is that of the bits shifted, with that of the others behind it
 --   valueOf-lt        a number of w bits is below 2 ^ w
 --   bitsOf-valueOf    the bits of the number that bits give are those bits
 --   length-stringOf   a byte holds eight bits
@@ -14,20 +15,18 @@
 --   drop-at-byte      the string from bit o of byte i on
 --   bitsOf-drop       the bits of a number without the first are its lower bits
 --   take-window       w bits within the bits of a number are those of the number shifted
---   valueOf-window    a field of at most two bytes, from the number that the two bytes make
-use Prim.Native.Nat.{ℕ, zero, suc, _+_, _*_, _-_, _/_, _%_, _^_, _≤_, _<_}
+use Prim.Native.Nat.{ℕ, zero, suc, _+_, _*_, _-_, _/_, _%_, _^_, _<_}
 use mathlib.Core.Path.{_≡_, refl, sym, ap, ap₂, _∙_, subst}
 use mathlib.Core.List.{List, [], _∷_, _++_, append-assoc}
 use lib.Dec.{lit<}
 use lib.Arith.{digits-lt}
-use native.Mathlib.Nat.{mod-lt, div-one, mod-eq-of-lt, zero-add, suc-add, add-zero, add-assoc, add-mul, mul-assoc, add-comm, mod-mod, mod-one, zero-mul, pow-suc, pow-succ', mul-one}
+use native.Mathlib.Nat.{mod-lt, div-one, mod-eq-of-lt, zero-add, suc-add, add-zero, add-assoc, add-mul, mul-assoc, add-comm, mod-mod, mod-one, zero-mul, pow-succ', mul-one}
 use native.Mathlib.Omega.{arith}
 use lib.ListN.{length, take, drop, length-append}
 use lib.Seq.{take-at, drop-at, drop-nil, drop-append-add, drop-drop, drop-cons}
-use native.Mathlib.Decide.{decLe}
 use lib.ListN.{getD}
 use lib.Pow.{shr-shr, mod-pow-add, mod-mod-pow, field, high, low, pow-pos}
-use Rattle.bits.specs.Bits.{bitsOf, valueFrom, valueOf, stringOf, bytesTo, bytesOf}
+use Rattle.bits.specs.Bits.{bitsOf, valueFrom, valueOf, stringOf}
 
 pub length-bitsOf : (w v : ℕ) → length (bitsOf w v) ≡ w
 unfolding bitsOf
@@ -106,6 +105,15 @@ valueFrom-rest v (b ∷ bits) =
     ∙ add-assoc (v * 2 ^ suc (length bits)) (b * 2 ^ length bits) (valueFrom 0 bits)
     ∙ ap (λ (x : ℕ). v * 2 ^ suc (length bits) + x) (sym (valueFrom-rest (0 * 2 + b) bits ∙ ap (λ (x : ℕ). x * 2 ^ length bits + valueFrom 0 bits) (zero-add b)))
 
+valueFrom-append : (v : ℕ) (bits more : List ℕ) → valueFrom v (bits ++ more) ≡ valueFrom (valueFrom v bits) more
+unfolding valueFrom
+valueFrom-append v [] more = refl
+valueFrom-append v (b ∷ bits) more = valueFrom-append (v * 2 + b) bits more
+
+pub valueOf-append : (bits more : List ℕ) → valueOf (bits ++ more) ≡ valueOf bits * 2 ^ length more + valueOf more
+unfolding valueOf
+valueOf-append bits more = valueFrom-append 0 bits more ∙ valueFrom-rest (valueFrom 0 bits) more
+
 valueOf-cons : (b : ℕ) (bits : List ℕ) → valueOf (b ∷ bits) ≡ b * 2 ^ length bits + valueOf bits
 unfolding valueFrom valueOf
 valueOf-cons b bits = valueFrom-rest (0 * 2 + b) bits ∙ ap (λ (x : ℕ). x * 2 ^ length bits + valueFrom 0 bits) (zero-add b)
@@ -166,35 +174,3 @@ pub drop-at-byte : (s : List ℕ) (i o : ℕ) → i < length s → drop (i * 8 +
 unfolding stringOf
 drop-at-byte s i o h =
     sym (drop-drop o (i * 8) (stringOf s)) ∙ ap (drop o) (drop-stringOf i s ∙ ap stringOf (drop-cons s i 0 h))
-
-window-one : (a b o w : ℕ) (rest : List ℕ) → b < 2 ^ 8 → o + w ≤ 8
-    → take w (drop o (bitsOf 8 a ++ rest)) ≡ bitsOf w ((a * 256 + b) / 2 ^ (16 - (o + w)))
-window-one a b o w rest hb h =
-    let e : 8 ≡ o + (w + (8 - (o + w))) = omega arith in
-    let g : 16 - (o + w) ≡ 8 + (8 - (o + w)) = omega arith in
-    ap (λ (k : ℕ). take w (drop o (bitsOf k a ++ rest))) e
-    ∙ take-window o w (8 - (o + w)) a rest
-    ∙ ap (λ (x : ℕ). bitsOf w (x / 2 ^ (8 - (o + w)))) (sym (high a 8 hb))
-    ∙ ap (bitsOf w) (shr-shr (a * 256 + b) 8 (8 - (o + w)) ∙ ap (λ (k : ℕ). (a * 256 + b) / 2 ^ k) (sym g))
-
-window-two : (a b o w : ℕ) (rest : List ℕ) → b < 2 ^ 8 → o + w ≤ 16
-    → take w (drop o (bitsOf 8 a ++ (bitsOf 8 b ++ rest))) ≡ bitsOf w ((a * 256 + b) / 2 ^ (16 - (o + w)))
-window-two a b o w rest hb h =
-    let e : 16 ≡ o + (w + (16 - (o + w))) = omega arith in
-    ap (λ (l : List ℕ). take w (drop o l)) (sym (append-assoc (bitsOf 8 a) (bitsOf 8 b) rest) ∙ ap (λ (l : List ℕ). l ++ rest) (sym (bitsOf-join 8 8 a b hb)))
-    ∙ ap (λ (k : ℕ). take w (drop o (bitsOf k (a * 256 + b) ++ rest))) e
-    ∙ take-window o w (16 - (o + w)) (a * 256 + b) rest
-
-pub valueOf-window : (s : List ℕ) (i o w : ℕ) → getD s (suc i) 0 < 2 ^ 8 → i < length s → o + w ≤ 16 → (8 < o + w → suc i < length s)
-    → valueOf (take w (drop (i * 8 + o) (stringOf s))) ≡ (getD s i 0 * 256 + getD s (suc i) 0) / 2 ^ (16 - (o + w)) % 2 ^ w
-unfolding stringOf
-valueOf-window s i o w hb hi h more =
-    ap valueOf (ap (take w) (drop-at-byte s i o hi) ∙ go (decLe (o + w) 8))
-    ∙ valueOf-bitsOf w ((getD s i 0 * 256 + getD s (suc i) 0) / 2 ^ (16 - (o + w)))
-  where
-    go : Dec (o + w ≤ 8)
-        → take w (drop o (bitsOf 8 (getD s i 0) ++ stringOf (drop (suc i) s))) ≡ bitsOf w ((getD s i 0 * 256 + getD s (suc i) 0) / 2 ^ (16 - (o + w)))
-    go (yes p) = window-one (getD s i 0) (getD s (suc i) 0) o w (stringOf (drop (suc i) s)) hb p
-    go (no p) =
-        ap (λ (l : List ℕ). take w (drop o (bitsOf 8 (getD s i 0) ++ stringOf l))) (drop-cons s (suc i) 0 (more (omega arith)))
-        ∙ window-two (getD s i 0) (getD s (suc i) 0) o w (stringOf (drop (suc (suc i)) s)) hb h

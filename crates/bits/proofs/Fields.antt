@@ -2,21 +2,22 @@
 --
 --   length-from     how many bits there are from a place on
 --   from-past       the string behind a field is the string without it
+--   bits-from       there are bits alone from a place on
 --   fieldAt-cut     where a field has no room, it is cut
 --   fieldAt-value   where it has room, its value stands there
 --   fieldAt-late, fieldAt-short, fieldAt-window   the same for the tests and the arithmetic of the code
---   shift-exact     a one shifted by at most eight is a power of two
+--   room-near       where four bytes are left, a field has room
+--   shift-exact     a one shifted by at most `maxWidth` is a power of two
 --   spare-none, spare-more, spare-last   which bits are spare bits alone, for the tests and the arithmetic of the code
 --   field-found     what a field that was read says of the string
 --   field-value     what is read at a place is what the parser takes
 --   field-cut       what is cut at a place the parser refuses
 --   field-lt        a field's value fits its width
-use Prim.Native.Nat.{ℕ, zero, suc, _+_, _*_, _-_, _/_, _%_, _^_, _≤_, _<_}
+use Prim.Native.Nat.{ℕ, suc, _+_, _*_, _-_, _/_, _%_, _^_, _≤_, _<_}
 use mathlib.Core.Path.{_≡_, refl, sym, ap, ap₂, _∙_, subst}
 use mathlib.Core.Bool.{Bool, true, false, _&&_, cond}
 use mathlib.Core.List.{List, _++_, append-nil}
 use native.Mathlib.Nat.{div-add-mod', one-mul}
-use native.Mathlib.Numerals.{add-one}
 use native.Mathlib.Omega.{arith}
 use borrow.Author.Tests.{le-leb, lt-leb, leb-true, le-ltb, lt-ltb}
 use lib.Dec.{leb, ltb, eqb, lit<}
@@ -26,13 +27,16 @@ use lib.Seq.{drop-drop, length-take-le}
 use Rattle.bits.specs.Answer.{unless}
 use Rattle.bits.specs.Answer.Answer.{refused}
 use Rattle.bits.specs.Bits.{bitsOf, stringOf, valueOf, valueFrom}
-use Rattle.bits.specs.Field.{place, from, past, isWidth, fieldAt, spareOnly}
-use Rattle.bits.specs.Parser.{field, parsed}
+use Rattle.bits.specs.Field.{place, from, past, maxWidth, isWidth, fieldAt, spareOnly, windowAt}
+use Rattle.bits.specs.Parser.{parsed, field}
 use Rattle.bits.specs.declared.Cursor.{Cursor}
 use Rattle.bits.specs.declared.Field.{Field}
 use Rattle.bits.specs.declared.Field.the-variants.{Value, Cut}
+use Rattle.bits.proofs.Adjacent.{field-room}
 use Rattle.bits.proofs.Tests.{and-r, and-i}
-use Rattle.bits.proofs.Bits.{AllBits, bits-take, bits-drop, bits-stringOf, length-bitsOf, length-stringOf, bitsOf-drop, drop-at-byte, valueOf-bitsOf, valueOf-lt, valueOf-window}
+use Rattle.bits.proofs.Bits.{AllBits, bits-take, bits-drop, bits-stringOf, length-bitsOf, length-stringOf, bitsOf-drop, drop-at-byte, valueOf-bitsOf, valueOf-lt}
+use Rattle.bits.proofs.Packed.{Bytes}
+use Rattle.bits.proofs.Window.{valueOf-window}
 
 pub length-from : (s : List ℕ) (c : Cursor) → length (from s c) ≡ length s * 8 - place c
 unfolding from
@@ -42,7 +46,7 @@ pub from-past : (s : List ℕ) (c : Cursor) (w : ℕ) → from s (past c w) ≡ 
 unfolding from
 from-past s c w = ap (λ (k : ℕ). drop k (stringOf s)) (div-add-mod' (place c + w) 8) ∙ sym (drop-drop w (place c) (stringOf s))
 
-bits-from : (s : List ℕ) (c : Cursor) → AllBits (from s c)
+pub bits-from : (s : List ℕ) (c : Cursor) → AllBits (from s c)
 unfolding from
 bits-from s c = bits-drop (place c) (stringOf s) (bits-stringOf s)
 
@@ -52,24 +56,24 @@ fieldAt-test : (s : List ℕ) (c : Cursor) (w : ℕ) (t : Bool) → isWidth w &&
 unfolding fieldAt
 fieldAt-test s c w t e = ap (λ (b : Bool). cond b (Value (valueOf (take w (from s c))) (past c w)) Cut) e
 
-pub fieldAt-cut : (s : List ℕ) (c : Cursor) (w : ℕ) → (1 ≤ w → w ≤ 8 → length (from s c) < w) → fieldAt s c w ≡ Cut
-fieldAt-cut s c w h = fieldAt-test s c w false (go (leb 1 w) refl (leb w 8) refl)
+pub fieldAt-cut : (s : List ℕ) (c : Cursor) (w : ℕ) → (1 ≤ w → w ≤ maxWidth → length (from s c) < w) → fieldAt s c w ≡ Cut
+fieldAt-cut s c w h = fieldAt-test s c w false (go (leb 1 w) refl (leb w maxWidth) refl)
   where
-    go : (t : Bool) → leb 1 w ≡ t → (u : Bool) → leb w 8 ≡ u → leb 1 w && leb w 8 && leb w (length (from s c)) ≡ false
-    go false p u q = ap (λ (b : Bool). b && leb w 8 && leb w (length (from s c))) p
+    go : (t : Bool) → leb 1 w ≡ t → (u : Bool) → leb w maxWidth ≡ u → leb 1 w && leb w maxWidth && leb w (length (from s c)) ≡ false
+    go false p u q = ap (λ (b : Bool). b && leb w maxWidth && leb w (length (from s c))) p
     go true p false q = ap₂ (λ (b d : Bool). b && d && leb w (length (from s c))) p q
-    go true p true q = ap₂ (λ (b d : Bool). b && d && leb w (length (from s c))) p q ∙ lt-leb w (length (from s c)) (h (leb-true 1 w p) (leb-true w 8 q))
+    go true p true q = ap₂ (λ (b d : Bool). b && d && leb w (length (from s c))) p q ∙ lt-leb w (length (from s c)) (h (leb-true 1 w p) (leb-true w maxWidth q))
 
-pub fieldAt-value : (s : List ℕ) (c : Cursor) (w : ℕ) → 1 ≤ w → w ≤ 8 → w ≤ length (from s c)
+pub fieldAt-value : (s : List ℕ) (c : Cursor) (w : ℕ) → 1 ≤ w → w ≤ maxWidth → w ≤ length (from s c)
     → fieldAt s c w ≡ Value (valueOf (take w (from s c))) (past c w)
 fieldAt-value s c w p q h =
     fieldAt-test s c w true
-    (ap₂ (λ (b d : Bool). b && d && leb w (length (from s c))) (le-leb 1 w p) (le-leb w 8 q) ∙ le-leb w (length (from s c)) h)
+    (ap₂ (λ (b d : Bool). b && d && leb w (length (from s c))) (le-leb 1 w p) (le-leb w maxWidth q) ∙ le-leb w (length (from s c)) h)
 
-pub shift-exact : (w : ℕ) → w ≤ 8 → (1 * 2 ^ w) % 18446744073709551616 ≡ 2 ^ w
+pub shift-exact : (w : ℕ) → w ≤ maxWidth → (1 * 2 ^ w) % 18446744073709551616 ≡ 2 ^ w
 shift-exact w h = shl-exact 1 w 64 (lit< tt) (omega arith) ∙ one-mul (2 ^ w)
 
--- The code's tests and arithmetic: the byte and the bit at which a field starts, and the number of its two bytes.
+-- The code's tests and arithmetic: the byte and the bit at which a field starts, and the number of four bytes.
 module _ (s : List ℕ) (c : Cursor) (w : ℕ) where
   abbrev atByte : ℕ
   atByte = c .byte + c .bit / 8
@@ -83,20 +87,24 @@ module _ (s : List ℕ) (c : Cursor) (w : ℕ) where
   pub fieldAt-short : length s < atByte + (toBit + 7) / 8 → fieldAt s c w ≡ Cut
   fieldAt-short h = fieldAt-cut s c w (λ p q. rw length-from (omega arith))
 
-  pub fieldAt-window : {x y : ℕ} → x ≡ getD s atByte 0 → y ≡ getD s (atByte + 1) 0 → y < 256 → 1 ≤ w → w ≤ 8 → atByte + (toBit + 7) / 8 ≤ length s
-      → Value ((x * 256 + y) / 2 ^ (16 - toBit) % ((1 * 2 ^ w) % 18446744073709551616)) (record { byte = atByte + toBit / 8; bit = toBit % 8 }) ≡ fieldAt s c w
+  pub room-near : w ≤ maxWidth → atByte + 3 < length s → atByte + (toBit + 7) / 8 ≤ length s
+  room-near q h = omega arith
+
+  pub fieldAt-window : {v word : ℕ} → Bytes s → 1 ≤ w → w ≤ maxWidth → atByte + (toBit + 7) / 8 ≤ length s
+      → word ≡ windowAt s atByte → v ≡ word / 2 ^ (32 - toBit) % 2 ^ w
+      → Value v (record { byte = atByte + toBit / 8; bit = toBit % 8 }) ≡ fieldAt s c w
   unfolding from
-  fieldAt-window {x} {y} ex ey hy p q h =
-      let i : atByte < length s = omega arith in
-      let z : place c ≡ atByte * 8 + c .bit % 8 = omega arith in
+  fieldAt-window bytes p q h f e =
+      let start : place c ≡ atByte * 8 + c .bit % 8 = omega arith in
       let d : atByte + toBit / 8 ≡ (place c + w) / 8 = omega arith in
       let r : toBit % 8 ≡ (place c + w) % 8 = omega arith in
       let l : w ≤ length s * 8 - place c = omega arith in
-      let e : y ≡ getD s (suc atByte) 0 = ey ∙ ap (λ (k : ℕ). getD s k 0) (add-one atByte) in
+      let inside : atByte * 8 + c .bit % 8 + w ≤ length s * 8 = omega arith in
       ap₂ Value
-      (ap₂ (λ (u v : ℕ). u / 2 ^ (16 - toBit) % v) (ap₂ (λ (u v : ℕ). u * 256 + v) ex e) (shift-exact w q)
-      ∙ sym (valueOf-window s atByte (c .bit % 8) w (subst (λ (u : ℕ). u < 256) e hy) i (omega arith) (λ m. omega arith))
-      ∙ ap (λ (k : ℕ). valueOf (take w (drop k (stringOf s)))) (sym z))
+      (e
+      ∙ ap (λ (x : ℕ). x / 2 ^ (32 - toBit) % 2 ^ w) f
+      ∙ sym (valueOf-window s atByte (c .bit % 8) w bytes inside (omega arith))
+      ∙ ap (λ (k : ℕ). valueOf (take w (drop k (stringOf s)))) (sym start))
       (λ t. record { byte = d t; bit = r t })
       ∙ sym (fieldAt-value s c w p q (rw length-from l))
 
@@ -122,7 +130,7 @@ pub field-value : (s : List ℕ) (c : Cursor) (w v : ℕ) (next : Cursor) → fi
 unfolding field
 field-value s c w v next e =
     let f = field-found s c w v next e in
-    ap (λ (t : Bool). unless t 1 (parsed (valueOf (take w (from s c))) (drop w (from s c)))) (le-leb w (length (from s c)) (f .room))
+    field-room w (from s c) (f .room)
     ∙ ap₂ (λ (x : ℕ) (rest : List ℕ). parsed x rest) (f .value) (sym (from-past s c w) ∙ ap (from s) (f .behind))
 
 pub field-cut : (s : List ℕ) (c : Cursor) (w : ℕ) → isWidth w ≡ true → fieldAt s c w ≡ Cut → field w (from s c) ≡ refused 1

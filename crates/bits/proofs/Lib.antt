@@ -1,3 +1,4 @@
+pub mod Adjacent
 pub mod Answers
 pub mod Below
 pub mod Bits
@@ -7,3 +8,4 @@ pub mod Fields
 pub mod Packed
 pub mod Tests
 pub mod Unpacked
+pub mod Window

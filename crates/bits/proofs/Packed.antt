@@ -2,6 +2,7 @@
 --
 --   Table n f          the entries of f below n are 0 and 1
 --   Bytes s            the elements of s are below 256
+--   getD-zeros         zeros behind a list change no element, where 0 stands past its end
 --   length-bytesTo     so many bytes are asked for, so many there are
 --   tabulate-more      one entry more
 --   length-tabulate    the number of entries
@@ -85,7 +86,7 @@ zeros zero k = refl
 zeros (suc n) zero = refl
 zeros (suc n) (suc k) = zeros n k
 
-getD-zeros : (bits : List ℕ) (n k : ℕ) → getD (bits ++ replicate n 0) k 0 ≡ getD bits k 0
+pub getD-zeros : (bits : List ℕ) (n k : ℕ) → getD (bits ++ replicate n 0) k 0 ≡ getD bits k 0
 getD-zeros [] n k = zeros n k
 getD-zeros (b ∷ bits) n zero = refl
 getD-zeros (b ∷ bits) n (suc k) = getD-zeros bits n k

@@ -2,7 +2,7 @@
 use Prim.Native.Nat.{ℕ, _+_, _*_, _/_, _%_}
 use mathlib.Core.List.{List}
 use mathlib.Core.Bool.{Bool, _&&_, cond}
-use lib.ListN.{length, take, drop}
+use lib.ListN.{length, getD, take, drop}
 use lib.Dec.{leb, ltb, eqb}
 use Rattle.bits.specs.Bits.{stringOf, valueOf}
 use Rattle.bits.specs.declared.Cursor.{Cursor}
@@ -21,9 +21,12 @@ from s c = drop (place c) (stringOf s)
 abbrev pub past : Cursor → ℕ → Cursor
 past c w = record { byte = (place c + w) / 8; bit = (place c + w) % 8 }
 
--- no field of the layout is wider than a byte
+-- a gate's three fields together, 3 + 7 + 7 bits, are the widest that is read at once; from any bit on, four bytes hold them
+abbrev pub maxWidth : ℕ
+maxWidth = 17
+
 abbrev pub isWidth : ℕ → Bool
-isWidth w = leb 1 w && leb w 8
+isWidth w = leb 1 w && leb w maxWidth
 
 unfoldable pub fieldAt : List ℕ → Cursor → ℕ → Field
 fieldAt s c w = cond (isWidth w && leb w (length (from s c))) (Value (valueOf (take w (from s c))) (past c w)) Cut
@@ -31,3 +34,7 @@ fieldAt s c w = cond (isWidth w && leb w (length (from s c))) (Value (valueOf (t
 -- "then zero bits up to a whole byte, and nothing after": less than a byte is left, and no bit of it is 1
 unfoldable pub spareOnly : List ℕ → Bool
 spareOnly bits = ltb (length bits) 8 && eqb (valueOf bits) 0
+
+-- the number that four bytes from byte i on make; those past the end are 0
+unfoldable pub windowAt : List ℕ → ℕ → ℕ
+windowAt s i = ((getD s i 0 * 256 + getD s (i + 1) 0) * 256 + getD s (i + 2) 0) * 256 + getD s (i + 3) 0

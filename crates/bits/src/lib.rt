@@ -1,9 +1,9 @@
 // Fields of a string of bits, most significant bit first in each byte and field; and the refusals of every operation.
 ghost use mathlib.Core.Path.{_≡_};
-ghost use Prim.Native.Nat.{_<_};
-ghost use lib.ListN.{getD};
+ghost use Prim.Native.Nat.{_+_, _-_, _/_, _%_, _^_, _≤_, _<_};
+ghost use lib.ListN.{getD, length};
 ghost use Rattle.bits.specs.Answer.{number};
-ghost use Rattle.bits.specs.Field.{fieldAt, from, spareOnly};
+ghost use Rattle.bits.specs.Field.{fieldAt, from, maxWidth, spareOnly, windowAt};
 
 // The causes for which an operation refuses, in the order of their numbers in document 01, 1 to 18.
 pub enum Refusal {
@@ -80,7 +80,35 @@ fn byte_or_zero(s: &[u8], at: usize) -> usize
     if at < s.len() { s[at] as usize } else { 0 }
 }
 
-// The field of `width` bits at a place. A width outside 1 to 8 is no field of the layout, and is answered as cut.
+// The number that the four bytes from a place on make.
+fn four_bytes(s: &[u8], at: usize) -> usize
+    requires { ⌜ at + 3 < length (now s) ⌝ }
+    ensures { λ r. ⌜ r ≡ windowAt (now (s .entry)) at ⌝ }
+{
+    ((s[at] as usize * 256 + s[at + 1] as usize) * 256 + s[at + 2] as usize) * 256
+        + s[at + 3] as usize
+}
+
+// The same where fewer are left: those past the end count as 0.
+fn last_bytes(s: &[u8], at: usize) -> usize
+    requires { ⌜ (at < length (now s)) × (length (now s) ≤ at + 3) ⌝ }
+    ensures { λ r. ⌜ r ≡ windowAt (now (s .entry)) at ⌝ }
+{
+    ((byte_or_zero(s, at) * 256 + byte_or_zero(s, at + 1)) * 256 + byte_or_zero(s, at + 2)) * 256
+}
+
+// Of the number of four bytes, the `width` bits that end before bit `end`.
+fn bits_before(word: usize, end: usize, width: usize) -> usize
+    requires { ⌜ (width ≤ end) × (end ≤ 32) × (width ≤ maxWidth) ⌝ }
+    ensures { λ r. ⌜ r ≡ word / 2 ^ (32 - end) % 2 ^ width ⌝ }
+{
+    (word >> (32 - end)) % (1 << width)
+}
+
+// A gate's three fields, 3 + 7 + 7 bits, are the widest that is read at once; from any bit on, four bytes hold them.
+const MAX_WIDTH: usize = 17;
+
+// The field of `width` bits at a place. A width outside 1 to MAX_WIDTH is no field of the layout, and is answered as cut.
 pub fn read_field(s: &[u8], c: Cursor, width: usize) -> Field
     ensures { λ r. ⌜ r ≡ fieldAt (now (s .entry)) c width ⌝ }
 {
@@ -92,20 +120,23 @@ pub fn read_field(s: &[u8], c: Cursor, width: usize) -> Field
     if width < 1 {
         return Field::Cut;
     }
-    if 8 < width {
+    if MAX_WIDTH < width {
         return Field::Cut;
     }
     let at = byte + bit / 8;
     let end = bit % 8 + width;
-    if s.len() < at + (end + 7) / 8 {
-        return Field::Cut;
-    }
-    let word = byte_or_zero(s, at) * 256 + byte_or_zero(s, at + 1);
     let next = Cursor {
         byte: at + end / 8,
         bit: (end % 8) as u8,
     };
-    Field::Value((word >> (16 - end)) % (1 << width), next)
+    // Where four bytes are left, no field is cut: one test, and the bytes come in one load.
+    if at + 3 < s.len() {
+        return Field::Value(bits_before(four_bytes(s, at), end, width), next);
+    }
+    if s.len() < at + (end + 7) / 8 {
+        return Field::Cut;
+    }
+    Field::Value(bits_before(last_bytes(s, at), end, width), next)
 }
 
 // Whether from a place on there are only spare bits: less than a byte, no bit of it 1.

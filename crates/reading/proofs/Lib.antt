@@ -1,4 +1,6 @@
 pub mod Entries
+pub mod FaultKinds
+pub mod Joined
 pub mod Parts
 pub mod Refusals
 pub mod Telling

@@ -1,12 +1,12 @@
 // Reading a job from any bytes (document 01, "Job layout" and "Refusal by operation").
 ghost use mathlib.Core.Path.{_≡_};
 ghost use mathlib.Core.Bool.{true};
-ghost use Prim.Native.Nat.{_≤_};
+ghost use Prim.Native.Nat.{_+_, _≤_};
 ghost use Rattle.bits.specs.Answer.{number};
 ghost use Rattle.bits.specs.Answer.Answer.{refused};
 ghost use Rattle.bits.specs.Field.{from, isWidth};
-ghost use Rattle.job.specs.Layout.{maxGates, maxFaults};
-ghost use Rattle.reading.specs.Reading.{reading, valueRead, entryFields, unaryLinesOk, faultLinesOk, gate, fault, fromGates, fromOutput, fromFaultCount, fromFaults, fromEnd};
+ghost use Rattle.job.specs.Layout.{lineBits, maxGates, maxFaults};
+ghost use Rattle.reading.specs.Reading.{reading, valueRead, entryFields, unaryLinesOk, gate, fault, fromGates, fromOutput, fromFaultCount, fromFaults, fromEnd};
 ghost use Rattle.reading.specs.Told.{told, due, entryTold, LinesFit, gateTold, faultTold};
 use bits::Cursor;
 use bits::Field;
@@ -73,20 +73,16 @@ enum EntryRead {
     Cut,
 }
 
+// The three fields stand side by side, so they are read as one number: line b is its lowest bits, then comes line a, then the kind.
 fn read_entry(s: &[u8], at: Cursor, kind_bits: usize) -> EntryRead
-    requires { ⌜ isWidth «kind_bits» ≡ true ⌝ }
+    requires { ⌜ isWidth («kind_bits» + lineBits + lineBits) ≡ true ⌝ }
     ensures { λ r. ⌜ (entryTold (now (s .entry)) r ≡ entryFields «kind_bits» (from (now (s .entry)) at)) × LinesFit r ⌝ }
 {
-    let Field::Value(kind, c) = bits::read_field(s, at, kind_bits) else {
+    let Field::Value(word, c) = bits::read_field(s, at, kind_bits + LINE_BITS + LINE_BITS) else {
         return EntryRead::Cut;
     };
-    let Field::Value(a, d) = bits::read_field(s, c, LINE_BITS) else {
-        return EntryRead::Cut;
-    };
-    let Field::Value(b, e) = bits::read_field(s, d, LINE_BITS) else {
-        return EntryRead::Cut;
-    };
-    EntryRead::Fields(kind, a, b, e)
+    let line = 1 << LINE_BITS;
+    EntryRead::Fields(word / line / line, word / line % line, word % line, c)
 }
 
 // What stands where a gate is due.
@@ -179,28 +175,32 @@ enum FaultRead {
     Refused(Refusal),
 }
 
-// Refusal 8: a stuck fault repeats its line, a bridge has a below b.
-fn fault_lines_ok(kind: usize, a: usize, b: usize) -> bool
-    ensures { λ r. ⌜ r ≡ faultLinesOk kind a b ⌝ }
-{
-    if kind < 2 { b == a } else { a < b }
-}
-
-// A fault of a circuit with so many inputs and lines.
+// A fault of a circuit with so many inputs and lines: kinds 0 and 1 are stuck lines, 2 and 3 bridges.
 fn read_fault(s: &[u8], at: Cursor, inputs: usize, lines: usize) -> FaultRead
     ensures { λ r. ⌜ faultTold (now (s .entry)) r ≡ fault inputs lines (from (now (s .entry)) at) ⌝ }
 {
     let EntryRead::Fields(kind, a, b, c) = read_entry(s, at, FAULT_KIND_BITS) else {
         return FaultRead::Refused(Refusal::FieldCut);
     };
-    let fault = job::fault_of(kind, a as u8, b as u8);
-    if !job::fault_line_ok(fault, inputs, lines) {
+    if kind < 2 {
+        if lines <= a {
+            return FaultRead::Refused(Refusal::FaultLine);
+        }
+        if b != a {
+            return FaultRead::Refused(Refusal::FaultOrder);
+        }
+        return FaultRead::Found(job::fault_of(kind, a as u8, b as u8), c);
+    }
+    if inputs <= a {
         return FaultRead::Refused(Refusal::FaultLine);
     }
-    if !fault_lines_ok(kind, a, b) {
+    if inputs <= b {
+        return FaultRead::Refused(Refusal::FaultLine);
+    }
+    if b <= a {
         return FaultRead::Refused(Refusal::FaultOrder);
     }
-    FaultRead::Found(fault, c)
+    FaultRead::Found(job::fault_of(kind, a as u8, b as u8), c)
 }
 
 // The rest of a job from its faults on.

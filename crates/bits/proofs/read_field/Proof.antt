@@ -2,8 +2,7 @@
 use native.Mathlib.Omega.{arith}
 use mathlib.Core.Path.{sym}
 use denote.Ref.{now}
-use lib.Pow.{pow-pos}
-use Rattle.bits.proofs.Fields.{fieldAt-cut, fieldAt-late, fieldAt-short, shift-exact, fieldAt-window}
+use Rattle.bits.proofs.Fields.{fieldAt-cut, fieldAt-late, fieldAt-short, fieldAt-window, room-near}
 use borrow.Author.Needs.{needs}
 use Rattle.bits.proofs.read_field.Statement.{statement}
 use Rattle.bits.proofs.read_field.Tie as tie
@@ -12,13 +11,19 @@ cast-bit : tie.Need-cast-bit
 cast-bit c = search needs
 
 returns : tie.Need-returns
-returns c = sym (fieldAt-late (now (c .before .before .before .args .s)) (c .before .before .before .args .c) (c .before .before .before .args .width) (c .if1 .taken))
+returns c =
+    let a = c .before .before .before .args in
+    sym (fieldAt-late (now (a .s)) (a .c) (a .width) (c .if1 .taken))
 
 returns-2 : tie.Need-returns-2
-returns-2 c = sym (fieldAt-cut (now (c .before .before .before .before .args .s)) (c .before .before .before .before .args .c) (c .before .before .before .before .args .width) (λ p q. omega (arith, c .if2 .taken)))
+returns-2 c =
+    let a = c .before .before .before .before .args in
+    sym (fieldAt-cut (now (a .s)) (a .c) (a .width) (λ p q. omega (arith, c .if2 .taken)))
 
 returns-3 : tie.Need-returns-3
-returns-3 c = sym (fieldAt-cut (now (c .before .before .before .before .before .args .s)) (c .before .before .before .before .before .args .c) (c .before .before .before .before .before .args .width) (λ p q. omega (arith, c .if3 .taken)))
+returns-3 c =
+    let a = c .before .before .before .before .before .args in
+    sym (fieldAt-cut (now (a .s)) (a .c) (a .width) (λ p q. omega (arith, c .if3 .taken)))
 
 add-at : tie.Need-add-at
 add-at c = search needs
@@ -29,54 +34,56 @@ add-end c = search needs
 add-if4 : tie.Need-add-if4
 add-if4 c = search needs
 
+cast-t13 : tie.Need-cast-t13
+cast-t13 c = search needs
+
 add-if4-2 : tie.Need-add-if4-2
 add-if4-2 c = search needs
 
+four-bytes-requires : tie.Need-four-bytes-requires
+four-bytes-requires c κs = search needs
+
+bits-before-requires : tie.Need-bits-before-requires
+bits-before-requires c κs = search needs
+
 returns-4 : tie.Need-returns-4
-returns-4 c = sym (fieldAt-short (now (c .before .before .before .before .before .before .args .s)) (c .before .before .before .before .before .before .args .c) (c .before .before .before .before .before .before .args .width) (c .if4 .taken))
+returns-4 c =
+    let a = c .before .before .before .before .before .before .before .before .args in
+    fieldAt-window (now (a .s)) (a .c) (a .width)
+    (λ k. c .before .before .before .before .before .before .before .shared-slice-known .given k .fits)
+    (c .before .before .before .before .if2 .left)
+    (c .before .before .before .if3 .left)
+    (room-near (now (a .s)) (a .c) (a .width) (c .before .before .before .if3 .left) (c .before .before .if4 .taken))
+    (c .before .four-bytes .ensures)
+    (c .bits-before .ensures)
 
-byte-or-zero-requires : tie.Need-byte-or-zero-requires
-byte-or-zero-requires c κs = search needs
+add-if5 : tie.Need-add-if5
+add-if5 c = search needs
 
-mul-word : tie.Need-mul-word
-mul-word c = search needs
-
-add-byte-or-zero : tie.Need-add-byte-or-zero
-add-byte-or-zero c = search needs
-
-byte-or-zero-requires-2 : tie.Need-byte-or-zero-requires-2
-byte-or-zero-requires-2 c κs = search needs
-
-add-word : tie.Need-add-word
-add-word c = search needs
-
-add-t13 : tie.Need-add-t13
-add-t13 c = search needs
-
-cast-t15 : tie.Need-cast-t15
-cast-t15 c = search needs
-
-sub-t12 : tie.Need-sub-t12
-sub-t12 c = search needs
-
-shr-t10 : tie.Need-shr-t10
-shr-t10 c = search needs
-
-shl-t14 : tie.Need-shl-t14
-shl-t14 c = search needs
-
-rem-t13 : tie.Need-rem-t13
-rem-t13 c = rw (shift-exact (c .before .before .before .before .before .before .before .before .args .width) (c .before .before .before .if3 .left)) (pow-pos (c .before .before .before .before .before .before .before .before .args .width))
+add-if5-2 : tie.Need-add-if5-2
+add-if5-2 c = search needs
 
 returns-5 : tie.Need-returns-5
 returns-5 c =
-    fieldAt-window (now (c .before .before .before .before .before .before .before .before .args .s)) (c .before .before .before .before .before .before .before .before .args .c) (c .before .before .before .before .before .before .before .before .args .width)
-    (c .before .byte-or-zero .ensures .0)
-    (c .byte-or-zero2 .ensures .0)
-    (c .byte-or-zero2 .ensures .1)
-    (c .before .before .before .before .if2 .left)
-    (c .before .before .before .if3 .left)
-    (c .before .before .if4 .left)
+    let a = c .before .before .before .before .before .before .before .args in
+    sym (fieldAt-short (now (a .s)) (a .c) (a .width) (c .if5 .taken))
+
+last-bytes-requires : tie.Need-last-bytes-requires
+last-bytes-requires c κs = search needs
+
+bits-before-requires-2 : tie.Need-bits-before-requires-2
+bits-before-requires-2 c κs = search needs
+
+returns-6 : tie.Need-returns-6
+returns-6 c =
+    let a = c .before .before .before .before .before .before .before .before .before .args in
+    fieldAt-window (now (a .s)) (a .c) (a .width)
+    (λ k. c .before .before .before .before .before .before .before .before .shared-slice-known .given k .fits)
+    (c .before .before .before .before .before .if2 .left)
+    (c .before .before .before .before .if3 .left)
+    (c .before .before .if5 .left)
+    (c .before .last-bytes .ensures)
+    (c .bits-before2 .ensures)
 
 pub read-field-spec : {M : Type 1} → statement M
 read-field-spec =
@@ -89,17 +96,14 @@ read-field-spec =
     add-at
     add-end
     add-if4
+    cast-t13
     add-if4-2
+    four-bytes-requires
+    bits-before-requires
     returns-4
-    byte-or-zero-requires
-    mul-word
-    add-byte-or-zero
-    byte-or-zero-requires-2
-    add-word
-    add-t13
-    cast-t15
-    sub-t12
-    shr-t10
-    shl-t14
-    rem-t13
-    returns-5)
+    add-if5
+    add-if5-2
+    returns-5
+    last-bytes-requires
+    bits-before-requires-2
+    returns-6)

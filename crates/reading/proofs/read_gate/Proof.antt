@@ -11,6 +11,7 @@ use Rattle.reading.proofs.read_gate.Statement.{statement}
 use Rattle.reading.proofs.read_gate.Tie as tie
 
 read-entry-requires : tie.Need-read-entry-requires
+unfolding lineBits
 read-entry-requires c κs = search needs
 
 enum-known-kind : tie.Need-enum-known-kind
