@@ -36,9 +36,10 @@ use Rattle.job.specs.Record.{faultAt, faultA, faultB, lines}
 use Rattle.job.specs.declared.Fault.{Fault}
 use Rattle.job.specs.declared.Fault.the-variants.{Stuck, Bridge}
 use Rattle.job.specs.declared.Job.{Job}
-use Rattle.gates.specs.Form.{tableBytes, shapeOf}
+use Rattle.gates.specs.Form.{tableBytes}
+use Rattle.tables.specs.Sizes.{shapeOf}
 use Rattle.gates.specs.Rows.{part, splice}
-use Rattle.gates.specs.declared.Shape.{Shape}
+use Rattle.tables.specs.declared.rows.Shape.{Shape}
 use Rattle.tables.specs.Circuit.{circuitEntry, circuitTable, fixingOf}
 use Rattle.tables.specs.Work.{maxTableBytes, rowBytes, lineValue, Fixes, Sound, Good, Faulty, Table}
 use Rattle.tables.specs.Operations.{tablesTo}

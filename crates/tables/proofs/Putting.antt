@@ -18,7 +18,7 @@ use lib.ListN.{length}
 use Rattle.job.specs.declared.Job.{Job}
 use Rattle.gates.specs.Form.{tableBytes}
 use Rattle.gates.specs.Rows.{part, splice}
-use Rattle.gates.specs.declared.Shape.{Shape}
+use Rattle.tables.specs.declared.rows.Shape.{Shape}
 use Rattle.gates.proofs.Splice.{length-splice}
 use Rattle.tables.specs.Circuit.{circuitTable}
 use Rattle.tables.specs.Operations.{tablesTo}

@@ -30,10 +30,10 @@ use Rattle.job.specs.Record.{gateA, gateB, gateAt, faultA, faultB, lines}
 use Rattle.job.specs.declared.Fault.{Fault}
 use Rattle.job.specs.declared.Fault.the-variants.{Stuck, Bridge}
 use Rattle.job.specs.declared.Job.{Job}
-use Rattle.gates.specs.Form.{shapeOf}
-use Rattle.gates.specs.Rows.{Room, Below}
-use Rattle.gates.specs.declared.Shape.{Shape}
+use Rattle.tables.specs.Sizes.{shapeOf, Room}
+use Rattle.tables.specs.declared.rows.Shape.{Shape}
 use Rattle.tables.proofs.Placing.{rowOf-high, rowOf-most, rowOf-less}
+use Rattle.tables.proofs.Shaped.{Below}
 use Rattle.tables.proofs.Values.{first-below, second-below}
 use Rattle.tables.specs.Lines.{rowOf, Roomy, Planned, Fixable}
 use Rattle.tables.specs.Work.{Sound}
