@@ -2,12 +2,13 @@
 --
 --   room-short, room-rest   the test as the code makes it: too few bytes in all, or the place against the bytes that are left
 --   ends-within             what a passed test says
+--   fill-fits               it passes where so many bytes end within a length
+--   refused, passed         a test that the code negates
 --   kept, put               rows are left as they are where a test fails, and are what was put where it passes
 --   fitted                  where a test passes, the rows are what was put
---   first-late, second-late, step-outside, step-inside   the gate step's test, by its parts
---   step-fits               it passes where both tables end before the third, and that one within the rows
---   fill-fits               so the test of room
---   too-high, bit-inside    the test of bytes that alternate, by its parts
+--   step-outside, first-late, step-second   the gate step's test, by its parts
+--   step-fits               it passes where the table ends within the rows, and two others before it
+--   no-room, too-high, bit-inside           the test of bytes that alternate, by its parts
 --   alternate-fits          it passes where there is room, and a word has the bit
 use Prim.Native.Nat.{ℕ, _+_, _-_, _≤_, _<_}
 use native.Mathlib.Omega.{arith}
@@ -36,7 +37,6 @@ module _ (length at count : ℕ) where
   pub fill-fits : at + count ≤ length → hasRoom length at count ≡ true
   fill-fits h = le-leb (at + count) length h
 
--- a test that the code negates
 pub refused : {t u : Bool} → t ≡ u → not t ≡ true → u ≡ false
 refused {t} e n = sym e ∙ not-true t n
 
@@ -57,18 +57,18 @@ and-then : {a b v : Bool} → a ≡ true → b ≡ v → a && b ≡ v
 and-then {a} {b} p q = ap (λ (t : Bool). t && b) p ∙ q
 
 module _ (x y to count length : ℕ) where
-  pub first-late : hasRoom to x count ≡ false → stepFits x y to count length ≡ false
-  first-late e = ap (λ (t : Bool). t && (hasRoom to y count && hasRoom length to count)) e
+  pub step-outside : hasRoom length to count ≡ false → stepFits x y to count length ≡ false
+  step-outside e = ap (λ (t : Bool). t && (hasRoom to x count && hasRoom to y count)) e
 
-  module _ (first : hasRoom to x count ≡ true) where
-    pub second-late : hasRoom to y count ≡ false → stepFits x y to count length ≡ false
-    second-late e = and-then first (ap (λ (t : Bool). t && hasRoom length to count) e)
+  module _ (room : hasRoom length to count ≡ true) where
+    pub first-late : hasRoom to x count ≡ false → stepFits x y to count length ≡ false
+    first-late e = and-then room (ap (λ (t : Bool). t && hasRoom to y count) e)
 
-    pub step-third : {v : Bool} → hasRoom to y count ≡ true → hasRoom length to count ≡ v → stepFits x y to count length ≡ v
-    step-third second third = and-then first (and-then second third)
+    pub step-second : {v : Bool} → hasRoom to x count ≡ true → hasRoom to y count ≡ v → stepFits x y to count length ≡ v
+    step-second first second = and-then room (and-then first second)
 
-  pub step-fits : x + count ≤ to → y + count ≤ to → to + count ≤ length → stepFits x y to count length ≡ true
-  step-fits h k l = step-third (fill-fits to x count h) (fill-fits to y count k) (fill-fits length to count l)
+  pub step-fits : to + count ≤ length → x + count ≤ to → y + count ≤ to → stepFits x y to count length ≡ true
+  step-fits l h k = step-second (fill-fits length to count l) (fill-fits to x count h) (fill-fits to y count k)
 
 module _ (to count bit length : ℕ) where
   pub no-room : hasRoom length to count ≡ false → alternateFits to count bit length ≡ false

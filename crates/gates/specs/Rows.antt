@@ -3,7 +3,7 @@
 --   part            so many bytes from a place on
 --   splice          the bytes with new ones from a place on
 --   hasRoom         so many bytes from a place on end within a length
---   stepFits        two tables of so many bytes end before the place of a third, and that one within a length
+--   stepFits        a table of so many bytes at a place ends within a length, and two others end before it
 --   alternateFits   so many bytes from a place on end within a length, and a word has the bit
 use Prim.Native.Nat.{ℕ, _+_}
 use mathlib.Core.Bool.{Bool, _&&_}
@@ -21,7 +21,7 @@ abbrev pub hasRoom : ℕ → ℕ → ℕ → Bool
 hasRoom length at count = leb (at + count) length
 
 abbrev pub stepFits : ℕ → ℕ → ℕ → ℕ → ℕ → Bool
-stepFits x y to count length = hasRoom to x count && (hasRoom to y count && hasRoom length to count)
+stepFits x y to count length = hasRoom length to count && (hasRoom to x count && hasRoom to y count)
 
 abbrev pub alternateFits : ℕ → ℕ → ℕ → ℕ → Bool
 alternateFits to count bit length = hasRoom length to count && ltb bit 64

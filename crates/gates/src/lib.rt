@@ -57,17 +57,17 @@ fn has_room(length: usize, at: usize, count: usize) -> bool
     at <= length - count
 }
 
-// The gate step: combines two packed tables of `count` bytes, at x and y, into the one at `to`, if both end before it and it ends within the rows.
+// The gate step: combines two packed tables of `count` bytes, at x and y, into the one at `to`, if that one ends within the rows and both end before it.
 pub fn combine(rows: &mut [u8], x: usize, y: usize, to: usize, count: usize, form: Form)
     ensures { λ r. ⌜ now (rows .exit) ≡ cond (stepFits x y to count (length (now (rows .entry)))) (splice (now (rows .entry)) to (tabulate count (combined form x y (now (rows .entry))))) (now (rows .entry)) ⌝ }
 {
+    if !has_room(rows.len(), to, count) {
+        return;
+    }
     if !has_room(to, x, count) {
         return;
     }
     if !has_room(to, y, count) {
-        return;
-    }
-    if !has_room(rows.len(), to, count) {
         return;
     }
     combine_bytes(rows, x, y, to, count, form);

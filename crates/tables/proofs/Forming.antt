@@ -4,7 +4,6 @@
 --   forming-none   none yet
 --   forming-next   one more
 --   forming-all    all
---   gate-below     a gate's number is an index of the record's gates
 use Prim.Native.Nat.{ℕ, _+_, _≤_, _<_}
 use native.Mathlib.Omega.{arith}
 use mathlib.Core.Path.{_≡_, refl, _∙_}
@@ -42,7 +41,3 @@ module _ (j : Job) (keep : ℕ) where
 
   pub forming-all : (forms : Forms) (q : ℕ) → Forming j keep (forms .of) q → j .«gate_count» ≤ q → Formed j keep forms
   forming-all forms q w h = record { form = λ k l. w .done k (omega arith) }
-
-pub gate-below : {q count : ℕ} → q < count → count ≤ maxGates → q < 64
-unfolding maxGates
-gate-below h l = omega arith

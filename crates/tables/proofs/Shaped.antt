@@ -68,7 +68,7 @@ gate-spliced shape x y to rows below kind form h formed e =
     spliced shape to rows (below .at) (λ s. tabulate (s .bytes) (combined (kindForm kind (s .keep)) x y rows))
     (λ s. packed (2 ^ (s .inputs)) (λ m. answer kind (entry (part x (s .bytes) rows) m) (entry (part y (s .bytes) rows) m)))
     (gate-packed (shape .inputs) kind x y rows h)
-    (fitted _ rows (step-fits x y to (shape .bytes) (length rows) (below .first) (below .second) (below .at .room)) e
+    (fitted _ rows (step-fits x y to (shape .bytes) (length rows) (below .at .room) (below .first) (below .second)) e
     ∙ ap (λ (f : Form). splice rows to (tabulate (shape .bytes) (combined f x y rows))) formed)
 
 bridge-kind : (is-and : Bool) → cond is-and 0 1 < 8

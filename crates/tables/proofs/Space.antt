@@ -81,11 +81,11 @@ module _ (shape : Shape) (plan : Plan) where
       less : (k : ℕ) → k < l → rowOf plan k * shape .bytes + shape .bytes ≤ rowOf plan l * shape .bytes
       less k h = omega (arith, mul-le-mul-right (shape .bytes) (rowOf-less plan k l h), suc-mul (rowOf plan k) (shape .bytes))
 
-module _ (j : Job) (shape : Shape) (plan : Plan) (rows : List ℕ) (planned : Planned j shape plan rows) (q : ℕ) (h : q < j .«gate_count») where
-  pub gate-index : q < 64
-  unfolding maxGates
-  gate-index = omega (arith, planned .valid .gates-few)
+pub gate-index : {q count : ℕ} → q < count → count ≤ maxGates → q < 64
+unfolding maxGates
+gate-index h few = omega arith
 
+module _ (j : Job) (shape : Shape) (plan : Plan) (rows : List ℕ) (planned : Planned j shape plan rows) (q : ℕ) (h : q < j .«gate_count») where
   pub gate-ready : (new : List ℕ) → length new ≡ length rows
       → Roomy shape plan (shape .inputs + q + 1) new
       × (gateA (gateAt j q) < shape .inputs + q)

@@ -121,7 +121,14 @@ fn gate_line(rows: &mut [u8], gate: Gate, form: Form, line: usize, plan: Plan, s
     }
     let x = row_of(plan, gate.first()) * shape.bytes;
     let y = row_of(plan, gate.second()) * shape.bytes;
-    gates::combine(rows, x, y, row_of(plan, line) * shape.bytes, shape.bytes, form);
+    gates::combine(
+        rows,
+        x,
+        y,
+        row_of(plan, line) * shape.bytes,
+        shape.bytes,
+        form,
+    );
 }
 
 // The rows of the gates from `plan.start` on, but for the fixed ones.
@@ -159,7 +166,13 @@ pub(crate) fn good_circuit(rows: &mut [u8], job: Job, forms: Forms, shape: Shape
 }
 
 // Works out the circuit with a fault from the fault's lower line on; the answer is the place of its output's table.
-pub(crate) fn faulty_circuit(rows: &mut [u8], job: Job, forms: Forms, fault: Fault, shape: Shape) -> usize
+pub(crate) fn faulty_circuit(
+    rows: &mut [u8],
+    job: Job,
+    forms: Forms,
+    fault: Fault,
+    shape: Shape,
+) -> usize
     requires { ⌜ Sound job shape (now rows) × Formed job (shape .keep) forms × Good job (now rows) × Fixes job fault ⌝ }
     ensures { λ r. ⌜ Faulty job fault r (now (rows .exit)) ⌝ }
 {

@@ -1,7 +1,6 @@
 -- `tables::table_row` meets its contract.
 use native.Mathlib.Omega.{arith}
-use Prim.Native.Nat.{_-_, _<_}
-use mathlib.Core.Path.{sym, ap, _∙_}
+use Prim.Native.Nat.{_-_}
 use denote.Ref.{now}
 use Rattle.job.specs.Layout.{maxFaults}
 use Rattle.tables.proofs.Delivered.{row-inside, table-good, table-faulty, fixes}

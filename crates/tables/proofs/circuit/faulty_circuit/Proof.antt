@@ -48,12 +48,12 @@ gate-rows-requires c κs =
     let first = c .before .before .before .before .before .before .before .before .before .before .first in
     let second = c .before .before .before .before .before .before .before .before .before .second in
     let input-rows = c .before .before .before .input-rows in
-    let fix-rows = c .before .before .before .before .before .before .before .fix-rows in
-    let planned =
-        sound-planned (start .args .job) (start .args .shape) (planFrom (start .args .job) (first .result) (second .result))
-        (start .args .rows .now) (le-refl (lines (start .args .job))) (start .pre .0)
-        (input-rows .last .0) (input-rows .kept .0 ∙ fix-rows .kept .0) in
-    (planned, start .pre .1)
+    let fix-rows = c .before .before .before .before .before .before .before .fix-rows in (
+      sound-planned (start .args .job) (start .args .shape) (planFrom (start .args .job) (first .result) (second .result))
+          (start .args .rows .now) (le-refl (lines (start .args .job))) (start .pre .0)
+          (input-rows .last .0) (input-rows .kept .0 ∙ fix-rows .kept .0),
+      start .pre .1,
+    )
 
 cast-row-of : tie.Need-cast-row-of
 cast-row-of c = search needs

@@ -3,8 +3,8 @@ use Prim.Native.Nat.{_-_}
 use native.Mathlib.Omega.{arith}
 use borrow.Author.Count.{falls}
 use borrow.Author.Needs.{needs}
-use Rattle.job.specs.Layout.{maxGates}
-use Rattle.tables.proofs.Forming.{Forming, forming-none, forming-next, forming-all, gate-below}
+use Rattle.tables.proofs.Forming.{Forming, forming-none, forming-next, forming-all}
+use Rattle.tables.proofs.Space.{gate-index}
 use Rattle.tables.proofs.circuit.forms_of.Statement.{statement}
 use Rattle.tables.proofs.circuit.forms_of.Tie as tie
 
@@ -21,22 +21,22 @@ loop-holds : tie.Need-loop-holds Inv-loop μ-loop
 loop-holds c = forming-none (c .args .t1) (c .args .keep)
 
 mul-entry : tie.Need-mul-entry Inv-loop μ-loop
-mul-entry c = omega (arith, gate-below (c .loop-test .taken) (c .before .before .pre))
+mul-entry c = omega (arith, gate-index (c .loop-test .taken) (c .before .before .pre))
 
 element-copy-out-entry : tie.Need-element-copy-out-entry Inv-loop μ-loop
-element-copy-out-entry c = gate-below (c .loop-test .taken) (c .before .before .pre)
+element-copy-out-entry c = gate-index (c .loop-test .taken) (c .before .before .pre)
 
 form-of-requires : tie.Need-form-of-requires Inv-loop μ-loop
 form-of-requires c κs = search needs
 
 mul-form : tie.Need-mul-form Inv-loop μ-loop
-mul-form c = omega (arith, gate-below (c .before .before .loop-test .taken) (c .before .before .before .before .pre))
+mul-form c = omega (arith, gate-index (c .before .before .loop-test .taken) (c .before .before .before .before .pre))
 
 element-set-from-form : tie.Need-element-set-from-form Inv-loop μ-loop
-element-set-from-form c = gate-below (c .before .before .loop-test .taken) (c .before .before .before .before .pre)
+element-set-from-form c = gate-index (c .before .before .loop-test .taken) (c .before .before .before .before .pre)
 
 add-q : tie.Need-add-q Inv-loop μ-loop
-add-q c = omega (arith, gate-below (c .before .before .loop-test .taken) (c .before .before .before .before .pre))
+add-q c = omega (arith, gate-index (c .before .before .loop-test .taken) (c .before .before .before .before .pre))
 
 loop-less : tie.Need-loop-less Inv-loop μ-loop
 loop-less c = falls _ _ (c .before .before .loop-test .taken)

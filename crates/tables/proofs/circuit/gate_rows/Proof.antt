@@ -40,71 +40,47 @@ loop-holds c =
 mul-entry : tie.Need-mul-entry Inv-loop μ-loop
 mul-entry c =
     let start = c .before .before .before .before .before in
-    let loop = c .before .before .loop in
     let loop-test = c .before .loop-test in
-    omega (
-      arith,
-      gate-index (start .args .t2) (start .args .shape) (start .args .plan) (start .args .rows .now) (start .pre .0) (loop .q)
-          (loop-test .taken),
-    )
+    omega (arith, gate-index (loop-test .taken) (start .pre .0 .valid .gates-few))
 
 element-copy-out-entry : tie.Need-element-copy-out-entry Inv-loop μ-loop
 element-copy-out-entry c =
     let start = c .before .before .before .before .before in
-    let loop = c .before .before .loop in
     let loop-test = c .before .loop-test in
-    gate-index (start .args .t2) (start .args .shape) (start .args .plan) (start .args .rows .now) (start .pre .0) (loop .q) (loop-test .taken)
+    gate-index (loop-test .taken) (start .pre .0 .valid .gates-few)
 
 mul-form : tie.Need-mul-form Inv-loop μ-loop
 mul-form c =
     let start = c .before .before .before .before .before .before in
-    let loop = c .before .before .before .loop in
     let loop-test = c .before .before .loop-test in
-    omega (
-      arith,
-      gate-index (start .args .t2) (start .args .shape) (start .args .plan) (start .args .rows .now) (start .pre .0) (loop .q)
-          (loop-test .taken),
-    )
+    omega (arith, gate-index (loop-test .taken) (start .pre .0 .valid .gates-few))
 
 element-copy-out-form : tie.Need-element-copy-out-form Inv-loop μ-loop
 element-copy-out-form c =
     let start = c .before .before .before .before .before .before in
-    let loop = c .before .before .before .loop in
     let loop-test = c .before .before .loop-test in
-    gate-index (start .args .t2) (start .args .shape) (start .args .plan) (start .args .rows .now) (start .pre .0) (loop .q) (loop-test .taken)
+    gate-index (loop-test .taken) (start .pre .0 .valid .gates-few)
 
 add-gate-line : tie.Need-add-gate-line Inv-loop μ-loop
 add-gate-line c =
     let start = c .before .before .before .before .before .before .before .before in
-    let loop = c .before .before .before .before .before .loop in
     let loop-test = c .before .before .before .before .loop-test in
-    omega (
-      arith,
-      start .pre .0 .roomy .few,
-      gate-index (start .args .t2) (start .args .shape) (start .args .plan) (start .args .rows .now)
-          (start .pre .0) (loop .q) (loop-test .taken),
-    )
+    omega (arith, start .pre .0 .roomy .few, gate-index (loop-test .taken) (start .pre .0 .valid .gates-few))
 
 gate-line-requires : tie.Need-gate-line-requires Inv-loop μ-loop
 gate-line-requires c κs =
     let start = c .before .before .before .before .before .before .before .before in
     let loop = c .before .before .before .before .before .loop in
     let loop-test = c .before .before .before .before .loop-test in
-    let ready =
-        gate-ready (start .args .t2) (start .args .shape) (start .args .plan) (start .args .rows .now) (start .pre .0) (loop .q) (loop-test .taken)
-        (loop .rows) (loop .inv .0) in
+    let ready = gate-ready (start .args .t2) (start .args .shape) (start .args .plan) (start .args .rows .now) (start .pre .0) (loop .q) (loop-test .taken)
+    (loop .rows) (loop .inv .0) in
     (ready .0, ready .1, ready .2, start .pre .1 .form (loop .q) (loop-test .taken))
 
 add-q : tie.Need-add-q Inv-loop μ-loop
 add-q c =
     let start = c .before .before .before .before .before .before .before .before .before .before .before in
-    let loop = c .before .before .before .before .before .before .before .before .loop in
     let loop-test = c .before .before .before .before .before .before .before .loop-test in
-    omega (
-      arith,
-      gate-index (start .args .t2) (start .args .shape) (start .args .plan) (start .args .rows .now) (start .pre .0) (loop .q)
-          (loop-test .taken),
-    )
+    omega (arith, gate-index (loop-test .taken) (start .pre .0 .valid .gates-few))
 
 loop-less : tie.Need-loop-less Inv-loop μ-loop
 loop-less c = omega arith

@@ -25,11 +25,11 @@ input-rows-requires c κs =
 gate-rows-requires : tie.Need-gate-rows-requires
 gate-rows-requires c κs =
     let start = c .before .before .before .before .before .before .before .before in
-    let input-rows = c .before .before .before .input-rows in
-    let planned =
-        sound-planned (start .args .job) (start .args .shape) (goodPlan (start .args .job)) (start .args .rows .now) zero-le (start .pre .0)
-        (input-rows .last .0) (input-rows .kept .0) in
-    (planned, start .pre .1)
+    let input-rows = c .before .before .before .input-rows in (
+      sound-planned (start .args .job) (start .args .shape) (goodPlan (start .args .job)) (start .args .rows .now) zero-le (start .pre .0)
+          (input-rows .last .0) (input-rows .kept .0),
+      start .pre .1,
+    )
 
 same-length : tie.Need-same-length
 same-length c = search needs
