@@ -2,7 +2,7 @@
 --
 --   room-short, room-rest   the test as the code makes it: too few bytes in all, or the place against the bytes that are left
 --   ends-within             what a passed test says
---   fill-fits               it passes where so many bytes end within a length
+--   room-fits               it passes where so many bytes end within a length
 --   refused, passed         a test that the code negates
 --   kept, put               rows are left as they are where a test fails, and are what was put where it passes
 --   fitted                  where a test passes, the rows are what was put
@@ -34,8 +34,8 @@ module _ (length at count : ℕ) where
   pub ends-within : {t : Bool} → t ≡ hasRoom length at count → not t ≡ false → at + count ≤ length
   ends-within {t} e n = leb-true (at + count) length (sym e ∙ not-false t n)
 
-  pub fill-fits : at + count ≤ length → hasRoom length at count ≡ true
-  fill-fits h = le-leb (at + count) length h
+  pub room-fits : at + count ≤ length → hasRoom length at count ≡ true
+  room-fits h = le-leb (at + count) length h
 
 pub refused : {t u : Bool} → t ≡ u → not t ≡ true → u ≡ false
 refused {t} e n = sym e ∙ not-true t n
@@ -68,7 +68,7 @@ module _ (x y to count length : ℕ) where
     step-second first second = and-then room (and-then first second)
 
   pub step-fits : to + count ≤ length → x + count ≤ to → y + count ≤ to → stepFits x y to count length ≡ true
-  step-fits l h k = step-second (fill-fits length to count l) (fill-fits to x count h) (fill-fits to y count k)
+  step-fits l h k = step-second (room-fits length to count l) (room-fits to x count h) (room-fits to y count k)
 
 module _ (to count bit length : ℕ) where
   pub no-room : hasRoom length to count ≡ false → alternateFits to count bit length ≡ false
@@ -81,4 +81,4 @@ module _ (to count bit length : ℕ) where
   bit-inside room h = and-then room (lt-ltb bit 64 h)
 
   pub alternate-fits : to + count ≤ length → bit < 64 → alternateFits to count bit length ≡ true
-  alternate-fits h = bit-inside (fill-fits length to count h)
+  alternate-fits h = bit-inside (room-fits length to count h)

@@ -20,7 +20,7 @@ use Rattle.gates.specs.Form.{combined, kindForm, alternating}
 use Rattle.gates.specs.Rows.{part, splice, hasRoom, stepFits, alternateFits}
 use Rattle.gates.specs.Values.{inputValue, bridged}
 use Rattle.gates.specs.declared.Form.{Form}
-use Rattle.gates.proofs.Fitting.{fitted, step-fits, fill-fits, alternate-fits}
+use Rattle.gates.proofs.Fitting.{fitted, step-fits, room-fits, alternate-fits}
 use Rattle.gates.proofs.Tabled.{gate-packed, level-packed, patternOf, pattern-packed, alternate-packed}
 use Rattle.tables.specs.Sizes.{shapeOf, Room}
 use Rattle.tables.specs.declared.rows.Shape.{Shape}
@@ -42,7 +42,7 @@ module _ (shape : Shape) (to : ℕ) (rows : List ℕ) (room : Room shape to rows
   level-spliced level byte b e =
       spliced (λ s. tabulate (s .bytes) (λ i. cond level (s .keep) 0)) (λ s. packed (2 ^ (s .inputs)) (λ m. levelNumber level))
       (level-packed (shape .inputs) level)
-      (fitted _ rows (fill-fits (length rows) to (shape .bytes) (room .room)) e ∙ ap (λ (v : ℕ). splice rows to (tabulate (shape .bytes) (λ i. v))) b)
+      (fitted _ rows (room-fits (length rows) to (shape .bytes) (room .room)) e ∙ ap (λ (v : ℕ). splice rows to (tabulate (shape .bytes) (λ i. v))) b)
 
   pub pattern-spliced : (line pattern : ℕ) → line < 3 → pattern ≡ patternOf line → {out : List ℕ}
       → out ≡ cond (hasRoom (length rows) to (shape .bytes)) (splice rows to (tabulate (shape .bytes) (λ i. bitAnd pattern (shape .keep)))) rows
@@ -50,7 +50,7 @@ module _ (shape : Shape) (to : ℕ) (rows : List ℕ) (room : Room shape to rows
   pattern-spliced line pattern h p e =
       spliced (λ s. tabulate (s .bytes) (λ i. bitAnd (patternOf line) (s .keep))) (λ s. packed (2 ^ (s .inputs)) (λ m. inputValue m line))
       (pattern-packed (shape .inputs) line h)
-      (fitted _ rows (fill-fits (length rows) to (shape .bytes) (room .room)) e
+      (fitted _ rows (room-fits (length rows) to (shape .bytes) (room .room)) e
       ∙ ap (λ (v : ℕ). splice rows to (tabulate (shape .bytes) (λ i. bitAnd v (shape .keep)))) p)
 
   pub alternate-spliced : (line : ℕ) → 3 ≤ line → line < shape .inputs → {out : List ℕ}
