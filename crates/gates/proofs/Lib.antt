@@ -1,4 +1,5 @@
 pub mod Answers
+pub mod Fitting
 pub mod Kept
 pub mod Polynomial
 pub mod Rows

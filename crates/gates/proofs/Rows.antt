@@ -1,6 +1,5 @@
 -- Laws of rows of bytes in one list (specs/Rows.antt).
 --
---   length-splice      a splice inside a list keeps its length
 --   part-same          the part that a splice put in is what was put in
 --   part-before        a part that ends before a splice is as it was
 --   part-behind        a part that starts behind a splice is as it was
@@ -16,16 +15,6 @@ use mathlib.Core.List.{List, _++_}
 use lib.ListN.{length, take, drop, length-append, length-drop, take-append-drop}
 use lib.Seq.{length-take-le, take-append-le, drop-append-le, drop-at, drop-append-add}
 use Rattle.gates.specs.Rows.{part, splice}
-
-pub length-splice : (rows : List ℕ) (at : ℕ) (new : List ℕ) → at + length new ≤ length rows → length (splice rows at new) ≡ length rows
-length-splice rows at new h =
-    omega (
-      arith,
-      length-append (take at rows ++ new) (drop (at + length new) rows),
-      length-append (take at rows) new,
-      length-take-le at rows (omega arith),
-      length-drop (at + length new) rows,
-    )
 
 -- a part that lies in the first of two lists
 part-front : (at w : ℕ) (xs ys : List ℕ) → at + w ≤ length xs → part at w (xs ++ ys) ≡ part at w xs

@@ -8,15 +8,10 @@
 --   pattern-rest         the pattern of a line that is neither 0 nor 1
 --   pattern-packed       the masked pattern in every byte is the table of one of the first three inputs
 --   alternate-packed     bytes that alternate are the table of a further input
---   kind-spliced         equal kinds leave the same rows
---   gate-spliced         where the bytes of the gate step are put, the answers stand
---   level-spliced        so for a level
---   pattern-spliced      so for one of the first three inputs
---   alternate-spliced    so for a further input
 use Prim.Native.Nat.{ℕ, _+_, _-_, _*_, _/_, _%_, _^_, _≤_, _<_}
 use native.Mathlib.Nat.{zero-mul, one-mul, mul-one, mul-zero, zero-div, div-add-mod', lt-of-le-of-lt}
 use native.Mathlib.Omega.{arith}
-use mathlib.Core.Path.{_≡_, sym, ap, ap₂, _∙_, subst}
+use mathlib.Core.Path.{_≡_, sym, ap, ap₂, _∙_}
 use mathlib.Core.Bool.{Bool, true, false, cond}
 use mathlib.Core.List.{List, [], _∷_}
 use mathlib.Core.Logic.{⊎-elim}
@@ -32,11 +27,9 @@ use Rattle.bits.proofs.Digits.{digit-lt, digit-above, digit-and}
 use Rattle.bits.proofs.Packed.{Bytes, length-tabulate, tabulate-at, tabulate-past, packed-unique}
 use Rattle.job.specs.Record.{levelNumber}
 use Rattle.gates.specs.Answers.{answers, answer}
-use Rattle.gates.specs.Form.{tableBytes, keepOf, shapeOf, combined, formOf, alternating}
-use Rattle.gates.specs.Rows.{part, splice}
+use Rattle.gates.specs.Form.{tableBytes, keepOf, combined, kindForm, alternating}
+use Rattle.gates.specs.Rows.{part}
 use Rattle.gates.specs.Values.{inputValue}
-use Rattle.gates.specs.declared.Form.{Form}
-use Rattle.gates.specs.declared.Shape.{Shape}
 use Rattle.gates.proofs.Kept.{keep-lt, keep-digit, keep-full, full-digit}
 use Rattle.gates.proofs.Polynomial.{copies-fit, step-lt, step-digit}
 
@@ -65,13 +58,13 @@ unfolding entry
 entry-part x count rows m h = ap (bitFor m) (getD-take count (drop x rows) (m / 8) 0 (omega arith) ∙ getD-drop x rows (m / 8) 0)
 
 -- the table of a kind's answers to the tables at two places
-abbrev pub answered : Shape → ℕ → ℕ → ℕ → List ℕ → List ℕ
-answered shape kind x y rows = packed (2 ^ (shape .inputs)) (λ m. answer kind (entry (part x (shape .bytes) rows) m) (entry (part y (shape .bytes) rows) m))
+abbrev pub answered : ℕ → ℕ → ℕ → ℕ → List ℕ → List ℕ
+answered n kind x y rows = packed (2 ^ n) (λ m. answer kind (entry (part x (tableBytes n) rows) m) (entry (part y (tableBytes n) rows) m))
 
 pub gate-packed : (n kind x y : ℕ) (rows : List ℕ) → kind < 8
-    → tabulate (tableBytes n) (combined (formOf (getD answers kind []) (keepOf n)) x y rows) ≡ answered (shapeOf n) kind x y rows
+    → tabulate (tableBytes n) (combined (kindForm kind (keepOf n)) x y rows) ≡ answered n kind x y rows
 gate-packed n kind x y rows h =
-    row-packed n _ (combined (formOf (getD answers kind []) (keepOf n)) x y rows) (λ i. step-lt (getD answers kind []) (keepOf n) (keep-lt n) _ _)
+    row-packed n _ (combined (kindForm kind (keepOf n)) x y rows) (λ i. step-lt (getD answers kind []) (keepOf n) (keep-lt n) _ _)
     (λ m l. step-digit kind (keepOf n) _ _ (7 - m % 8) h (omega arith)
     ∙ ap₂ (λ (a b : ℕ). bitFor m (keepOf n) * answer kind a b) (sym (entry-part x (tableBytes n) rows m l)) (sym (entry-part y (tableBytes n) rows m l)))
 
@@ -114,46 +107,3 @@ alternate-packed n line h l =
     (λ m _. full-digit (m / 8 / 2 ^ (line - 3) % 2) (7 - m % 8) (digit-lt (m / 8) (line - 3)) (omega arith)
     ∙ byte-digit m line h ∙ sym (one-mul (m / 2 ^ line % 2))
     ∙ ap (λ (x : ℕ). x * (m / 2 ^ line % 2)) (sym (keep-full n (7 - m % 8) (omega arith) (omega arith))))
-
-pub kind-spliced : (shape : Shape) (to x y : ℕ) (rows : List ℕ) (kind same : ℕ) → kind ≡ same → {out : List ℕ}
-    → out ≡ splice rows to (answered shape kind x y rows) → out ≡ splice rows to (answered shape same x y rows)
-kind-spliced shape to x y rows kind same e p = p ∙ ap (λ (k : ℕ). splice rows to (answered shape k x y rows)) e
-
--- ---- over a shape, where the row stands in other rows
-
-module _ (shape : Shape) (to : ℕ) (rows : List ℕ) (shaped : shape ≡ shapeOf (shape .inputs)) where
-  -- a table that is the right one at its shape is spliced
-  spliced : (table : Shape → List ℕ) (right : Shape → List ℕ) → table (shapeOf (shape .inputs)) ≡ right (shapeOf (shape .inputs)) → {out : List ℕ}
-      → out ≡ splice rows to (table shape) → out ≡ splice rows to (right shape)
-  spliced table right same e = e ∙ ap (splice rows to) (subst (λ (s : Shape). table s ≡ right s) (sym shaped) same)
-
-  pub gate-spliced : (kind x y : ℕ) (form : Form) → kind < 8 → form ≡ formOf (getD answers kind []) (shape .keep) → {out : List ℕ}
-      → out ≡ splice rows to (tabulate (shape .bytes) (combined form x y rows))
-      → out ≡ splice rows to (answered shape kind x y rows)
-  gate-spliced kind x y form h formed e =
-      spliced (λ s. tabulate (s .bytes) (combined (formOf (getD answers kind []) (s .keep)) x y rows))
-      (λ s. answered s kind x y rows)
-      (gate-packed (shape .inputs) kind x y rows h)
-      (e ∙ ap (λ (f : Form). splice rows to (tabulate (shape .bytes) (combined f x y rows))) formed)
-
-  pub level-spliced : (level : Bool) (byte : ℕ) → byte ≡ cond level (shape .keep) 0 → {out : List ℕ}
-      → out ≡ splice rows to (tabulate (shape .bytes) (λ i. byte)) → out ≡ splice rows to (packed (2 ^ (shape .inputs)) (λ m. levelNumber level))
-  level-spliced level byte b e =
-      spliced (λ s. tabulate (s .bytes) (λ i. cond level (s .keep) 0)) (λ s. packed (2 ^ (s .inputs)) (λ m. levelNumber level))
-      (level-packed (shape .inputs) level)
-      (e ∙ ap (λ (v : ℕ). splice rows to (tabulate (shape .bytes) (λ i. v))) b)
-
-  pub pattern-spliced : (line pattern : ℕ) → line < 3 → pattern ≡ patternOf line → {out : List ℕ}
-      → out ≡ splice rows to (tabulate (shape .bytes) (λ i. bitAnd pattern (shape .keep)))
-      → out ≡ splice rows to (packed (2 ^ (shape .inputs)) (λ m. inputValue m line))
-  pattern-spliced line pattern h p e =
-      spliced (λ s. tabulate (s .bytes) (λ i. bitAnd (patternOf line) (s .keep))) (λ s. packed (2 ^ (s .inputs)) (λ m. inputValue m line))
-      (pattern-packed (shape .inputs) line h)
-      (e ∙ ap (λ (v : ℕ). splice rows to (tabulate (shape .bytes) (λ i. bitAnd v (shape .keep)))) p)
-
-  pub alternate-spliced : (line : ℕ) → 3 ≤ line → line < shape .inputs → {out : List ℕ}
-      → out ≡ splice rows to (tabulate (shape .bytes) (alternating (line - 3)))
-      → out ≡ splice rows to (packed (2 ^ (shape .inputs)) (λ m. inputValue m line))
-  alternate-spliced line h l e =
-      spliced (λ s. tabulate (s .bytes) (alternating (line - 3))) (λ s. packed (2 ^ (s .inputs)) (λ m. inputValue m line))
-      (alternate-packed (shape .inputs) line h l) e

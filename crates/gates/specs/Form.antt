@@ -1,17 +1,18 @@
 -- The gate step over packed bytes: a gate's answers as a polynomial over xor and and.
 --
---   Shape         the size of a packed table of n inputs: its bytes, and the bits of each byte that are entries
---   tableBytes    the bytes of a table
+--   tableBytes    the bytes of a table of n inputs
+--   keepOf        the bits of each of its bytes that are entries
 --   step          eight answers, for two bytes of eight entries each
 --   combined      byte i of a table of answers, for the tables at two places
 --   formOf        the polynomial of a row of four answers, over the bits of a mask
+--   kindForm      the polynomial of a kind of gate
 --   alternating   byte i of the table of an input from the fourth on: eight copies of a bit of i
 use Prim.Native.Nat.{ℕ, _+_, _*_, _/_, _%_, _^_}
 use mathlib.Core.List.{List, [], _∷_}
 use lib.ListN.{getD}
 use lib.Bits.{bitAnd, bitXor}
+use Rattle.gates.specs.Answers.{answers}
 use Rattle.gates.specs.declared.Form.{Form}
-use Rattle.gates.specs.declared.Shape.{Shape}
 
 -- "(N+7) div 8 bytes", with N = 2 to the power n
 abbrev pub tableBytes : ℕ → ℕ
@@ -20,9 +21,6 @@ tableBytes n = (2 ^ n + 7) / 8
 -- the bits of a table's bytes that are no spare bits: one, two and four of n 0, 1 and 2, else all
 abbrev pub keepOf : ℕ → ℕ
 keepOf n = getD (128 ∷ 192 ∷ 240 ∷ []) n 255
-
-abbrev pub shapeOf : ℕ → Shape
-shapeOf n = record { inputs = n; bytes = tableBytes n; keep = keepOf n }
 
 abbrev pub step : Form → ℕ → ℕ → ℕ
 step f x y = bitXor (bitXor (bitXor (f .constant) (bitAnd (f .first) x)) (bitAnd (f .second) y)) (bitAnd (f .both) (bitAnd x y))
@@ -46,3 +44,6 @@ formWith made row =
 unfoldable pub formOf : List ℕ → ℕ → Form
 unfolding formWith
 formOf row keep = formWith (λ b. bitAnd (255 * b) keep) row
+
+abbrev pub kindForm : ℕ → ℕ → Form
+kindForm kind keep = formOf (getD answers kind []) keep

@@ -1,27 +1,27 @@
 -- Rows of bytes in one list.
-use Prim.Native.Nat.{ℕ, _+_, _≤_, _<_}
-use mathlib.Core.Path.{_≡_}
+--
+--   part            so many bytes from a place on
+--   splice          the bytes with new ones from a place on
+--   hasRoom         so many bytes from a place on end within a length
+--   stepFits        a table of so many bytes at a place ends within a length, and two others end before it
+--   alternateFits   so many bytes from a place on end within a length, and a word has the bit
+use Prim.Native.Nat.{ℕ, _+_}
+use mathlib.Core.Bool.{Bool, _&&_}
 use mathlib.Core.List.{List, _++_}
+use lib.Dec.{leb, ltb}
 use lib.ListN.{length, take, drop}
-use Rattle.gates.specs.Form.{shapeOf}
-use Rattle.gates.specs.declared.Shape.{Shape}
 
--- so many bytes from a place on
 abbrev pub part : ℕ → ℕ → List ℕ → List ℕ
 part at count bytes = take count (drop at bytes)
 
--- the bytes with new ones from a place on
 abbrev pub splice : List ℕ → ℕ → List ℕ → List ℕ
 splice bytes at new = take at bytes ++ new ++ drop (at + length new) bytes
 
--- there is room for a table at a place
-pub record Room (shape : Shape) (to : ℕ) (rows : List ℕ) : Type 0 where
-  pub shaped : shape ≡ shapeOf (shape .inputs)
-  pub few : shape .inputs < 64
-  pub room : to + shape .bytes ≤ length rows
+abbrev pub hasRoom : ℕ → ℕ → ℕ → Bool
+hasRoom length at count = leb (at + count) length
 
--- and two tables stand before it
-pub record Below (shape : Shape) (x y to : ℕ) (rows : List ℕ) : Type 0 where
-  pub at : Room shape to rows
-  pub first : x + shape .bytes ≤ to
-  pub second : y + shape .bytes ≤ to
+abbrev pub stepFits : ℕ → ℕ → ℕ → ℕ → ℕ → Bool
+stepFits x y to count length = hasRoom length to count && (hasRoom to x count && hasRoom to y count)
+
+abbrev pub alternateFits : ℕ → ℕ → ℕ → ℕ → Bool
+alternateFits to count bit length = hasRoom length to count && ltb bit 64

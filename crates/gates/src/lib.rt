@@ -1,14 +1,13 @@
-// Rows of packed tables: the gate step, the rows of inputs and of levels.
+// Bytes of packed tables: the gate step, and bytes that are filled. Each function makes sure by itself that what it reads and writes lies where it
+// should, and else does nothing.
 ghost use mathlib.Core.Path.{_≡_};
-ghost use mathlib.Core.List.{[]};
-ghost use Prim.Native.Nat.{_+_, _*_, _^_, _≤_, _<_};
-ghost use lib.ListN.{length, getD};
-ghost use Rattle.bits.specs.Packed.{tabulate, packed, entry};
-ghost use Rattle.job.specs.Record.{gateKind, levelNumber};
-ghost use Rattle.gates.specs.Answers.{answers, answer};
-ghost use Rattle.gates.specs.Form.{alternating, combined, formOf, shapeOf};
-ghost use Rattle.gates.specs.Rows.{part, splice, Room, Below};
-ghost use Rattle.gates.specs.Values.{inputValue, bridged};
+ghost use mathlib.Core.Bool.{cond};
+ghost use Prim.Native.Nat.{_+_, _≤_, _<_};
+ghost use lib.ListN.{length};
+ghost use Rattle.bits.specs.Packed.{tabulate};
+ghost use Rattle.job.specs.Record.{gateKind};
+ghost use Rattle.gates.specs.Form.{alternating, combined, kindForm};
+ghost use Rattle.gates.specs.Rows.{splice, hasRoom, stepFits, alternateFits};
 use job::Gate;
 
 // "The answers of the eight kinds on 00, 01, 10 and 11 stand in a table": AND, OR, NAND, NOR, XOR, XNOR, NOT and BUF.
@@ -23,44 +22,19 @@ const ANSWERS: [[u8; 4]; 8] = [
     [0, 0, 1, 1],
 ];
 
-// The size of a packed table: its inputs, its bytes, and the bits of each byte that are entries.
-pub struct Shape {
-    pub inputs: usize,
-    pub bytes: usize,
-    pub keep: u8,
-}
-
-pub fn shape_of(inputs: usize) -> Shape
-    requires { ⌜ inputs < 64 ⌝ }
-    ensures { λ r. ⌜ r ≡ shapeOf inputs ⌝ }
-{
-    let keep = match inputs {
-        0 => 128,
-        1 => 192,
-        2 => 240,
-        _ => 255,
-    };
-    Shape {
-        inputs,
-        bytes: ((1 << inputs) + 7) / 8,
-        keep,
-    }
-}
-
 // A gate's answers over packed bytes, as the polynomial constant ^ (first & x) ^ (second & y) ^ (both & x & y).
-struct Form {
-    constant: u8,
-    first: u8,
-    second: u8,
-    both: u8,
+pub struct Form {
+    pub constant: u8,
+    pub first: u8,
+    pub second: u8,
+    pub both: u8,
 }
 
-// The polynomial of a kind of gate. The constant table is read here, once a gate, and never in the loop over bytes.
-fn form_of(kind: usize, keep: u8) -> Form
-    requires { ⌜ kind < 8 ⌝ }
-    ensures { λ r. ⌜ r ≡ formOf (getD answers kind []) keep ⌝ }
+// The polynomial of a gate, over the bits of a mask. The constant table is read here, and never in the loop over bytes.
+pub fn form_of(gate: Gate, keep: u8) -> Form
+    ensures { λ r. ⌜ r ≡ kindForm (gateKind gate) keep ⌝ }
 {
-    let row = ANSWERS[kind];
+    let row = ANSWERS[gate.kind()];
     let none = row[0];
     let second = row[1];
     let first = row[2];
@@ -73,8 +47,33 @@ fn form_of(kind: usize, keep: u8) -> Form
     }
 }
 
-// The gate step: combines two packed tables of `count` bytes, at x and y, into the one at `to`.
-fn combine(rows: &mut [u8], x: usize, y: usize, to: usize, count: usize, form: Form)
+// Whether `count` bytes from `at` on end within `length` bytes.
+fn has_room(length: usize, at: usize, count: usize) -> bool
+    ensures { λ r. ⌜ r ≡ hasRoom length at count ⌝ }
+{
+    if length < count {
+        return false;
+    }
+    at <= length - count
+}
+
+// The gate step: combines two packed tables of `count` bytes, at x and y, into the one at `to`, if that one ends within the rows and both end before it.
+pub fn combine(rows: &mut [u8], x: usize, y: usize, to: usize, count: usize, form: Form)
+    ensures { λ r. ⌜ now (rows .exit) ≡ cond (stepFits x y to count (length (now (rows .entry)))) (splice (now (rows .entry)) to (tabulate count (combined form x y (now (rows .entry))))) (now (rows .entry)) ⌝ }
+{
+    if !has_room(rows.len(), to, count) {
+        return;
+    }
+    if !has_room(to, x, count) {
+        return;
+    }
+    if !has_room(to, y, count) {
+        return;
+    }
+    combine_bytes(rows, x, y, to, count, form);
+}
+
+fn combine_bytes(rows: &mut [u8], x: usize, y: usize, to: usize, count: usize, form: Form)
     requires { ⌜ (x + count ≤ to) × (y + count ≤ to) × (to + count ≤ length (now rows)) ⌝ }
     ensures { λ r. ⌜ now (rows .exit) ≡ splice (now (rows .entry)) to (tabulate count (combined form x y (now (rows .entry)))) ⌝ }
 {
@@ -91,37 +90,17 @@ fn combine(rows: &mut [u8], x: usize, y: usize, to: usize, count: usize, form: F
     }
 }
 
-// The table of a kind's answers to the tables at x and y.
-fn kind_row(rows: &mut [u8], kind: usize, x: usize, y: usize, to: usize, shape: Shape)
-    requires { ⌜ Below shape x y to (now rows) × (kind < 8) ⌝ }
-    ensures { λ r. ⌜ now (rows .exit) ≡ splice (now (rows .entry)) to (packed (2 ^ (shape .inputs)) (λ m. answer kind (entry (part x (shape .bytes) (now (rows .entry))) m) (entry (part y (shape .bytes) (now (rows .entry))) m))) ⌝ }
+// Fills `count` bytes at `to` with one byte, if they end within the rows.
+pub fn fill(rows: &mut [u8], to: usize, count: usize, byte: u8)
+    ensures { λ r. ⌜ now (rows .exit) ≡ cond (hasRoom (length (now (rows .entry))) to count) (splice (now (rows .entry)) to (tabulate count (λ i. byte))) (now (rows .entry)) ⌝ }
 {
-    let form = form_of(kind, shape.keep);
-    combine(rows, x, y, to, shape.bytes, form);
-}
-
-// The table of a gate's answers to the tables at x and y.
-pub fn gate_row(rows: &mut [u8], gate: Gate, x: usize, y: usize, to: usize, shape: Shape)
-    requires { ⌜ Below shape x y to (now rows) ⌝ }
-    ensures { λ r. ⌜ now (rows .exit) ≡ splice (now (rows .entry)) to (packed (2 ^ (shape .inputs)) (λ m. answer (gateKind gate) (entry (part x (shape .bytes) (now (rows .entry))) m) (entry (part y (shape .bytes) (now (rows .entry))) m))) ⌝ }
-{
-    kind_row(rows, gate.kind(), x, y, to, shape);
-}
-
-// The AND, or the OR, of the tables at x and y.
-pub fn bridge_row(rows: &mut [u8], is_and: bool, x: usize, y: usize, to: usize, shape: Shape)
-    requires { ⌜ Below shape x y to (now rows) ⌝ }
-    ensures { λ r. ⌜ now (rows .exit) ≡ splice (now (rows .entry)) to (packed (2 ^ (shape .inputs)) (λ m. bridged «is_and» (entry (part x (shape .bytes) (now (rows .entry))) m) (entry (part y (shape .bytes) (now (rows .entry))) m))) ⌝ }
-{
-    if is_and {
-        kind_row(rows, 0, x, y, to, shape);
-    } else {
-        kind_row(rows, 1, x, y, to, shape);
+    if !has_room(rows.len(), to, count) {
+        return;
     }
+    fill_bytes(rows, to, count, byte);
 }
 
-// Fills `count` bytes at `to` with one byte.
-fn fill(rows: &mut [u8], to: usize, count: usize, byte: u8)
+fn fill_bytes(rows: &mut [u8], to: usize, count: usize, byte: u8)
     requires { ⌜ to + count ≤ length (now rows) ⌝ }
     ensures { λ r. ⌜ now (rows .exit) ≡ splice (now (rows .entry)) to (tabulate count (λ i. byte)) ⌝ }
 {
@@ -132,17 +111,20 @@ fn fill(rows: &mut [u8], to: usize, count: usize, byte: u8)
     }
 }
 
-// The table that is one level everywhere.
-pub fn level_row(rows: &mut [u8], level: bool, to: usize, shape: Shape)
-    requires { ⌜ Room shape to (now rows) ⌝ }
-    ensures { λ r. ⌜ now (rows .exit) ≡ splice (now (rows .entry)) to (packed (2 ^ (shape .inputs)) (λ m. levelNumber level)) ⌝ }
+// Fills `count` bytes at `to`, byte i with eight copies of bit `bit` of i, if they end within the rows and a word has such a bit.
+pub fn alternate(rows: &mut [u8], to: usize, count: usize, bit: usize)
+    ensures { λ r. ⌜ now (rows .exit) ≡ cond (alternateFits to count bit (length (now (rows .entry)))) (splice (now (rows .entry)) to (tabulate count (alternating bit))) (now (rows .entry)) ⌝ }
 {
-    let byte = if level { shape.keep } else { 0 };
-    fill(rows, to, shape.bytes, byte);
+    if !has_room(rows.len(), to, count) {
+        return;
+    }
+    if 64 <= bit {
+        return;
+    }
+    alternate_bytes(rows, to, count, bit);
 }
 
-// Fills `count` bytes at `to`, byte i with eight copies of bit `bit` of i.
-fn alternate(rows: &mut [u8], to: usize, count: usize, bit: usize)
+fn alternate_bytes(rows: &mut [u8], to: usize, count: usize, bit: usize)
     requires { ⌜ (to + count ≤ length (now rows)) × (bit < 64) ⌝ }
     ensures { λ r. ⌜ now (rows .exit) ≡ splice (now (rows .entry)) to (tabulate count (alternating bit)) ⌝ }
 {
@@ -150,24 +132,5 @@ fn alternate(rows: &mut [u8], to: usize, count: usize, bit: usize)
     while i < count {
         rows[to + i] = 255 * ((i >> bit) % 2) as u8;
         i += 1;
-    }
-}
-
-// The table of an input: within a byte x1 is 01010101, x2 00110011 and x3 00001111; a further input is the same over whole bytes.
-pub fn input_row(rows: &mut [u8], line: usize, to: usize, shape: Shape)
-    requires { ⌜ Room shape to (now rows) × (line < shape .inputs) ⌝ }
-    ensures { λ r. ⌜ now (rows .exit) ≡ splice (now (rows .entry)) to (packed (2 ^ (shape .inputs)) (λ m. inputValue m line)) ⌝ }
-{
-    let count = shape.bytes;
-    let keep = shape.keep;
-    if line < 3 {
-        let pattern = match line {
-            0 => 85,
-            1 => 51,
-            _ => 15,
-        };
-        fill(rows, to, count, pattern & keep);
-    } else {
-        alternate(rows, to, count, line - 3);
     }
 }

@@ -4,11 +4,11 @@
 --   table-unread, table-number, table-memory, table-done   the table of one circuit: reading's refusals, 11, 10, success
 --   tables-unread, tables-memory, tables-done              the tables of all circuits: reading's refusals, 10, success
 use Prim.Native.Nat.{ℕ, _+_, _*_, _≤_, _<_}
-use mathlib.Core.Path.{_≡_, refl, sym, ap, ap₂, _∙_}
-use mathlib.Core.List.{List, _++_}
+use mathlib.Core.Path.{_≡_, sym, ap, _∙_}
+use mathlib.Core.List.{List}
 use borrow.Author.Tests.{le-leb, lt-leb}
-use lib.ListN.{length, drop}
-use Rattle.bits.specs.Answer.{Answer, Fills, Leaves, leaves}
+use lib.ListN.{length}
+use Rattle.bits.specs.Answer.{Answer, Fills, leaves}
 use Rattle.bits.specs.Answer.Answer.{gives, refused}
 use Rattle.job.specs.declared.Job.{Job}
 use Rattle.reading.specs.Reading.{reading}
@@ -16,7 +16,6 @@ use Rattle.gates.specs.Form.{tableBytes}
 use Rattle.gates.specs.Rows.{splice}
 use Rattle.tables.specs.Circuit.{circuitTable}
 use Rattle.tables.specs.Operations.{tableOf, tablesOf, tablesTo, countsOf}
-use Rattle.tables.specs.declared.Counts.{Counts}
 use Rattle.tables.proofs.Delivered.{splice-start}
 
 -- a refusal leaves the memory as it was

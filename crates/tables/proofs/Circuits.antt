@@ -26,9 +26,10 @@ use Rattle.job.specs.Record.{faultA, faultB, lines, levelNumber}
 use Rattle.job.specs.declared.Fault.{Fault}
 use Rattle.job.specs.declared.Fault.the-variants.{Stuck, Bridge}
 use Rattle.job.specs.declared.Job.{Job}
-use Rattle.gates.specs.Form.{shapeOf, tableBytes}
+use Rattle.gates.specs.Form.{tableBytes}
+use Rattle.tables.specs.Sizes.{shapeOf}
 use Rattle.gates.specs.Values.{bridged}
-use Rattle.gates.specs.declared.Shape.{Shape}
+use Rattle.tables.specs.declared.rows.Shape.{Shape}
 use Rattle.tables.proofs.Held.{Fitting, Held, Known, tableOf, rowAt, entry-table, table-of, held-fewer, held-filled, circuit-held}
 use Rattle.tables.proofs.Placing.{rowOf-low, rowOf-high, rowOf-most, low-fixed, high-fixed, not-fixed, fixed-cases}
 use Rattle.tables.proofs.Space.{sound-roomy}

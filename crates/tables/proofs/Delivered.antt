@@ -12,33 +12,34 @@
 --   row-inside          the row of a line lies within the rows
 --   table-good, table-faulty   the row of any circuit holds its table
 --   splice-start        new bytes at the start, then the rest as it was
---   tables-first, tables-more   the tables put so far: the first circuit's, and one more
-use Prim.Native.Nat.{ℕ, zero, suc, _+_, _-_, _*_, _/_, _^_, _≤_, _<_}
+--   tables-more         the tables put so far, and one more
+use Prim.Native.Nat.{ℕ, zero, suc, _+_, _-_, _*_, _^_, _≤_, _<_}
 use native.Mathlib.Omega.{arith}
-use native.Mathlib.Nat.{lt-of-le-of-lt, zero-add, add-zero, mul-le-mul, zero-mul, suc-mul, mul-le-mul-right, le-trans, add-comm}
+use native.Mathlib.Nat.{lt-of-le-of-lt, zero-add, mul-le-mul, zero-mul, suc-mul, mul-le-mul-right, le-trans}
 use native.Mathlib.Numerals.{add-one}
 use mathlib.Core.Path.{_≡_, refl, sym, ap, ap₂, subst, _∙_}
-use mathlib.Core.Bool.{Bool, true, false, _&&_}
-use mathlib.Core.List.{List, [], _∷_, _++_, append-assoc, append-nil}
+use mathlib.Core.Bool.{true}
+use mathlib.Core.List.{List, [], _∷_, _++_}
 use borrow.Author.Tests.{ltb-true}
 use lib.Dec.{ltb, lit<}
 use mir.Syntax.{w64}
 use mir.Val.{Fits}
-use lib.ListN.{length, getD, take, drop, length-append, length-drop, length-take, take-append-drop}
+use lib.ListN.{length, getD, take, drop, length-append, length-drop}
 use lib.Pow.{pow-mono}
 use lib.Seq.{take-suc, getD-drop, take-at, drop-drop, drop-append-add}
-use Rattle.bits.specs.Packed.{packed, tabulate}
+use Rattle.bits.specs.Packed.{tabulate}
 use Rattle.bits.proofs.Packed.{length-packed}
 use Rattle.bits.proofs.Tests.{and-r}
 use Rattle.job.specs.Check.{Valid, faultLineOk, faultOrderOk}
 use Rattle.job.specs.Layout.{maxInputs, maxGates, maxFaults}
-use Rattle.job.specs.Record.{faultAt, faultA, faultB, lines}
+use Rattle.job.specs.Record.{faultAt, lines}
 use Rattle.job.specs.declared.Fault.{Fault}
 use Rattle.job.specs.declared.Fault.the-variants.{Stuck, Bridge}
 use Rattle.job.specs.declared.Job.{Job}
-use Rattle.gates.specs.Form.{tableBytes, shapeOf}
+use Rattle.gates.specs.Form.{tableBytes}
+use Rattle.tables.specs.Sizes.{shapeOf}
 use Rattle.gates.specs.Rows.{part, splice}
-use Rattle.gates.specs.declared.Shape.{Shape}
+use Rattle.tables.specs.declared.rows.Shape.{Shape}
 use Rattle.tables.specs.Circuit.{circuitEntry, circuitTable, fixingOf}
 use Rattle.tables.specs.Work.{maxTableBytes, rowBytes, lineValue, Fixes, Sound, Good, Faulty, Table}
 use Rattle.tables.specs.Operations.{tablesTo}
@@ -143,7 +144,3 @@ unfolding tablesTo
 tables-more j c out =
     splice-append out (tablesTo j c) (circuitTable j c) (c * tableBytes (j .inputs)) (length-tablesTo j c)
     ∙ ap (λ (n : ℕ). splice out 0 (tablesTo j n)) (sym (add-one c))
-
-pub tables-first : (j : Job) (out : List ℕ) → splice out 0 (circuitTable j 0) ≡ splice out 0 (tablesTo j 1)
-unfolding tablesTo
-tables-first j out = refl

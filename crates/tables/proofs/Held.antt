@@ -26,9 +26,11 @@ use Rattle.bits.specs.Packed.{packed, entry}
 use Rattle.job.specs.Check.{Valid}
 use Rattle.job.specs.Record.{gateKind, gateA, gateB, gateAt, lines}
 use Rattle.job.specs.declared.Job.{Job}
-use Rattle.gates.proofs.Rows.{length-splice, part-same, part-other}
+use Rattle.gates.proofs.Rows.{part-same, part-other}
+use Rattle.gates.proofs.Splice.{length-splice}
 use Rattle.gates.specs.Answers.{answer}
-use Rattle.gates.specs.Form.{shapeOf, tableBytes}
+use Rattle.gates.specs.Form.{tableBytes}
+use Rattle.tables.specs.Sizes.{shapeOf}
 use Rattle.gates.specs.Rows.{part, splice}
 use Rattle.gates.specs.Values.{inputValue}
 use Rattle.tables.proofs.Lines.{inputs-end}

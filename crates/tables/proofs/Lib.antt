@@ -1,9 +1,11 @@
 pub mod Answering
 pub mod Circuits
 pub mod Delivered
+pub mod Forming
 pub mod Held
 pub mod Lines
 pub mod Placing
 pub mod Putting
+pub mod Shaped
 pub mod Space
 pub mod Values

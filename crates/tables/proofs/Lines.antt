@@ -25,7 +25,7 @@ use Rattle.job.specs.declared.Job.{Job}
 use Rattle.gates.specs.Answers.{answer}
 use Rattle.gates.specs.Rows.{part, splice}
 use Rattle.gates.specs.Values.{inputValue, bridged}
-use Rattle.gates.specs.declared.Shape.{Shape}
+use Rattle.tables.specs.declared.rows.Shape.{Shape}
 use Rattle.tables.specs.Lines.{rowOf, isFixed, inputLine, gateLine, inputLines, gateLines, stuckLine, bridgedLine, fixedLines}
 use Rattle.tables.specs.declared.circuit.Plan.{Plan}
 

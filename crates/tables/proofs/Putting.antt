@@ -2,7 +2,10 @@
 --
 --   Putting          the tables of the circuits below c are put, and the good circuit's rows stand
 --   sound-kept       rows of the same length stay sound
+--   shape-bytes      the shape has the table's bytes
 --   table-part       a row as long as the shape says holds the circuit's table
+--   table-inside     and lies within the rows
+--   table-put        it is put at the start of the lent bytes
 --   putting-start    nothing is put yet
 --   putting-room     there is room for one table more
 --   putting-length   the lent bytes are as many as before
@@ -11,14 +14,13 @@
 use Prim.Native.Nat.{ℕ, suc, _+_, _*_, _≤_, _<_}
 use native.Mathlib.Omega.{arith}
 use native.Mathlib.Nat.{le-trans, le-antisymm, suc-mul, mul-le-mul-right}
-use native.Mathlib.Numerals.{add-one}
 use mathlib.Core.Path.{_≡_, refl, sym, ap, ap₂, subst, _∙_}
 use mathlib.Core.List.{List}
 use lib.ListN.{length}
 use Rattle.job.specs.declared.Job.{Job}
 use Rattle.gates.specs.Form.{tableBytes}
 use Rattle.gates.specs.Rows.{part, splice}
-use Rattle.gates.specs.declared.Shape.{Shape}
+use Rattle.tables.specs.declared.rows.Shape.{Shape}
 use Rattle.gates.proofs.Splice.{length-splice}
 use Rattle.tables.specs.Circuit.{circuitTable}
 use Rattle.tables.specs.Operations.{tablesTo}
@@ -37,6 +39,10 @@ table-part j shape rows after c at s t = ap (λ (k : ℕ). part at k after) (sha
 
 pub table-inside : (j : Job) (shape : Shape) (rows after : List ℕ) (c at : ℕ) → Sound j shape rows → Table j c at after → at + shape .bytes ≤ length after
 table-inside j shape rows after c at s t = subst (λ (k : ℕ). at + k ≤ length after) (sym (shape-bytes j shape rows s)) (t .inside)
+
+pub table-put : (j : Job) (shape : Shape) (rows after : List ℕ) (c at : ℕ) (out put : List ℕ) → Sound j shape rows → Table j c at after
+    → put ≡ splice out 0 (part at (shape .bytes) after) → put ≡ splice out 0 (circuitTable j c)
+table-put j shape rows after c at out put s t e = e ∙ ap (splice out 0) (table-part j shape rows after c at s t)
 
 pub record Putting (j : Job) (shape : Shape) (start first out rows : List ℕ) (c : ℕ) : Type 0 where
   pub sound : Sound j shape rows

@@ -30,10 +30,10 @@ use Rattle.job.specs.Record.{gateA, gateB, gateAt, faultA, faultB, lines}
 use Rattle.job.specs.declared.Fault.{Fault}
 use Rattle.job.specs.declared.Fault.the-variants.{Stuck, Bridge}
 use Rattle.job.specs.declared.Job.{Job}
-use Rattle.gates.specs.Form.{shapeOf}
-use Rattle.gates.specs.Rows.{Room, Below}
-use Rattle.gates.specs.declared.Shape.{Shape}
+use Rattle.tables.specs.Sizes.{shapeOf, Room}
+use Rattle.tables.specs.declared.rows.Shape.{Shape}
 use Rattle.tables.proofs.Placing.{rowOf-high, rowOf-most, rowOf-less}
+use Rattle.tables.proofs.Shaped.{Below}
 use Rattle.tables.proofs.Values.{first-below, second-below}
 use Rattle.tables.specs.Lines.{rowOf, Roomy, Planned, Fixable}
 use Rattle.tables.specs.Work.{Sound}
@@ -81,11 +81,11 @@ module _ (shape : Shape) (plan : Plan) where
       less : (k : ℕ) → k < l → rowOf plan k * shape .bytes + shape .bytes ≤ rowOf plan l * shape .bytes
       less k h = omega (arith, mul-le-mul-right (shape .bytes) (rowOf-less plan k l h), suc-mul (rowOf plan k) (shape .bytes))
 
-module _ (j : Job) (shape : Shape) (plan : Plan) (rows : List ℕ) (planned : Planned j shape plan rows) (q : ℕ) (h : q < j .«gate_count») where
-  pub gate-index : q < 64
-  unfolding maxGates
-  gate-index = omega (arith, planned .valid .gates-few)
+pub gate-index : {q count : ℕ} → q < count → count ≤ maxGates → q < 64
+unfolding maxGates
+gate-index h few = omega arith
 
+module _ (j : Job) (shape : Shape) (plan : Plan) (rows : List ℕ) (planned : Planned j shape plan rows) (q : ℕ) (h : q < j .«gate_count») where
   pub gate-ready : (new : List ℕ) → length new ≡ length rows
       → Roomy shape plan (shape .inputs + q + 1) new
       × (gateA (gateAt j q) < shape .inputs + q)

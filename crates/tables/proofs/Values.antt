@@ -1,6 +1,5 @@
 -- Laws of the values of lines (specs/Circuit.antt, specs/Work.antt).
 --
---   and-left, and-right   both tests pass where the one after the other does
 --   getD-all         a test that passes at the default and at each element passes at an element read
 --   answer-bit       an answer is 0 or 1
 --   cond-bit         a choice of two bits is a bit
@@ -27,6 +26,7 @@ use borrow.Author.Tests.{lt-ltb, le-ltb, ltb-true}
 use lib.Dec.{ltb}
 use lib.ListN.{length, getD, length-append, List·getD-append}
 use lib.Seq.{getD-at}
+use Rattle.bits.proofs.Tests.{and-l, and-r}
 use Rattle.job.specs.Check.{Valid}
 use Rattle.job.specs.Record.{gateKind, gateA, gateB, gateAt, lines}
 use Rattle.job.specs.declared.Job.{Job}
@@ -35,22 +35,14 @@ use Rattle.gates.specs.Values.{inputValue}
 use Rattle.tables.specs.Circuit.{Fixing, gateValue, ownValue, valuesTo}
 use Rattle.tables.specs.Work.{lineValue}
 
-and-left : (a b : Bool) → a && b ≡ true → a ≡ true
-and-left true b h = refl
-and-left false b h = h
-
-and-right : (a b : Bool) → a && b ≡ true → b ≡ true
-and-right true b h = h
-and-right false b h = absurd (let z : _≡_ {A = ℕ} 0 1 = cc in omega arith)
-
 abbrev all : {A : Type 0} → (A → Bool) → List A → Bool
 all p [] = true
 all p (x ∷ xs) = p x && all p xs
 
 getD-all : {A : Type 0} (p : A → Bool) (xs : List A) (d : A) → p d ≡ true → all p xs ≡ true → (i : ℕ) → p (getD xs i d) ≡ true
 getD-all p [] d h a i = h
-getD-all p (x ∷ xs) d h a zero = and-left (p x) (all p xs) a
-getD-all p (x ∷ xs) d h a (suc i) = getD-all p xs d h (and-right (p x) (all p xs) a) i
+getD-all p (x ∷ xs) d h a zero = and-l (p x) (all p xs) a
+getD-all p (x ∷ xs) d h a (suc i) = getD-all p xs d h (and-r (p x) (all p xs) a) i
 
 abbrev isBit : ℕ → Bool
 isBit v = ltb v 2
@@ -150,9 +142,9 @@ module _ (j : Job) (valid : Valid j) (q : ℕ) (h : q < j .«gate_count») where
   pub first-below : gateA (gateAt j q) < j .inputs + q
   first-below =
       ltb-true (gateA (gateAt j q)) (j .inputs + q)
-      (and-left (ltb (gateA (gateAt j q)) (j .inputs + q)) (ltb (gateB (gateAt j q)) (j .inputs + q)) (valid .gate q h))
+      (and-l (ltb (gateA (gateAt j q)) (j .inputs + q)) (ltb (gateB (gateAt j q)) (j .inputs + q)) (valid .gate q h))
 
   pub second-below : gateB (gateAt j q) < j .inputs + q
   second-below =
       ltb-true (gateB (gateAt j q)) (j .inputs + q)
-      (and-right (ltb (gateA (gateAt j q)) (j .inputs + q)) (ltb (gateB (gateAt j q)) (j .inputs + q)) (valid .gate q h))
+      (and-r (ltb (gateA (gateAt j q)) (j .inputs + q)) (ltb (gateB (gateAt j q)) (j .inputs + q)) (valid .gate q h))

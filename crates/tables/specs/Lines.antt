@@ -14,12 +14,13 @@
 --   fixedLines   the rows of the lines that a fault fixes are filled
 --   Roomy        there are rows for so many lines
 --   Planned      a valid job, its shape, and rows for each of its lines
+--   Formed       the polynomials of a job's gates
 --   Fixable      a fault's lines have rows of their own, behind the good circuit's
 use Prim.Native.Nat.{ℕ, zero, suc, _+_, _-_, _*_, _^_, _≤_, _<_}
 use mathlib.Core.Path.{_≡_}
 use mathlib.Core.Bool.{Bool, cond, _||_}
 use mathlib.Core.List.{List}
-use lib.ListN.{length}
+use lib.ListN.{length, getD}
 use lib.Dec.{ltb, eqb}
 use Rattle.bits.specs.Packed.{packed, entry}
 use Rattle.job.specs.Check.{Valid}
@@ -29,11 +30,14 @@ use Rattle.job.specs.declared.Fault.{Fault}
 use Rattle.job.specs.declared.Fault.the-variants.{Stuck, Bridge}
 use Rattle.job.specs.declared.Job.{Job}
 use Rattle.gates.specs.Answers.{answer}
-use Rattle.gates.specs.Form.{shapeOf}
+use Rattle.gates.specs.Form.{kindForm}
 use Rattle.gates.specs.Rows.{part, splice}
 use Rattle.gates.specs.Values.{inputValue, bridged}
-use Rattle.gates.specs.declared.Shape.{Shape}
+use Rattle.gates.specs.declared.Form.{Form}
+use Rattle.tables.specs.Sizes.{shapeOf}
+use Rattle.tables.specs.declared.circuit.Forms.{Forms}
 use Rattle.tables.specs.declared.circuit.Plan.{Plan}
+use Rattle.tables.specs.declared.rows.Shape.{Shape}
 
 -- far more than two rows for each of 8 inputs and 64 gates, and far fewer than a word can count
 abbrev pub maxRows : ℕ
@@ -96,6 +100,12 @@ pub record Planned (j : Job) (shape : Shape) (plan : Plan) (rows : List ℕ) : T
   pub valid : Valid j
   pub inputs : shape .inputs ≡ j .inputs
   pub roomy : Roomy shape plan (lines j) rows
+
+abbrev pub noForm : Form
+noForm = record { constant = 0; first = 0; second = 0; both = 0 }
+
+pub record Formed (j : Job) (keep : ℕ) (forms : Forms) : Type 0 where
+  pub form : (q : ℕ) → q < j .«gate_count» → getD (forms .of) q noForm ≡ kindForm (gateKind (gateAt j q)) keep
 
 pub record Fixable (x : Fault) (shape : Shape) (plan : Plan) (rows : List ℕ) : Type 0 where
   pub low : faultA x ≤ faultB x

@@ -16,10 +16,11 @@ use Rattle.job.specs.Layout.{maxInputs, maxGates}
 use Rattle.job.specs.Record.{faultA, faultB, lines}
 use Rattle.job.specs.declared.Fault.{Fault}
 use Rattle.job.specs.declared.Job.{Job}
-use Rattle.gates.specs.Form.{shapeOf, tableBytes}
+use Rattle.gates.specs.Form.{tableBytes}
 use Rattle.gates.specs.Rows.{part}
-use Rattle.gates.specs.declared.Shape.{Shape}
 use Rattle.tables.specs.Circuit.{Fixing, free, valuesTo, fixedBy, circuitTable}
+use Rattle.tables.specs.Sizes.{shapeOf}
+use Rattle.tables.specs.declared.rows.Shape.{Shape}
 
 -- the bytes of the largest table
 unfoldable pub maxTableBytes : ℕ

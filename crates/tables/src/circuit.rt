@@ -1,13 +1,19 @@
 // The rows of a job's circuits: first a row for each line of the good circuit, then one for each line of the faulty circuit at hand.
 ghost use mathlib.Core.Path.{_≡_};
-ghost use Prim.Native.Nat.{_+_, _<_};
-ghost use Rattle.job.specs.Record.{gateA, gateB};
-ghost use Rattle.tables.specs.Lines.{maxRows, rowOf, inputLine, inputRows, gateLine, gateRows, fixedLines, Roomy, Planned, Fixable};
+ghost use mathlib.Core.Bool.{cond};
+ghost use Prim.Native.Nat.{_+_, _≤_, _<_};
+ghost use Rattle.job.specs.Layout.{maxGates};
+ghost use Rattle.job.specs.Record.{gateKind, gateA, gateB};
+ghost use Rattle.gates.specs.Form.{kindForm};
+ghost use Rattle.tables.specs.Lines.{maxRows, rowOf, inputLine, inputRows, gateLine, gateRows, fixedLines, Roomy, Planned, Formed, Fixable};
 ghost use Rattle.tables.specs.Work.{Sound, Good, Fixes, Faulty};
-use gates::Shape;
+use crate::rows::Shape;
+use gates::Form;
+use job::BinaryKind;
 use job::Fault;
 use job::Gate;
 use job::Job;
+use job::MAX_GATES;
 
 // Where the lines of a circuit have their rows: lines below `start` are as in the good circuit and share its rows, the others have
 // theirs `shift` rows further on. Lines `low` and `high` are fixed, and their rows are filled first.
@@ -16,6 +22,46 @@ struct Plan {
     shift: usize,
     low: usize,
     high: usize,
+}
+
+// The polynomial of each gate, worked out once for all circuits.
+pub(crate) struct Forms {
+    pub(crate) of: [Form; MAX_GATES],
+}
+
+pub(crate) fn forms_of(job: Job, keep: u8) -> Forms
+    requires { ⌜ job .«gate_count» ≤ maxGates ⌝ }
+    ensures { λ r. ⌜ Formed job keep r ⌝ }
+{
+    let count = job.gate_count as usize;
+    let mut forms = Forms {
+        of: [Form {
+            constant: 0,
+            first: 0,
+            second: 0,
+            both: 0,
+        }; MAX_GATES],
+    };
+    let mut q = 0;
+    while q < count {
+        let entry = job.gates[q];
+        let gate = entry.gate;
+        let form = gates::form_of(gate, keep);
+        forms.of[q] = form;
+        q += 1;
+    }
+    forms
+}
+
+// The polynomial of a bridge: that of an AND gate, or of an OR gate.
+fn bridge_form(is_and: bool, keep: u8) -> Form
+    ensures { λ r. ⌜ r ≡ kindForm (cond «is_and» 0 1) keep ⌝ }
+{
+    if is_and {
+        gates::form_of(Gate::Binary(BinaryKind::And, 0, 0), keep)
+    } else {
+        gates::form_of(Gate::Binary(BinaryKind::Or, 0, 0), keep)
+    }
 }
 
 // The row of a line.
@@ -57,12 +103,12 @@ fn input_line(rows: &mut [u8], line: usize, plan: Plan, shape: Shape)
     if line == high {
         return;
     }
-    gates::input_row(rows, line, row_of(plan, line) * shape.bytes, shape);
+    crate::rows::input_row(rows, line, row_of(plan, line) * shape.bytes, shape);
 }
 
 // The row of a gate's line, unless the line is fixed. The rows of the lines that the gate reads are filled before.
-fn gate_line(rows: &mut [u8], gate: Gate, line: usize, plan: Plan, shape: Shape)
-    requires { ⌜ Roomy shape plan (line + 1) (now rows) × (gateA gate < line) × (gateB gate < line) ⌝ }
+fn gate_line(rows: &mut [u8], gate: Gate, form: Form, line: usize, plan: Plan, shape: Shape)
+    requires { ⌜ Roomy shape plan (line + 1) (now rows) × (gateA gate < line) × (gateB gate < line) × (form ≡ kindForm (gateKind gate) (shape .keep)) ⌝ }
     ensures { λ r. ⌜ now (rows .exit) ≡ gateLine shape plan gate line (now (rows .entry)) ⌝ }
 {
     let low = plan.low;
@@ -75,12 +121,19 @@ fn gate_line(rows: &mut [u8], gate: Gate, line: usize, plan: Plan, shape: Shape)
     }
     let x = row_of(plan, gate.first()) * shape.bytes;
     let y = row_of(plan, gate.second()) * shape.bytes;
-    gates::gate_row(rows, gate, x, y, row_of(plan, line) * shape.bytes, shape);
+    gates::combine(
+        rows,
+        x,
+        y,
+        row_of(plan, line) * shape.bytes,
+        shape.bytes,
+        form,
+    );
 }
 
 // The rows of the gates from `plan.start` on, but for the fixed ones.
-fn gate_rows(rows: &mut [u8], job: Job, plan: Plan, shape: Shape)
-    requires { ⌜ Planned job shape plan (now rows) ⌝ }
+fn gate_rows(rows: &mut [u8], job: Job, forms: Forms, plan: Plan, shape: Shape)
+    requires { ⌜ Planned job shape plan (now rows) × Formed job (shape .keep) forms ⌝ }
     ensures { λ r. ⌜ now (rows .exit) ≡ gateRows job shape plan (now (rows .entry)) ⌝ }
 {
     let inputs = shape.inputs;
@@ -90,14 +143,15 @@ fn gate_rows(rows: &mut [u8], job: Job, plan: Plan, shape: Shape)
     while q < count {
         let entry = job.gates[q];
         let gate = entry.gate;
-        gate_line(rows, gate, inputs + q, plan, shape);
+        let form = forms.of[q];
+        gate_line(rows, gate, form, inputs + q, plan, shape);
         q += 1;
     }
 }
 
 // Works out every line of the good circuit.
-pub(crate) fn good_circuit(rows: &mut [u8], job: Job, shape: Shape)
-    requires { ⌜ Sound job shape (now rows) ⌝ }
+pub(crate) fn good_circuit(rows: &mut [u8], job: Job, forms: Forms, shape: Shape)
+    requires { ⌜ Sound job shape (now rows) × Formed job (shape .keep) forms ⌝ }
     ensures { λ r. ⌜ Good job (now (rows .exit)) ⌝ }
 {
     let lines = job.inputs as usize + job.gate_count as usize;
@@ -108,12 +162,18 @@ pub(crate) fn good_circuit(rows: &mut [u8], job: Job, shape: Shape)
         high: lines,
     };
     input_rows(rows, plan, shape);
-    gate_rows(rows, job, plan, shape);
+    gate_rows(rows, job, forms, plan, shape);
 }
 
 // Works out the circuit with a fault from the fault's lower line on; the answer is the place of its output's table.
-pub(crate) fn faulty_circuit(rows: &mut [u8], job: Job, fault: Fault, shape: Shape) -> usize
-    requires { ⌜ Sound job shape (now rows) × Good job (now rows) × Fixes job fault ⌝ }
+pub(crate) fn faulty_circuit(
+    rows: &mut [u8],
+    job: Job,
+    forms: Forms,
+    fault: Fault,
+    shape: Shape,
+) -> usize
+    requires { ⌜ Sound job shape (now rows) × Formed job (shape .keep) forms × Good job (now rows) × Fixes job fault ⌝ }
     ensures { λ r. ⌜ Faulty job fault r (now (rows .exit)) ⌝ }
 {
     let lines = job.inputs as usize + job.gate_count as usize;
@@ -127,7 +187,7 @@ pub(crate) fn faulty_circuit(rows: &mut [u8], job: Job, fault: Fault, shape: Sha
     };
     fix_rows(rows, fault, plan, shape);
     input_rows(rows, plan, shape);
-    gate_rows(rows, job, plan, shape);
+    gate_rows(rows, job, forms, plan, shape);
     row_of(plan, job.output as usize) * shape.bytes
 }
 
@@ -139,27 +199,14 @@ fn fix_rows(rows: &mut [u8], fault: Fault, plan: Plan, shape: Shape)
     let bytes = shape.bytes;
     match fault {
         Fault::Stuck(line, level) => {
-            gates::level_row(rows, level, row_of(plan, line as usize) * bytes, shape);
+            crate::rows::level_row(rows, level, row_of(plan, line as usize) * bytes, shape);
         }
         Fault::Bridge(low, high, is_and) => {
             let x = low as usize * bytes;
             let y = high as usize * bytes;
-            gates::bridge_row(
-                rows,
-                is_and,
-                x,
-                y,
-                row_of(plan, low as usize) * bytes,
-                shape,
-            );
-            gates::bridge_row(
-                rows,
-                is_and,
-                x,
-                y,
-                row_of(plan, high as usize) * bytes,
-                shape,
-            );
+            let form = bridge_form(is_and, shape.keep);
+            gates::combine(rows, x, y, row_of(plan, low as usize) * bytes, bytes, form);
+            gates::combine(rows, x, y, row_of(plan, high as usize) * bytes, bytes, form);
         }
     }
 }

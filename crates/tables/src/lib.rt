@@ -6,16 +6,19 @@ ghost use Rattle.bits.specs.Answer.{outcome, leaves};
 ghost use Rattle.gates.specs.Form.{tableBytes};
 ghost use Rattle.gates.specs.Rows.{part, splice};
 ghost use Rattle.tables.specs.Circuit.{circuitTable};
+ghost use Rattle.tables.specs.Lines.{Formed};
 ghost use Rattle.tables.specs.Operations.{tableOf, tablesOf, tablesTo, tablesTold};
 ghost use Rattle.tables.specs.Work.{Sound, Good, Table};
 use bits::Outcome;
 use bits::Refusal;
-use gates::Shape;
+use circuit::Forms;
 use job::Job;
 use job::MAX_GATES;
 use job::MAX_INPUTS;
+use rows::Shape;
 
 mod circuit;
+mod rows;
 
 // The bytes of the largest table, (2 to the power 8 + 7) div 8.
 const MAX_TABLE_BYTES: usize = 32;
@@ -49,7 +52,7 @@ pub fn table(bytes: &[u8], circuit: usize, out: &mut [u8]) -> Outcome
     if (job.fault_count as usize) < circuit {
         return Outcome::Refused(Refusal::CircuitNumber);
     }
-    let shape = gates::shape_of(job.inputs as usize);
+    let shape = rows::shape_of(job.inputs as usize);
     if out.len() < shape.bytes {
         return Outcome::Refused(Refusal::Memory);
     }
@@ -69,7 +72,7 @@ pub fn tables(bytes: &[u8], out: &mut [u8]) -> TablesAnswer
     }
     let job = reading.job;
     let faults = job.fault_count as usize;
-    let shape = gates::shape_of(job.inputs as usize);
+    let shape = rows::shape_of(job.inputs as usize);
     if out.len() < (faults + 1) * shape.bytes {
         return TablesAnswer::Refused(Refusal::Memory);
     }
@@ -95,8 +98,8 @@ fn copy(out: &mut [u8], to: usize, rows: &[u8], at: usize, count: usize)
 }
 
 // Works out one circuit; the answer is the place of its table in the rows.
-fn table_row(rows: &mut [u8], job: Job, circuit: usize, shape: Shape) -> usize
-    requires { ⌜ Sound job shape (now rows) × Good job (now rows) × (circuit ≤ job .«fault_count») ⌝ }
+fn table_row(rows: &mut [u8], job: Job, forms: Forms, circuit: usize, shape: Shape) -> usize
+    requires { ⌜ Sound job shape (now rows) × Formed job (shape .keep) forms × Good job (now rows) × (circuit ≤ job .«fault_count») ⌝ }
     ensures { λ r. ⌜ Table job circuit r (now (rows .exit)) ⌝ }
 {
     if circuit == 0 {
@@ -104,7 +107,7 @@ fn table_row(rows: &mut [u8], job: Job, circuit: usize, shape: Shape) -> usize
     }
     let entry = job.faults[circuit - 1];
     let fault = entry.fault;
-    circuit::faulty_circuit(rows, job, fault, shape)
+    circuit::faulty_circuit(rows, job, forms, fault, shape)
 }
 
 // The table of one circuit, at the start of the lent bytes.
@@ -112,8 +115,9 @@ fn put_table(out: &mut [u8], rows: &mut [u8], job: Job, circuit: usize, shape: S
     requires { ⌜ Sound job shape (now rows) × (circuit ≤ job .«fault_count») × (tableBytes (job .inputs) ≤ length (now out)) ⌝ }
     ensures { λ r. ⌜ now (out .exit) ≡ splice (now (out .entry)) 0 (circuitTable job circuit) ⌝ }
 {
-    circuit::good_circuit(rows, job, shape);
-    let at = table_row(rows, job, circuit, shape);
+    let forms = circuit::forms_of(job, shape.keep);
+    circuit::good_circuit(rows, job, forms, shape);
+    let at = table_row(rows, job, forms, circuit, shape);
     copy(out, 0, rows, at, shape.bytes);
 }
 
@@ -124,10 +128,11 @@ fn put_tables(out: &mut [u8], rows: &mut [u8], job: Job, shape: Shape)
 {
     let circuits = job.fault_count as usize + 1;
     let bytes = shape.bytes;
-    circuit::good_circuit(rows, job, shape);
+    let forms = circuit::forms_of(job, shape.keep);
+    circuit::good_circuit(rows, job, forms, shape);
     let mut c = 0;
     while c < circuits {
-        let at = table_row(rows, job, c, shape);
+        let at = table_row(rows, job, forms, c, shape);
         copy(out, c * bytes, rows, at, bytes);
         c += 1;
     }

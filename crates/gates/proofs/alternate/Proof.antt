@@ -1,66 +1,37 @@
--- `gates::alternate` meets its contract. The loop has written one byte for each turn.
-use Prim.Native.Nat.{_-_}
-use native.Mathlib.Omega.{arith}
-use mathlib.Core.Path.{refl}
-use borrow.Author.Count.{falls}
-use Rattle.gates.specs.Form.{alternating}
-use Rattle.gates.proofs.Splice.{Written, written-none, written-more, written-length, written-all}
+-- `gates::alternate` meets its contract: where there is no room, or no such bit, the rows are left as they are.
+use lib.ListN.{length}
+use borrow.Author.Needs.{needs}
+use Rattle.gates.proofs.Fitting.{refused, passed, ends-within, kept, put, no-room, too-high, bit-inside}
 use Rattle.gates.proofs.alternate.Statement.{statement}
 use Rattle.gates.proofs.alternate.Tie as tie
 
-abbrev Inv-loop : tie.InvT-loop
-Inv-loop rows₀ to count bit i₀ rows i = Written rows₀ to count (alternating bit) rows i
+has-room-requires : tie.Need-has-room-requires
+has-room-requires c κs = search needs
 
-abbrev μ-loop : tie.MeasureT-loop
-μ-loop rows₀ to count bit i₀ rows i = count - i
+returns : tie.Need-returns
+returns c =
+    let a = c .before .before .before .args in
+    kept _ (a .rows .now) (no-room (a .to) (a .count) (a .bit) (length (a .rows .now)) (refused (c .before .has-room .ensures) (c .if1 .taken)))
 
-loop-holds : tie.Need-loop-holds Inv-loop μ-loop
-loop-holds c = written-none (c .pre .0)
+returns-2 : tie.Need-returns-2
+returns-2 c =
+    let a = c .before .before .before .before .args in
+    kept _ (a .rows .now) (too-high (a .to) (a .count) (a .bit) (length (a .rows .now)) (passed (c .before .before .has-room .ensures) (c .before .if1 .left)) (c .if2 .taken))
 
-shr-rows : tie.Need-shr-rows Inv-loop μ-loop
-shr-rows c = c .before .before .pre .1
+alternate-bytes-requires : tie.Need-alternate-bytes-requires
+alternate-bytes-requires c κs = let a = c .before .before .before .before .before .args in (ends-within (length (a .rows .now)) (a .to) (a .count) (c .before .before .before .has-room .ensures) (c .before .before .if1 .left), c .before .if2 .left)
 
-cast-rows : tie.Need-cast-rows Inv-loop μ-loop
-cast-rows c = omega arith
+same-length : tie.Need-same-length
+same-length c = search needs
 
-mul-rows : tie.Need-mul-rows Inv-loop μ-loop
-mul-rows c = omega arith
-
-add-rows : tie.Need-add-rows Inv-loop μ-loop
-add-rows c = omega arith
-
-slice-write-rows : tie.Need-slice-write-rows Inv-loop μ-loop
-slice-write-rows c = omega (arith, written-length (c .before .loop .inv))
-
-add-i : tie.Need-add-i Inv-loop μ-loop
-add-i c = omega arith
-
-loop-less : tie.Need-loop-less Inv-loop μ-loop
-loop-less c = falls _ _ (c .loop-test .taken)
-
-loop-again : tie.Need-loop-again Inv-loop μ-loop
-loop-again c = written-more (c .before .loop .inv) _ (c .loop-test .taken) refl
-
-same-length : tie.Need-same-length Inv-loop μ-loop
-same-length c = written-length (c .before .loop .inv)
-
-returns : tie.Need-returns Inv-loop μ-loop
-returns c = written-all (c .before .loop .inv) (c .loop-test .left)
+returns-3 : tie.Need-returns-3
+returns-3 c =
+    let a = c .before .before .before .before .before .before .before .before .args in
+    put _ (a .rows .now)
+    (bit-inside (a .to) (a .count) (a .bit) (length (a .rows .now)) (passed (c .before .before .before .before .before .before .has-room .ensures) (c .before .before .before .before .before .if1 .left)) (c .before .before .before .before .if2 .left))
+    (c .before .before .alternate-bytes .ensures)
 
 pub alternate-spec : {M : Type 1} → statement M
 alternate-spec =
     tie.close
-    (tie.spec
-    Inv-loop
-    μ-loop
-    loop-holds
-    shr-rows
-    cast-rows
-    mul-rows
-    add-rows
-    slice-write-rows
-    add-i
-    loop-less
-    loop-again
-    same-length
-    returns)
+    (tie.spec has-room-requires returns returns-2 alternate-bytes-requires same-length returns-3)

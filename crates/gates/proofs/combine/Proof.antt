@@ -1,75 +1,69 @@
--- `gates::combine` meets its contract. The loop has written one byte for each turn, and the tables that it reads stand before all that it writes.
-use Prim.Native.Nat.{_-_}
-use native.Mathlib.Omega.{arith}
-use mathlib.Core.Path.{ap₂}
-use borrow.Author.Count.{falls}
-use Rattle.gates.specs.Form.{step, combined}
-use Rattle.gates.proofs.Splice.{Written, written-none, written-more, written-length, written-before, written-all}
+-- `gates::combine` meets its contract: where a test of room fails the rows are left as they are.
+use lib.ListN.{length}
+use Rattle.bits.specs.Packed.{tabulate}
+use Rattle.gates.specs.Form.{combined}
+use Rattle.gates.specs.Rows.{splice}
+use borrow.Author.Needs.{needs}
+use Rattle.gates.proofs.Fitting.{refused, passed, ends-within, kept, put, step-outside, first-late, step-second}
 use Rattle.gates.proofs.combine.Statement.{statement}
 use Rattle.gates.proofs.combine.Tie as tie
 
-abbrev Inv-loop : tie.InvT-loop
-Inv-loop rows₀ x y to count constant first second both i₀ rows i =
-    Written rows₀ to count (combined (record { constant = constant; first = first; second = second; both = both }) x y rows₀) rows i
+has-room-requires : tie.Need-has-room-requires
+has-room-requires c κs = search needs
 
-abbrev μ-loop : tie.MeasureT-loop
-μ-loop rows₀ x y to count constant first second both i₀ rows i = count - i
+returns : tie.Need-returns
+returns c =
+    let a = c .before .before .before .args in
+    kept _ (a .rows .now) (step-outside (a .x) (a .y) (a .to) (a .count) (length (a .rows .now)) (refused (c .before .has-room .ensures) (c .if1 .taken)))
 
-loop-holds : tie.Need-loop-holds Inv-loop μ-loop
-loop-holds c = written-none (c .pre .2)
+has-room-requires-2 : tie.Need-has-room-requires-2
+has-room-requires-2 c κs = search needs
 
-add-a : tie.Need-add-a Inv-loop μ-loop
-add-a c = omega arith
+returns-2 : tie.Need-returns-2
+returns-2 c =
+    let a = c .before .before .before .before .before .args in
+    kept _ (a .rows .now)
+    (first-late (a .x) (a .y) (a .to) (a .count) (length (a .rows .now)) (passed (c .before .before .before .has-room .ensures) (c .before .before .if1 .left)) (refused (c .before .has-room2 .ensures) (c .if2 .taken)))
 
-slice-read-a : tie.Need-slice-read-a Inv-loop μ-loop
-slice-read-a c = omega (arith, written-length (c .before .before .loop .inv))
+has-room-requires-3 : tie.Need-has-room-requires-3
+has-room-requires-3 c κs = search needs
 
-add-b : tie.Need-add-b Inv-loop μ-loop
-add-b c = omega arith
+returns-3 : tie.Need-returns-3
+returns-3 c =
+    let a = c .before .before .before .before .before .before .before .args in
+    kept _ (a .rows .now)
+    (step-second (a .x) (a .y) (a .to) (a .count) (length (a .rows .now)) (passed (c .before .before .before .before .before .has-room .ensures) (c .before .before .before .before .if1 .left)) (passed (c .before .before .before .has-room2 .ensures) (c .before .before .if2 .left))
+    (refused (c .before .has-room3 .ensures) (c .if3 .taken)))
 
-slice-read-b : tie.Need-slice-read-b Inv-loop μ-loop
-slice-read-b c = omega (arith, written-length (c .before .before .before .loop .inv))
+combine-bytes-requires : tie.Need-combine-bytes-requires
+combine-bytes-requires c κs =
+    let a = c .before .before .before .before .before .before .before .before .args in (
+      ends-within (a .to) (a .x) (a .count) (c .before .before .before .before .has-room2 .ensures) (c .before .before .before .if2 .left),
+      ends-within (a .to) (a .y) (a .count) (c .before .before .has-room3 .ensures) (c .before .if3 .left),
+      ends-within (length (a .rows .now)) (a .to) (a .count) (c .before .before .before .before .before .before .has-room .ensures) (c .before .before .before .before .before .if1 .left),
+    )
 
-add-rows : tie.Need-add-rows Inv-loop μ-loop
-add-rows c = omega arith
+same-length : tie.Need-same-length
+same-length c = search needs
 
-slice-write-rows : tie.Need-slice-write-rows Inv-loop μ-loop
-slice-write-rows c = omega (arith, written-length (c .before .before .before .loop .inv))
-
-add-i : tie.Need-add-i Inv-loop μ-loop
-add-i c = omega arith
-
-loop-less : tie.Need-loop-less Inv-loop μ-loop
-loop-less c = falls _ _ (c .before .before .loop-test .taken)
-
-loop-again : tie.Need-loop-again Inv-loop μ-loop
-loop-again c =
-    written-more (c .before .before .before .loop .inv) _ (c .before .before .loop-test .taken)
-    (ap₂ (step (c .before .before .before .before .args .form))
-    (written-before (c .before .before .before .loop .inv) _ (omega arith))
-    (written-before (c .before .before .before .loop .inv) _ (omega arith)))
-
-same-length : tie.Need-same-length Inv-loop μ-loop
-same-length c = written-length (c .before .loop .inv)
-
-returns : tie.Need-returns Inv-loop μ-loop
-returns c = written-all (c .before .loop .inv) (c .loop-test .left)
+returns-4 : tie.Need-returns-4
+returns-4 c =
+    let a = c .before .before .before .before .before .before .before .before .before .before .before .args in
+    put (splice (a .rows .now) (a .to) (tabulate (a .count) (combined (a .form) (a .x) (a .y) (a .rows .now)))) (a .rows .now)
+    (step-second (a .x) (a .y) (a .to) (a .count) (length (a .rows .now)) (passed (c .before .before .before .before .before .before .before .before .before .has-room .ensures) (c .before .before .before .before .before .before .before .before .if1 .left)) (passed (c .before .before .before .before .before .before .before .has-room2 .ensures) (c .before .before .before .before .before .before .if2 .left))
+    (passed (c .before .before .before .before .before .has-room3 .ensures) (c .before .before .before .before .if3 .left)))
+    (c .before .before .combine-bytes .ensures)
 
 pub combine-spec : {M : Type 1} → statement M
 combine-spec =
     tie.close
     (tie.spec
-    Inv-loop
-    μ-loop
-    loop-holds
-    add-a
-    slice-read-a
-    add-b
-    slice-read-b
-    add-rows
-    slice-write-rows
-    add-i
-    loop-less
-    loop-again
+    has-room-requires
+    returns
+    has-room-requires-2
+    returns-2
+    has-room-requires-3
+    returns-3
+    combine-bytes-requires
     same-length
-    returns)
+    returns-4)

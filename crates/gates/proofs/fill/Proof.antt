@@ -1,53 +1,25 @@
--- `gates::fill` meets its contract. The loop has written one byte for each turn.
-use Prim.Native.Nat.{_-_}
-use native.Mathlib.Omega.{arith}
-use mathlib.Core.Path.{refl}
-use borrow.Author.Count.{falls}
-use Rattle.gates.proofs.Splice.{Written, written-none, written-more, written-length, written-all}
+-- `gates::fill` meets its contract: where there is no room the rows are left as they are.
+use lib.ListN.{length}
+use borrow.Author.Needs.{needs}
+use Rattle.gates.proofs.Fitting.{refused, passed, ends-within, kept, put}
 use Rattle.gates.proofs.fill.Statement.{statement}
 use Rattle.gates.proofs.fill.Tie as tie
 
-abbrev Inv-loop : tie.InvT-loop
-Inv-loop rows₀ to count byte i₀ rows i = Written rows₀ to count (λ n. byte) rows i
+has-room-requires : tie.Need-has-room-requires
+has-room-requires c κs = search needs
 
-abbrev μ-loop : tie.MeasureT-loop
-μ-loop rows₀ to count byte i₀ rows i = count - i
+returns : tie.Need-returns
+returns c = kept _ (c .before .before .before .args .rows .now) (refused (c .before .has-room .ensures) (c .if1 .taken))
 
-loop-holds : tie.Need-loop-holds Inv-loop μ-loop
-loop-holds c = written-none (c .pre)
+fill-bytes-requires : tie.Need-fill-bytes-requires
+fill-bytes-requires c κs = let a = c .before .before .before .before .args in ends-within (length (a .rows .now)) (a .to) (a .count) (c .before .before .has-room .ensures) (c .before .if1 .left)
 
-add-rows : tie.Need-add-rows Inv-loop μ-loop
-add-rows c = omega arith
+same-length : tie.Need-same-length
+same-length c = search needs
 
-slice-write-rows : tie.Need-slice-write-rows Inv-loop μ-loop
-slice-write-rows c = omega (arith, written-length (c .before .loop .inv))
-
-add-i : tie.Need-add-i Inv-loop μ-loop
-add-i c = omega arith
-
-loop-less : tie.Need-loop-less Inv-loop μ-loop
-loop-less c = falls _ _ (c .loop-test .taken)
-
-loop-again : tie.Need-loop-again Inv-loop μ-loop
-loop-again c = written-more (c .before .loop .inv) _ (c .loop-test .taken) refl
-
-same-length : tie.Need-same-length Inv-loop μ-loop
-same-length c = written-length (c .before .loop .inv)
-
-returns : tie.Need-returns Inv-loop μ-loop
-returns c = written-all (c .before .loop .inv) (c .loop-test .left)
+returns-2 : tie.Need-returns-2
+returns-2 c = put _ (c .before .before .before .before .before .before .before .args .rows .now) (passed (c .before .before .before .before .before .has-room .ensures) (c .before .before .before .before .if1 .left)) (c .before .before .fill-bytes .ensures)
 
 pub fill-spec : {M : Type 1} → statement M
 fill-spec =
-    tie.close
-    (tie.spec
-    Inv-loop
-    μ-loop
-    loop-holds
-    add-rows
-    slice-write-rows
-    add-i
-    loop-less
-    loop-again
-    same-length
-    returns)
+    tie.close (tie.spec has-room-requires returns fill-bytes-requires same-length returns-2)

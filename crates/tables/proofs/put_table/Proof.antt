@@ -1,24 +1,33 @@
--- `tables::put_table` meets its contract.
+-- `tables::put_table` meets its contract: the row that `table_row` names holds the circuit's table, and is copied.
+use Prim.Native.Nat.{ℕ, _+_, _≤_}
 use native.Mathlib.Omega.{arith}
-use Prim.Native.Nat.{_+_, _-_, _<_}
-use mathlib.Core.Path.{sym, ap, subst, _∙_}
-use denote.Ref.{now}
-use Prim.Native.Nat.{ℕ, _≤_}
+use mathlib.Core.Path.{sym, subst}
 use lib.ListN.{length}
-use Rattle.gates.specs.Rows.{splice}
-use Rattle.tables.proofs.Putting.{shape-bytes, table-inside, table-part}
 use borrow.Author.Needs.{needs}
+use Rattle.tables.proofs.Putting.{sound-kept, shape-bytes, table-inside, table-put}
 use Rattle.tables.proofs.put_table.Statement.{statement}
 use Rattle.tables.proofs.put_table.Tie as tie
 
+forms-of-requires : tie.Need-forms-of-requires
+forms-of-requires c κs = c .before .before .pre .0 .valid .gates-few
+
 good-circuit-requires : tie.Need-good-circuit-requires
-good-circuit-requires c κs = search needs
+good-circuit-requires c κs = (c .before .before .before .before .pre .0, c .before .forms-of .ensures)
 
 table-row-requires : tie.Need-table-row-requires
-table-row-requires c κs = search needs
+table-row-requires c κs =
+    let a = c .before .before .before .before .before .before .before .before .args in
+    let pre = c .before .before .before .before .before .before .before .before .pre in
+    let good = c .before .before .before .good-circuit in
+    (sound-kept (a .job) (a .shape) (a .rows .now) (good .last .0) (pre .0) (good .kept .0), c .before .before .before .before .before .forms-of .ensures, good .ensures, pre .1)
 
 copy-requires : tie.Need-copy-requires
-copy-requires c κs = (subst (λ (k : ℕ). 0 + k ≤ length (now (c .before .before .before .before .before .before .before .before .before .before .before .before .args .out))) (sym (shape-bytes (c .before .before .before .before .before .before .before .before .before .before .before .before .args .job) (c .before .before .before .before .before .before .before .before .before .before .before .before .args .shape) (now (c .before .before .before .before .before .before .before .before .before .before .before .before .args .rows)) (c .before .before .before .before .before .before .before .before .before .before .before .before .pre .0))) (omega (arith, c .before .before .before .before .before .before .before .before .before .before .before .before .pre .2)), table-inside (c .before .before .before .before .before .before .before .before .before .before .before .before .args .job) (c .before .before .before .before .before .before .before .before .before .before .before .before .args .shape) (now (c .before .before .before .before .before .before .before .before .before .before .before .before .args .rows)) _ _ _ (c .before .before .before .before .before .before .before .before .before .before .before .before .pre .0) (c .before .before .before .before .table-row .ensures))
+copy-requires c κs =
+    let a = c .before .before .before .before .before .before .before .before .before .before .before .before .before .args in
+    let pre = c .before .before .before .before .before .before .before .before .before .before .before .before .before .pre in (
+      subst (λ (k : ℕ). 0 + k ≤ length (a .out .now)) (sym (shape-bytes (a .job) (a .shape) (a .rows .now) (pre .0))) (omega (arith, pre .2)),
+      table-inside (a .job) (a .shape) (a .rows .now) _ _ _ (pre .0) (c .before .before .before .before .table-row .ensures),
+    )
 
 same-length : tie.Need-same-length
 same-length c = search needs
@@ -27,12 +36,17 @@ same-length-2 : tie.Need-same-length-2
 same-length-2 c = search needs
 
 returns : tie.Need-returns
-returns c = c .before .before .copy .ensures ∙ ap (splice (now (c .before .before .before .before .before .before .before .before .before .before .before .before .before .before .before .args .out)) 0) (table-part (c .before .before .before .before .before .before .before .before .before .before .before .before .before .before .before .args .job) (c .before .before .before .before .before .before .before .before .before .before .before .before .before .before .before .args .shape) (now (c .before .before .before .before .before .before .before .before .before .before .before .before .before .before .before .args .rows)) _ _ _ (c .before .before .before .before .before .before .before .before .before .before .before .before .before .before .before .pre .0) (c .before .before .before .before .before .before .before .table-row .ensures))
+returns c =
+    let a = c .before .before .before .before .before .before .before .before .before .before .before .before .before .before .before .before .args in
+    let row = c .before .before .before .before .before .before .before .table-row in
+    let copy = c .before .before .copy in
+    table-put (a .job) (a .shape) (a .rows .now) (row .last .0) (a .circuit) (row .result) (a .out .now) (copy .last .0) (c .before .before .before .before .before .before .before .before .before .before .before .before .before .before .before .before .pre .0) (row .ensures) (copy .ensures)
 
 pub put-table-spec : {M : Type 1} → statement M
 put-table-spec =
     tie.close
     (tie.spec
+    forms-of-requires
     good-circuit-requires
     table-row-requires
     copy-requires

@@ -1,19 +1,18 @@
--- `tables::put_tables` meets its contract.
+-- `tables::put_tables` meets its contract. The loop has put the tables of the circuits below c, and the good circuit's rows stand.
 use borrow.Author.Needs.{needs}
 use native.Mathlib.Omega.{arith}
-use Prim.Native.Nat.{_+_, _-_, _<_}
-use mathlib.Core.Path.{sym, ap, subst, _∙_}
-use denote.Ref.{now}
+use Prim.Native.Nat.{_-_}
+use mathlib.Core.Path.{_∙_}
 use borrow.Author.Count.{falls}
 use Rattle.tables.proofs.Putting.{Putting, sound-kept, table-inside, putting-start, putting-room, putting-length, putting-next, putting-end}
 use Rattle.tables.proofs.put_tables.Statement.{statement}
 use Rattle.tables.proofs.put_tables.Tie as tie
 
 abbrev Inv-loop : tie.InvT-loop
-Inv-loop out₀ rows₀ job shape circuits bytes c₀ out rows c = Putting job shape out₀ rows₀ out rows c
+Inv-loop out₀ rows₀ job shape circuits bytes forms c₀ out rows c = Putting job shape out₀ rows₀ out rows c
 
 abbrev μ-loop : tie.MeasureT-loop
-μ-loop out₀ rows₀ job shape circuits bytes c₀ out rows c = circuits - c
+μ-loop out₀ rows₀ job shape circuits bytes forms c₀ out rows c = circuits - c
 
 cast-circuits : tie.Need-cast-circuits Inv-loop μ-loop
 cast-circuits c = search needs
@@ -21,20 +20,43 @@ cast-circuits c = search needs
 add-circuits : tie.Need-add-circuits Inv-loop μ-loop
 add-circuits c = search needs
 
+forms-of-requires : tie.Need-forms-of-requires Inv-loop μ-loop
+forms-of-requires c κs = c .before .before .before .pre .0 .valid .gates-few
+
 good-circuit-requires : tie.Need-good-circuit-requires Inv-loop μ-loop
-good-circuit-requires c κs = c .before .before .before .before .pre .0
+good-circuit-requires c κs = (c .before .before .before .before .before .pre .0, c .before .forms-of .ensures)
 
 loop-holds : tie.Need-loop-holds Inv-loop μ-loop
-loop-holds c = putting-start (c .before .before .before .before .before .before .before .args .job) (c .before .before .before .before .before .before .before .args .shape) (now (c .before .before .before .before .before .before .before .args .out)) (c .before .before .good-circuit .last .0) (sound-kept (c .before .before .before .before .before .before .before .args .job) (c .before .before .before .before .before .before .before .args .shape) (now (c .before .before .before .before .before .before .before .args .rows)) (c .before .before .good-circuit .last .0) (c .before .before .before .before .before .before .before .pre .0) (c .before .before .good-circuit .kept .0)) (c .before .before .good-circuit .ensures) (c .before .before .before .before .before .before .before .pre .1)
+loop-holds c =
+    let a = c .before .before .before .before .before .before .before .before .args in
+    let pre = c .before .before .before .before .before .before .before .before .pre in
+    let good = c .before .before .good-circuit in
+    putting-start (a .job) (a .shape) (a .out .now) (good .last .0)
+    (sound-kept (a .job) (a .shape) (a .rows .now) (good .last .0) (pre .0) (good .kept .0)) (good .ensures) (pre .1)
 
 table-row-requires : tie.Need-table-row-requires Inv-loop μ-loop
-table-row-requires c κs = (c .before .before .loop .inv .sound, c .before .before .loop .inv .good, omega (arith, c .before .loop-test .taken))
+table-row-requires c κs = (c .before .before .loop .inv .sound, c .before .before .before .before .before .before .before .forms-of .ensures, c .before .before .loop .inv .good, omega (arith, c .before .loop-test .taken))
 
 mul-copy : tie.Need-mul-copy Inv-loop μ-loop
-mul-copy c = omega (arith, putting-room (c .before .before .before .before .before .before .before .before .before .before .before .before .before .before .args .job) (c .before .before .before .before .before .before .before .before .before .before .before .before .before .before .args .shape) (now (c .before .before .before .before .before .before .before .before .before .before .before .before .before .before .args .out)) (c .before .before .before .before .before .before .before .before .before .good-circuit .last .0) (c .before .before .before .before .before .before .loop .out) (c .before .before .before .before .before .before .loop .rows) (c .before .before .before .before .before .before .loop .c) (c .before .before .before .before .before .before .loop .inv) (c .before .before .before .before .before .loop-test .taken), putting-length (c .before .before .before .before .before .before .before .before .before .before .before .before .before .before .args .job) (c .before .before .before .before .before .before .before .before .before .before .before .before .before .before .args .shape) (now (c .before .before .before .before .before .before .before .before .before .before .before .before .before .before .args .out)) (c .before .before .before .before .before .before .before .before .before .good-circuit .last .0) (c .before .before .before .before .before .before .loop .out) (c .before .before .before .before .before .before .loop .rows) (c .before .before .before .before .before .before .loop .c) (c .before .before .before .before .before .before .loop .inv), c .before .before .before .before .before .before .before .before .before .before .before .before .before .before .good .0 .0)
+mul-copy c =
+    let a = c .before .before .before .before .before .before .before .before .before .before .before .before .before .before .before .args in
+    let first = c .before .before .before .before .before .before .before .before .before .good-circuit .last .0 in
+    let loop = c .before .before .before .before .before .before .loop in
+    omega (
+      arith,
+      putting-room (a .job) (a .shape) (a .out .now) first (loop .out) (loop .rows) (loop .c) (loop .inv) (c .before .before .before .before .before .loop-test .taken),
+      putting-length (a .job) (a .shape) (a .out .now) first (loop .out) (loop .rows) (loop .c) (loop .inv),
+      c .before .before .before .before .before .before .before .before .before .before .before .before .before .before .before .good .0 .0,
+    )
 
 copy-requires : tie.Need-copy-requires Inv-loop μ-loop
-copy-requires c κs = (putting-room (c .before .before .before .before .before .before .before .before .before .before .before .before .before .before .before .args .job) (c .before .before .before .before .before .before .before .before .before .before .before .before .before .before .before .args .shape) (now (c .before .before .before .before .before .before .before .before .before .before .before .before .before .before .before .args .out)) (c .before .before .before .before .before .before .before .before .before .before .good-circuit .last .0) (c .before .before .before .before .before .before .before .loop .out) (c .before .before .before .before .before .before .before .loop .rows) (c .before .before .before .before .before .before .before .loop .c) (c .before .before .before .before .before .before .before .loop .inv) (c .before .before .before .before .before .before .loop-test .taken), table-inside (c .before .before .before .before .before .before .before .before .before .before .before .before .before .before .before .args .job) (c .before .before .before .before .before .before .before .before .before .before .before .before .before .before .before .args .shape) (c .before .before .before .before .before .before .before .loop .rows) _ _ _ (c .before .before .before .before .before .before .before .loop .inv .sound) (c .before .before .before .before .table-row .ensures))
+copy-requires c κs =
+    let a = c .before .before .before .before .before .before .before .before .before .before .before .before .before .before .before .before .args in
+    let first = c .before .before .before .before .before .before .before .before .before .before .good-circuit .last .0 in
+    let loop = c .before .before .before .before .before .before .before .loop in (
+      putting-room (a .job) (a .shape) (a .out .now) first (loop .out) (loop .rows) (loop .c) (loop .inv) (c .before .before .before .before .before .before .loop-test .taken),
+      table-inside (a .job) (a .shape) (loop .rows) _ _ _ (loop .inv .sound) (c .before .before .before .before .table-row .ensures),
+    )
 
 add-c : tie.Need-add-c Inv-loop μ-loop
 add-c c = omega (arith, c .before .before .before .before .before .before .before .before .before .loop-test .taken)
@@ -43,16 +65,28 @@ loop-less : tie.Need-loop-less Inv-loop μ-loop
 loop-less c = falls _ _ (c .before .before .before .before .before .before .before .before .before .loop-test .taken)
 
 loop-again : tie.Need-loop-again Inv-loop μ-loop
-loop-again c = putting-next (c .before .before .before .before .before .before .before .before .before .before .before .before .before .before .before .before .before .before .args .job) (c .before .before .before .before .before .before .before .before .before .before .before .before .before .before .before .before .before .before .args .shape) (now (c .before .before .before .before .before .before .before .before .before .before .before .before .before .before .before .before .before .before .args .out)) (c .before .before .before .before .before .before .before .before .before .before .before .before .before .good-circuit .last .0) (c .before .before .before .before .before .before .before .before .before .before .loop .out) (c .before .before .before .before .before .before .before .before .before .before .loop .rows) (c .before .before .before .before .before .before .before .before .before .before .loop .c) (c .before .before .before .before .before .before .before .before .before .before .loop .inv) _ _ (c .before .before .before .before .before .before .before .table-row .last .0) (c .before .before .before .before .before .before .before .before .before .loop-test .taken) (c .before .before .before .before .before .before .before .table-row .ensures) (c .before .before .before .before .before .before .before .table-row .kept .0) (c .before .before .copy .ensures)
+loop-again c =
+    let a = c .before .before .before .before .before .before .before .before .before .before .before .before .before .before .before .before .before .before .before .args in
+    let first = c .before .before .before .before .before .before .before .before .before .before .before .before .before .good-circuit .last .0 in
+    let loop = c .before .before .before .before .before .before .before .before .before .before .loop in
+    let row = c .before .before .before .before .before .before .before .table-row in
+    putting-next (a .job) (a .shape) (a .out .now) first (loop .out) (loop .rows) (loop .c) (loop .inv) _ _ (row .last .0) (c .before .before .before .before .before .before .before .before .before .loop-test .taken)
+    (row .ensures) (row .kept .0) (c .before .before .copy .ensures)
 
 same-length : tie.Need-same-length Inv-loop μ-loop
-same-length c = putting-length (c .before .before .before .before .before .before .before .before .before .args .job) (c .before .before .before .before .before .before .before .before .before .args .shape) (now (c .before .before .before .before .before .before .before .before .before .args .out)) (c .before .before .before .before .good-circuit .last .0) (c .before .loop .out) (c .before .loop .rows) (c .before .loop .c) (c .before .loop .inv)
+same-length c =
+    let a = c .before .before .before .before .before .before .before .before .before .before .args in
+    let loop = c .before .loop in
+    putting-length (a .job) (a .shape) (a .out .now) (c .before .before .before .before .good-circuit .last .0) (loop .out) (loop .rows) (loop .c) (loop .inv)
 
 same-length-2 : tie.Need-same-length-2 Inv-loop μ-loop
 same-length-2 c = c .before .loop .inv .long ∙ c .before .before .before .before .good-circuit .kept .0
 
 returns : tie.Need-returns Inv-loop μ-loop
-returns c = putting-end (c .before .before .before .before .before .before .before .before .before .args .job) (c .before .before .before .before .before .before .before .before .before .args .shape) (now (c .before .before .before .before .before .before .before .before .before .args .out)) (c .before .before .before .before .good-circuit .last .0) (c .before .loop .out) (c .before .loop .rows) (c .before .loop .c) (c .before .loop .inv) (c .loop-test .left)
+returns c =
+    let a = c .before .before .before .before .before .before .before .before .before .before .args in
+    let loop = c .before .loop in
+    putting-end (a .job) (a .shape) (a .out .now) (c .before .before .before .before .good-circuit .last .0) (loop .out) (loop .rows) (loop .c) (loop .inv) (c .loop-test .left)
 
 pub put-tables-spec : {M : Type 1} → statement M
 put-tables-spec =
@@ -62,6 +96,7 @@ put-tables-spec =
     μ-loop
     cast-circuits
     add-circuits
+    forms-of-requires
     good-circuit-requires
     loop-holds
     table-row-requires

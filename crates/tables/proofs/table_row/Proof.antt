@@ -1,7 +1,6 @@
 -- `tables::table_row` meets its contract.
 use native.Mathlib.Omega.{arith}
-use Prim.Native.Nat.{_-_, _<_}
-use mathlib.Core.Path.{sym, ap, _∙_}
+use Prim.Native.Nat.{_-_}
 use denote.Ref.{now}
 use Rattle.job.specs.Layout.{maxFaults}
 use Rattle.tables.proofs.Delivered.{row-inside, table-good, table-faulty, fixes}
@@ -16,7 +15,7 @@ mul-result : tie.Need-mul-result
 mul-result c = omega (arith, row-inside (c .before .before .before .args .t2) (c .before .before .before .args .shape) (now (c .before .before .before .args .rows)) (c .before .before .before .args .t2 .output) (c .before .before .before .pre .0) (c .before .before .before .pre .0 .valid .output))
 
 returns : tie.Need-returns
-returns c = table-good (c .before .before .before .args .t2) (c .before .before .before .args .shape) (now (c .before .before .before .args .rows)) (c .before .before .before .pre .0) (c .before .before .before .pre .1) (c .before .if1 .taken)
+returns c = table-good (c .before .before .before .args .t2) (c .before .before .before .args .shape) (now (c .before .before .before .args .rows)) (c .before .before .before .pre .0) (c .before .before .before .pre .2) (c .before .if1 .taken)
 
 sub-entry : tie.Need-sub-entry
 sub-entry c = search needs
@@ -29,7 +28,7 @@ unfolding maxFaults
 element-copy-out-entry c = omega (arith, c .before .before .pre .0 .valid .faults-few)
 
 faulty-circuit-requires : tie.Need-faulty-circuit-requires
-faulty-circuit-requires c κs = (c .before .before .before .before .pre .0, c .before .before .before .before .pre .1, fixes (c .before .before .before .before .args .t2) (c .before .before .before .before .args .circuit - 1) (c .before .before .before .before .pre .0 .valid) (omega arith))
+faulty-circuit-requires c κs = (c .before .before .before .before .pre .0, c .before .before .before .before .pre .1, c .before .before .before .before .pre .2, fixes (c .before .before .before .before .args .t2) (c .before .before .before .before .args .circuit - 1) (c .before .before .before .before .pre .0 .valid) (omega arith))
 
 same-length : tie.Need-same-length
 same-length c = search needs

@@ -30,7 +30,7 @@ fix-rows-requires c κs =
     let first = c .before .before .first in
     let second = c .before .second in
     fault-fixable (start .args .job) (start .args .fault) (first .result) (second .result) (first .ensures) (second .ensures)
-    (start .args .shape) (start .args .rows .now) (start .pre .2) (start .pre .0)
+    (start .args .shape) (start .args .rows .now) (start .pre .3) (start .pre .0)
 
 input-rows-requires : tie.Need-input-rows-requires
 input-rows-requires c κs =
@@ -48,10 +48,12 @@ gate-rows-requires c κs =
     let first = c .before .before .before .before .before .before .before .before .before .before .first in
     let second = c .before .before .before .before .before .before .before .before .before .second in
     let input-rows = c .before .before .before .input-rows in
-    let fix-rows = c .before .before .before .before .before .before .before .fix-rows in
-    sound-planned (start .args .job) (start .args .shape) (planFrom (start .args .job) (first .result) (second .result))
-    (start .args .rows .now) (le-refl (lines (start .args .job))) (start .pre .0)
-    (input-rows .last .0) (input-rows .kept .0 ∙ fix-rows .kept .0)
+    let fix-rows = c .before .before .before .before .before .before .before .fix-rows in (
+      sound-planned (start .args .job) (start .args .shape) (planFrom (start .args .job) (first .result) (second .result))
+          (start .args .rows .now) (le-refl (lines (start .args .job))) (start .pre .0)
+          (input-rows .last .0) (input-rows .kept .0 ∙ fix-rows .kept .0),
+      start .pre .1,
+    )
 
 cast-row-of : tie.Need-cast-row-of
 cast-row-of c = search needs
@@ -83,7 +85,7 @@ returns c =
     let row-of = c .before .row-of in
     faulty-made (start .args .job) (start .args .fault) (first .result) (second .result) (first .ensures) (second .ensures)
     (start .args .shape) (start .args .rows .now) (fix-rows .last .0) (input-rows .last .0) (gate-rows .last .0) (row-of .result)
-    (start .pre .2) (start .pre .0) (start .pre .1)
+    (start .pre .3) (start .pre .0) (start .pre .2)
     (fix-rows .ensures) (input-rows .ensures) (gate-rows .ensures) (row-of .ensures)
 
 pub faulty-circuit-spec : {M : Type 1} → statement M

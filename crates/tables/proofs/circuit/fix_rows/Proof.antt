@@ -2,6 +2,7 @@
 -- the other, from the good circuit's rows, which stand before them.
 use borrow.Author.Needs.{needs}
 use Rattle.tables.proofs.Lines.{stuck-filled, bridge-filled}
+use Rattle.tables.proofs.Shaped.{bridge-spliced}
 use Rattle.tables.proofs.Space.{row-room, row-fits, stuck-roomy, low-roomy, high-roomy, low-fits, high-fits, low-below, high-below}
 use Rattle.tables.proofs.circuit.fix_rows.Statement.{statement}
 use Rattle.tables.proofs.circuit.fix_rows.Tie as tie
@@ -57,30 +58,27 @@ mul-y c =
     high-fits (start .args .fault) (start .args .shape) (start .args .plan) (start .args .rows .now) (start .pre)
     (fault2 .given .0 .0) (fault2 .given .0 .1 .0) (fault2 .given .0 .1 .1 .0) (fault2 .given .1) (start .good .0 .0)
 
+bridge-form-requires : tie.Need-bridge-form-requires
+bridge-form-requires c κs = search needs
+
 cast-row-of-2 : tie.Need-cast-row-of-2
 cast-row-of-2 c = search needs
 
 row-of-requires-2 : tie.Need-row-of-requires-2
 row-of-requires-2 c κs = search needs
 
-mul-bridge-row : tie.Need-mul-bridge-row
-mul-bridge-row c =
-    let start = c .before .before .before .before .before .before in
+mul-combine : tie.Need-mul-combine
+mul-combine c =
+    let start = c .before .before .before .before .before .before .before in
     let row-of2 = c .row-of2 in
-    let fault2 = c .before .before .before .fault2 in
+    let fault2 = c .before .before .before .before .fault2 in
     row-fits (start .args .shape) (start .args .plan) (row-of2 .result) (fault2 .given .0 .0) (start .args .rows .now) (row-of2 .ensures)
     (low-roomy (start .args .fault) (start .args .shape) (start .args .plan) (start .args .rows .now) (start .pre)
     (fault2 .given .0 .0) (fault2 .given .0 .1 .0) (fault2 .given .0 .1 .1 .0) (fault2 .given .1))
     (start .good .0 .0)
 
-bridge-row-requires : tie.Need-bridge-row-requires
-bridge-row-requires c κs =
-    let start = c .before .before .before .before .before .before in
-    let fault2 = c .before .before .before .fault2 in
-    let row-of2 = c .row-of2 in
-    low-below (start .args .fault) (start .args .shape) (start .args .plan) (start .args .rows .now) (start .pre)
-    (fault2 .given .0 .0) (fault2 .given .0 .1 .0) (fault2 .given .0 .1 .1 .0) (fault2 .given .1)
-    (row-of2 .result) (row-of2 .ensures)
+combine-requires : tie.Need-combine-requires
+combine-requires c κs = search needs
 
 cast-row-of-3 : tie.Need-cast-row-of-3
 cast-row-of-3 c = search needs
@@ -88,25 +86,18 @@ cast-row-of-3 c = search needs
 row-of-requires-3 : tie.Need-row-of-requires-3
 row-of-requires-3 c κs = search needs
 
-mul-bridge-row-2 : tie.Need-mul-bridge-row-2
-mul-bridge-row-2 c =
-    let start = c .before .before .before .before .before .before .before .before .before .before .before in
+mul-combine-2 : tie.Need-mul-combine-2
+mul-combine-2 c =
+    let start = c .before .before .before .before .before .before .before .before .before .before .before .before in
     let row-of3 = c .row-of3 in
-    let fault2 = c .before .before .before .before .before .before .before .before .fault2 in
+    let fault2 = c .before .before .before .before .before .before .before .before .before .fault2 in
     row-fits (start .args .shape) (start .args .plan) (row-of3 .result) (fault2 .given .0 .1 .0) (start .args .rows .now) (row-of3 .ensures)
     (high-roomy (start .args .fault) (start .args .shape) (start .args .plan) (start .args .rows .now) (start .pre)
     (fault2 .given .0 .0) (fault2 .given .0 .1 .0) (fault2 .given .0 .1 .1 .0) (fault2 .given .1))
     (start .good .0 .0)
 
-bridge-row-requires-2 : tie.Need-bridge-row-requires-2
-bridge-row-requires-2 c κs =
-    let start = c .before .before .before .before .before .before .before .before .before .before .before in
-    let fault2 = c .before .before .before .before .before .before .before .before .fault2 in
-    let row-of3 = c .row-of3 in
-    let bridge-row = c .before .before .before .before .bridge-row in
-    high-below (start .args .fault) (start .args .shape) (start .args .plan) (start .args .rows .now) (start .pre)
-    (fault2 .given .0 .0) (fault2 .given .0 .1 .0) (fault2 .given .0 .1 .1 .0) (fault2 .given .1)
-    (row-of3 .result) (bridge-row .last .0) (row-of3 .ensures) (bridge-row .kept .0)
+combine-requires-2 : tie.Need-combine-requires-2
+combine-requires-2 c κs = search needs
 
 same-length : tie.Need-same-length
 same-length c = search needs
@@ -125,15 +116,22 @@ same-length-2 c = search needs
 
 returns-2 : tie.Need-returns-2
 returns-2 c =
-    let start = c .before .before .before .before .before .before .before .before .before .before .before .before .before .before in
-    let bridge-row2 = c .before .before .bridge-row2 in
-    let fault2 = c .before .before .before .before .before .before .before .before .before .before .before .fault2 in
-    let row-of2 = c .before .before .before .before .before .before .before .before .row-of2 in
-    let row-of3 = c .before .before .before .row-of3 in
-    let bridge-row = c .before .before .before .before .before .before .before .bridge-row in
-    bridge-filled (start .args .shape) (start .args .plan) (start .args .fault) (start .args .rows .now) (bridge-row2 .last .0)
-    (fault2 .given .0 .0) (fault2 .given .0 .1 .0) (row-of2 .result) (row-of3 .result) (fault2 .given .0 .1 .1 .0) (bridge-row .last .0)
-    (fault2 .given .1) (row-of2 .ensures) (row-of3 .ensures) (bridge-row .ensures) (bridge-row2 .ensures)
+    let start = c .before .before .before .before .before .before .before .before .before .before .before .before .before .before .before in
+    let a = start .args in
+    let is = c .before .before .before .before .before .before .before .before .before .before .before .before .fault2 .given in
+    let low = c .before .before .before .before .before .before .before .before .row-of2 in
+    let high = c .before .before .before .row-of3 in
+    let form = c .before .before .before .before .before .before .before .before .before .before .bridge-form in
+    let mid = c .before .before .before .before .before .before .before .combine in
+    bridge-filled (a .shape) (a .plan) (a .fault) (a .rows .now) (c .before .before .combine2 .last .0)
+    (is .0 .0) (is .0 .1 .0) (low .result) (high .result) (is .0 .1 .1 .0) (mid .last .0) (is .1) (low .ensures) (high .ensures)
+    (bridge-spliced (a .shape) _ _ _ (a .rows .now)
+    (low-below (a .fault) (a .shape) (a .plan) (a .rows .now) (start .pre) (is .0 .0) (is .0 .1 .0) (is .0 .1 .1 .0) (is .1) (low .result) (low .ensures))
+    (is .0 .1 .1 .0) (form .result) (form .ensures) (mid .ensures))
+    (bridge-spliced (a .shape) _ _ _ (mid .last .0)
+    (high-below (a .fault) (a .shape) (a .plan) (a .rows .now) (start .pre) (is .0 .0) (is .0 .1 .0) (is .0 .1 .1 .0) (is .1)
+    (high .result) (mid .last .0) (high .ensures) (mid .kept .0))
+    (is .0 .1 .1 .0) (form .result) (form .ensures) (c .before .before .combine2 .ensures))
 
 pub fix-rows-spec : {M : Type 1} → statement M
 fix-rows-spec =
@@ -149,14 +147,15 @@ fix-rows-spec =
     mul-x
     cast-y
     mul-y
+    bridge-form-requires
     cast-row-of-2
     row-of-requires-2
-    mul-bridge-row
-    bridge-row-requires
+    mul-combine
+    combine-requires
     cast-row-of-3
     row-of-requires-3
-    mul-bridge-row-2
-    bridge-row-requires-2
+    mul-combine-2
+    combine-requires-2
     same-length
     returns
     same-length-2

@@ -1,9 +1,11 @@
 -- `tables::circuit::gate_line` meets its contract: the row of a fixed line is left as it is, another is filled by the gate step.
 use borrow.Author.Needs.{needs}
 use mathlib.Core.Path.{sym}
-use Rattle.job.specs.Record.{gateA, gateB}
+use Rattle.job.specs.Record.{gateKind, gateA, gateB}
+use Rattle.gates.proofs.Answers.{kind-lt}
 use Rattle.tables.proofs.Lines.{gate-kept, gate-filled}
 use Rattle.tables.proofs.Placing.{rowOf-of, low-fixed, high-fixed, not-fixed}
+use Rattle.tables.proofs.Shaped.{gate-spliced}
 use Rattle.tables.proofs.Space.{row-fits, lower-fits, rows-below}
 use Rattle.tables.proofs.circuit.gate_line.Statement.{statement}
 use Rattle.tables.proofs.circuit.gate_line.Tie as tie
@@ -61,29 +63,15 @@ mul-y c =
 row-of-requires-3 : tie.Need-row-of-requires-3
 row-of-requires-3 c κs = search needs
 
-mul-gate-row : tie.Need-mul-gate-row
-mul-gate-row c =
+mul-combine : tie.Need-mul-combine
+mul-combine c =
     let start = c .before .before .before .before .before .before .before .before .before .before .before .before in
     let row-of3 = c .before .row-of3 in
     row-fits (start .args .shape) (start .args .plan) (row-of3 .result) (start .args .line) (start .args .rows .now) (row-of3 .ensures)
     (start .pre .0) (start .good .0 .0)
 
-gate-row-requires : tie.Need-gate-row-requires
-gate-row-requires c κs =
-    let start = c .before .before .before .before .before .before .before .before .before .before .before .before in
-    let row-of = c .before .before .before .before .before .before .before .row-of in
-    let row-of2 = c .before .before .before .before .row-of2 in
-    let row-of3 = c .before .row-of3 in
-    let first = c .before .before .before .before .before .before .before .before .first in
-    let second = c .before .before .before .before .before .second in
-    rows-below (start .args .shape) (start .args .plan) (row-of .result) (row-of2 .result) (row-of3 .result)
-    (gateA (start .args .gate)) (gateB (start .args .gate)) (start .args .line) (start .args .rows .now)
-    (rowOf-of (start .args .plan) (row-of .ensures) (first .ensures))
-    (rowOf-of (start .args .plan) (row-of2 .ensures) (second .ensures))
-    (row-of3 .ensures)
-    (start .pre .1)
-    (start .pre .2)
-    (start .pre .0)
+combine-requires : tie.Need-combine-requires
+combine-requires c κs = search needs
 
 same-length : tie.Need-same-length
 same-length c = search needs
@@ -94,18 +82,22 @@ returns-3 c =
     let row-of = c .before .before .before .before .before .before .before .before .before .before .row-of in
     let row-of2 = c .before .before .before .before .before .before .before .row-of2 in
     let row-of3 = c .before .before .before .before .row-of3 in
-    let gate-row = c .before .before .gate-row in
+    let combine = c .before .before .combine in
     let if1 = c .before .before .before .before .before .before .before .before .before .before .before .before .before .if1 in
     let if2 = c .before .before .before .before .before .before .before .before .before .before .before .before .if2 in
     let first = c .before .before .before .before .before .before .before .before .before .before .before .first in
     let second = c .before .before .before .before .before .before .before .before .second in
+    let x-at = rowOf-of (start .args .plan) (row-of .ensures) (first .ensures) in
+    let y-at = rowOf-of (start .args .plan) (row-of2 .ensures) (second .ensures) in
     gate-filled (start .args .shape) (start .args .plan) (start .args .line) (start .args .rows .now) (start .args .gate)
-    (row-of .result) (row-of2 .result) (row-of3 .result) (gate-row .last .0)
+    (row-of .result) (row-of2 .result) (row-of3 .result) (combine .last .0)
     (not-fixed (start .args .plan) (start .args .line) (if1 .left) (if2 .left))
-    (rowOf-of (start .args .plan) (row-of .ensures) (first .ensures))
-    (rowOf-of (start .args .plan) (row-of2 .ensures) (second .ensures))
-    (row-of3 .ensures)
-    (gate-row .ensures)
+    x-at y-at (row-of3 .ensures)
+    (gate-spliced (start .args .shape) _ _ _ (start .args .rows .now)
+    (rows-below (start .args .shape) (start .args .plan) (row-of .result) (row-of2 .result) (row-of3 .result)
+    (gateA (start .args .gate)) (gateB (start .args .gate)) (start .args .line) (start .args .rows .now)
+    x-at y-at (row-of3 .ensures) (start .pre .1) (start .pre .2) (start .pre .0))
+    (gateKind (start .args .gate)) (start .args .form) (kind-lt (start .args .gate)) (start .pre .3) (combine .ensures))
 
 pub gate-line-spec : {M : Type 1} → statement M
 gate-line-spec =
@@ -120,7 +112,7 @@ gate-line-spec =
     row-of-requires-2
     mul-y
     row-of-requires-3
-    mul-gate-row
-    gate-row-requires
+    mul-combine
+    combine-requires
     same-length
     returns-3)

@@ -19,15 +19,17 @@ add-lines c = search needs
 input-rows-requires : tie.Need-input-rows-requires
 input-rows-requires c κs =
     let start = c .before .before .before .before in
-    inputs-roomy (start .args .job) (start .args .shape) (goodPlan (start .args .job)) (start .args .rows .now) zero-le (start .pre)
+    inputs-roomy (start .args .job) (start .args .shape) (goodPlan (start .args .job)) (start .args .rows .now) zero-le (start .pre .0)
     (start .args .rows .now) refl
 
 gate-rows-requires : tie.Need-gate-rows-requires
 gate-rows-requires c κs =
     let start = c .before .before .before .before .before .before .before .before in
-    let input-rows = c .before .before .before .input-rows in
-    sound-planned (start .args .job) (start .args .shape) (goodPlan (start .args .job)) (start .args .rows .now) zero-le (start .pre)
-    (input-rows .last .0) (input-rows .kept .0)
+    let input-rows = c .before .before .before .input-rows in (
+      sound-planned (start .args .job) (start .args .shape) (goodPlan (start .args .job)) (start .args .rows .now) zero-le (start .pre .0)
+          (input-rows .last .0) (input-rows .kept .0),
+      start .pre .1,
+    )
 
 same-length : tie.Need-same-length
 same-length c = search needs
@@ -37,7 +39,7 @@ returns c =
     let start = c .before .before .before .before .before .before .before .before .before .before .before in
     let input-rows = c .before .before .before .before .before .before .input-rows in
     let gate-rows = c .before .before .gate-rows in
-    good-made (start .args .job) (start .args .shape) (start .args .rows .now) (input-rows .last .0) (gate-rows .last .0) (start .pre)
+    good-made (start .args .job) (start .args .shape) (start .args .rows .now) (input-rows .last .0) (gate-rows .last .0) (start .pre .0)
     (input-rows .ensures) (gate-rows .ensures)
 
 pub good-circuit-spec : {M : Type 1} → statement M

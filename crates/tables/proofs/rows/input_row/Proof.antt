@@ -1,10 +1,11 @@
--- `gates::input_row` meets its contract: bytes of one pattern for the first three inputs, else bytes that alternate.
+-- `tables::rows::input_row` meets its contract: bytes of one pattern for the first three inputs, else bytes that alternate.
 use mathlib.Core.Path.{sym, ap, _∙_}
 use mathlib.Core.Logic.{⊎-elim}
 use borrow.Author.Needs.{needs}
-use Rattle.gates.proofs.Tabled.{patternOf, pattern-rest, pattern-spliced, alternate-spliced}
-use Rattle.gates.proofs.input_row.Statement.{statement}
-use Rattle.gates.proofs.input_row.Tie as tie
+use Rattle.gates.proofs.Tabled.{patternOf, pattern-rest}
+use Rattle.tables.proofs.Shaped.{pattern-spliced, alternate-spliced}
+use Rattle.tables.proofs.rows.input_row.Statement.{statement}
+use Rattle.tables.proofs.rows.input_row.Tie as tie
 
 fill-requires : tie.Need-fill-requires
 fill-requires c κs = search needs
@@ -20,7 +21,7 @@ returns c =
     let start = c .before .before .before .before .before .before .before .before in
     let a = start .args in
     let chosen = c .before .before .before .before .before .match in
-    pattern-spliced (a .shape) (a .to) (a .rows .now) (start .pre .0 .shaped) (a .line) (chosen .pattern) (c .before .before .before .before .before .before .if1 .taken)
+    pattern-spliced (a .shape) (a .to) (a .rows .now) (start .pre .0) (a .line) (chosen .pattern) (c .before .before .before .before .before .before .if1 .taken)
     (⊎-elim (λ w. w .1 ∙ ap patternOf (sym (w .0 .keys1)))
     (⊎-elim (λ w. w .1 ∙ ap patternOf (sym (w .0 .keys2))) (λ w. w .1 ∙ sym (pattern-rest (a .line) (w .0 .rest .0 .1) (w .0 .rest .1))))
     (chosen .came))
@@ -33,7 +34,7 @@ returns-2 : tie.Need-returns-2
 returns-2 c =
     let start = c .before .before .before .before .before .before in
     let a = start .args in
-    alternate-spliced (a .shape) (a .to) (a .rows .now) (start .pre .0 .shaped) (a .line) (c .before .before .before .before .if1 .left) (start .pre .1) (c .before .before .alternate .ensures)
+    alternate-spliced (a .shape) (a .to) (a .rows .now) (start .pre .0) (a .line) (c .before .before .before .before .if1 .left) (start .pre .1) (c .before .before .alternate .ensures)
 
 pub input-row-spec : {M : Type 1} → statement M
 input-row-spec =

@@ -1,12 +1,12 @@
--- `gates::shape_of` meets its contract: the shift is a power of 2, and the arms give the mask.
+-- `tables::rows::shape_of` meets its contract: the shift is a power of 2, and the arms give the mask.
 use Prim.Native.Nat.{_+_, _/_}
 use mathlib.Core.Path.{_≡_, sym, ap, _∙_}
 use mathlib.Core.Logic.{⊎-elim}
 use borrow.Author.Needs.{needs}
 use Rattle.gates.specs.Form.{keepOf}
 use Rattle.gates.proofs.Kept.{at-least-three, keep-rest, shl-one, size-fits}
-use Rattle.gates.proofs.shape_of.Statement.{statement}
-use Rattle.gates.proofs.shape_of.Tie as tie
+use Rattle.tables.proofs.rows.shape_of.Statement.{statement}
+use Rattle.tables.proofs.rows.shape_of.Tie as tie
 
 shl-t4 : tie.Need-shl-t4
 shl-t4 c = search needs
