@@ -1,6 +1,6 @@
 -- The spectrum of three inputs, from its eight entries (specs/Spectrum.antt).
 --
---   entry-inside     a place that differs from k in its three lowest bits lies within the bytes
+--   entry-inside     a place that differs from k in its three lowest bits lies within the table
 --   place-fits       such a place fits a usize
 --   bit              an entry is 0 or 1
 --   fits-2 .. fits-8   a sum of two to eight entries fits a u16
@@ -8,6 +8,7 @@
 --   eightSums        the eight sums, as the kind has them
 --   eight-spectrum   the eight sums are the spectrum
 --   eight-written    eight numbers, stored one after the other, are the spectrum
+--   eight-added      eight sums in a list are the MRM spectrum
 use Prim.Native.Nat.{ℕ, _+_, _*_, _^_, _≤_, _<_}
 use native.Mathlib.Omega.{arith}
 use mathlib.Core.Path.{_≡_, refl, sym, ap, subst, _∙_}
@@ -22,11 +23,12 @@ use Rattle.bits.specs.Packed.{entry, tabulate}
 use Rattle.bits.proofs.Packed.{entry-lt}
 use Rattle.spectra.specs.Spectrum.{inside, sumTo, subsetSum, reduce, coefficient, spectrum}
 use Rattle.spectra.specs.declared.Kind.{Kind}
+use Rattle.spectra.specs.declared.Kind.the-variants.{Mrm}
 
-pub entry-inside : (at k t len : ℕ) → k < 8 → t < 8 → at + 8 ≤ 8 * len → at + bitXor t k < 8 * len
-entry-inside at k t len hk ht h = below (bitXor t k) (xor-lt 3 t k ht hk)
+pub entry-inside : (at k t size : ℕ) → k < 8 → t < 8 → at + 8 ≤ size → at + bitXor t k < size
+entry-inside at k t size hk ht h = below (bitXor t k) (xor-lt 3 t k ht hk)
   where
-    below : (x : ℕ) → x < 8 → at + x < 8 * len
+    below : (x : ℕ) → x < 8 → at + x < size
     below x l = omega arith
 
 pub place-fits : (at k t : ℕ) → k < 8 → t < 8 → at + 8 < 2 ^ 64 → Fits w64 (at + bitXor t k)
@@ -150,3 +152,12 @@ module _ (kind : Kind) {x0 x1 x2 x3 x4 x5 x6 x7 r0 r1 r2 r3 r4 r5 r6 r7 : ℕ} w
       eight-stored l (eight r0 r1 r2 r3 r4 r5 r6 r7) len refl
       ∙ eight-results (λ t. table (bitXor t k)) (h0 ∙ ap table (sym (xor-zero-l k))) h1 h2 h3 h4 h5 h6 h7 e0 e1 e2 e3 e4 e5 e6 e7
       ∙ sym (eight-spectrum kind k table)
+
+pub eight-added : (table : ℕ → ℕ) (k : ℕ) {x0 x1 x2 x3 x4 x5 x6 x7 : ℕ}
+    → x0 ≡ table k → x1 ≡ table (bitXor 1 k) → x2 ≡ table (bitXor 2 k) → x3 ≡ table (bitXor 3 k)
+    → x4 ≡ table (bitXor 4 k) → x5 ≡ table (bitXor 5 k) → x6 ≡ table (bitXor 6 k) → x7 ≡ table (bitXor 7 k)
+    → eight x0 (x0 + x1) (x0 + x2) (x0 + x1 + x2 + x3) (x0 + x4) (x0 + x1 + x4 + x5) (x0 + x2 + x4 + x6) (x0 + x1 + x2 + x3 + x4 + x5 + x6 + x7)
+    ≡ spectrum Mrm 3 k table
+eight-added table k h0 h1 h2 h3 h4 h5 h6 h7 =
+    eight-results Mrm (λ t. table (bitXor t k)) (h0 ∙ ap table (sym (xor-zero-l k))) h1 h2 h3 h4 h5 h6 h7 refl refl refl refl refl refl refl refl
+    ∙ sym (eight-spectrum Mrm k table)

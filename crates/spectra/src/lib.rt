@@ -1,9 +1,10 @@
 // Reed-Muller spectra of packed truth tables, of both kinds, in every polarity (document 01, "Spectra").
-ghost use Prim.Native.Nat.{_+_, _*_, _^_, _≤_, _<_};
+ghost use Prim.Native.Nat.{_+_, _*_, _%_, _^_, _≤_, _<_};
 ghost use Rattle.bits.specs.Answer.{outcome, leaves};
 ghost use Rattle.bits.specs.Bits.{valueFrom};
 ghost use Rattle.bits.specs.Packed.{entry, packed, tabulate};
 ghost use Rattle.spectra.specs.Filling.{Counted, spectraFilled, rowsFit};
+ghost use Rattle.spectra.specs.Lanes.{nibble, bitOf, nibbleWord, nibbleWords, wordAt, wordSums, laneNumbers, Wide};
 ghost use Rattle.spectra.specs.Operations.{spectrumOf, undoneOf, rowsOf, jobSpectraOf, rowSpectra, tableOk, at, sameNumbers};
 ghost use Rattle.spectra.specs.Packing.{parityAt, Closed, Packs, Lent};
 ghost use Rattle.spectra.specs.Spectrum.{spectrum, reduce, recovered};
@@ -79,6 +80,104 @@ fn leaf(out: &mut [u16], table: &[u8], at: usize, k: usize, kind: Kind)
     out[7] = reduced(e0 + e1 + e2 + e3 + e4 + e5 + e6 + e7, kind);
 }
 
+// Four entries from entry 4 i on as a number, the first its highest bit.
+fn nibble_at(table: &[u8], i: usize) -> usize
+    requires { ⌜ i < 2 * length (now table) ⌝ }
+    ensures { λ r. ⌜ r ≡ nibble (now (table .entry)) i ⌝ }
+{
+    (table[i / 2] as usize >> (4 - 4 * (i % 2))) % 16
+}
+
+// Entry t of a nibble.
+fn bit_of(nibble: usize, t: usize) -> u64
+    requires { ⌜ t < 4 ⌝ }
+    ensures { λ r. ⌜ r ≡ bitOf nibble t ⌝ }
+{
+    ((nibble >> (3 - t)) % 2) as u64
+}
+
+// The subset sums of a nibble's four entries, each in a lane of 16 bits, the first lowest. Every entry goes into the lanes whose sums
+// have it.
+fn nibble_word(nibble: usize, k: usize) -> u64
+    requires { ⌜ k < 4 ⌝ }
+    ensures { λ r. ⌜ r ≡ nibbleWord k nibble ⌝ }
+{
+    let e0 = bit_of(nibble, k);
+    let e1 = bit_of(nibble, 1 ^ k);
+    let e2 = bit_of(nibble, 2 ^ k);
+    let e3 = bit_of(nibble, 3 ^ k);
+    e0 * 0x0001000100010001
+        + e1 * 0x0001000000010000
+        + e2 * 0x0001000100000000
+        + e3 * 0x0001000000000000
+}
+
+// The words of all nibbles.
+fn fill_words(words: &mut [u64], k: usize)
+    requires { ⌜ (length (now words) ≡ 16) × (k < 4) ⌝ }
+    ensures { λ r. ⌜ now (words .exit) ≡ nibbleWords k ⌝ }
+{
+    let mut v = 0;
+    while v < 16 {
+        words[v] = nibble_word(v, k);
+        v += 1;
+    }
+}
+
+// The word of the nibble at i.
+fn word_at(words: &[u64], table: &[u8], i: usize) -> u64
+    requires { ⌜ (length (now words) ≡ 16) × (i < 2 * length (now table)) ⌝ }
+    ensures { λ r. ⌜ r ≡ wordAt (now (words .entry)) (now (table .entry)) i ⌝ }
+{
+    words[nibble_at(table, i)]
+}
+
+// The sums of eight words, as the spectrum of three inputs has them.
+fn eight_words(words: &[u64], table: &[u8], at: usize, k: usize) -> [u64; 8]
+    requires { ⌜ (length (now words) ≡ 16) × Most (2 ^ 60) (now words) × (k < 8) × (at + 8 ≤ 2 * length (now table)) × (at + 8 < 2 ^ 64) ⌝ }
+    ensures { λ r. ⌜ r ≡ wordSums k (now (words .entry)) (now (table .entry)) at ⌝ }
+{
+    let w0 = word_at(words, table, at + k);
+    let w1 = word_at(words, table, at + (1 ^ k));
+    let w2 = word_at(words, table, at + (2 ^ k));
+    let w3 = word_at(words, table, at + (3 ^ k));
+    let w4 = word_at(words, table, at + (4 ^ k));
+    let w5 = word_at(words, table, at + (5 ^ k));
+    let w6 = word_at(words, table, at + (6 ^ k));
+    let w7 = word_at(words, table, at + (7 ^ k));
+    [
+        w0,
+        w0 + w1,
+        w0 + w2,
+        w0 + w1 + w2 + w3,
+        w0 + w4,
+        w0 + w1 + w4 + w5,
+        w0 + w2 + w4 + w6,
+        w0 + w1 + w2 + w3 + w4 + w5 + w6 + w7,
+    ]
+}
+
+// Writes the lanes of eight words, as the kind has them.
+fn put_lanes(out: &mut [u16], sums: &[u64], kind: Kind)
+    requires { ⌜ (length (now out) ≡ 32) × (length (now sums) ≡ 8) ⌝ }
+    ensures { λ r. ⌜ now (out .exit) ≡ laneNumbers kind (now (sums .entry)) ⌝ }
+{
+    let mut j = 0;
+    while j < 32 {
+        out[j] = reduced(((sums[j / 4] >> (16 * (j % 4))) % 65536) as u16, kind);
+        j += 1;
+    }
+}
+
+// The spectrum of five inputs, from the words of its eight nibbles.
+fn wide_leaf(out: &mut [u16], words: &[u64], table: &[u8], at: usize, k: usize, kind: Kind)
+    requires { ⌜ (length (now out) ≡ 32) × (k < 32) × (at + 32 ≤ 8 * length (now table)) × (at + 32 < 2 ^ 64) × (at % 4 ≡ 0) × (now words ≡ nibbleWords (k % 4)) ⌝ }
+    ensures { λ r. ⌜ now (out .exit) ≡ spectrum kind 5 k (entriesFrom (now (table .entry)) at) ⌝ }
+{
+    let sums = eight_words(words, table, at / 4, k / 4);
+    put_lanes(out, &sums, kind);
+}
+
 // The number of coefficients of n inputs.
 fn places(n: usize) -> usize
     requires { ⌜ n ≤ 15 ⌝ }
@@ -89,8 +188,16 @@ fn places(n: usize) -> usize
 
 // The spectrum of the 2 to the power n entries from `at` on. "The spectrum of n inputs is combined from those of its two halves; the
 // halves change places where the top bit of k is 1."
-fn transform(out: &mut [u16], table: &[u8], at: usize, n: usize, k: usize, kind: Kind)
-    requires { ⌜ (n ≤ 15) × (length (now out) ≡ 2 ^ n) × (k < 2 ^ n) × (at + 2 ^ n ≤ 8 * length (now table)) × (at + 2 ^ n < 2 ^ 64) ⌝ }
+fn transform(
+    out: &mut [u16],
+    words: &[u64],
+    table: &[u8],
+    at: usize,
+    n: usize,
+    k: usize,
+    kind: Kind,
+)
+    requires { ⌜ (n ≤ 15) × (length (now out) ≡ 2 ^ n) × (k < 2 ^ n) × (at + 2 ^ n ≤ 8 * length (now table)) × (at + 2 ^ n < 2 ^ 64) × Wide n at k (now words) ⌝ }
     ensures { λ r. ⌜ now (out .exit) ≡ spectrum kind n k (entriesFrom (now (table .entry)) at) ⌝ }
 {
     if n == 0 {
@@ -101,12 +208,25 @@ fn transform(out: &mut [u16], table: &[u8], at: usize, n: usize, k: usize, kind:
         leaf(out, table, at, k, kind);
         return;
     }
+    if n == 5 {
+        wide_leaf(out, words, table, at, k, kind);
+        return;
+    }
     let half = places(n - 1);
     let top = k / half;
     let rest = k % half;
-    transform(&mut out[..half], table, at + top * half, n - 1, rest, kind);
+    transform(
+        &mut out[..half],
+        words,
+        table,
+        at + top * half,
+        n - 1,
+        rest,
+        kind,
+    );
     transform(
         &mut out[half..],
+        words,
         table,
         at + (1 - top) * half,
         n - 1,
@@ -114,6 +234,16 @@ fn transform(out: &mut [u16], table: &[u8], at: usize, n: usize, k: usize, kind:
         kind,
     );
     combine(out, half, kind);
+}
+
+// The spectrum of one table.
+fn table_spectrum(out: &mut [u16], table: &[u8], n: usize, k: usize, kind: Kind)
+    requires { ⌜ (n ≤ 15) × (length (now out) ≡ 2 ^ n) × (k < 2 ^ n) × (0 + 2 ^ n ≤ 8 * length (now table)) × (0 + 2 ^ n < 2 ^ 64) ⌝ }
+    ensures { λ r. ⌜ now (out .exit) ≡ spectrum kind n k (entriesFrom (now (table .entry)) 0) ⌝ }
+{
+    let mut words = [0u64; 16];
+    fill_words(&mut words, k % 4);
+    transform(out, &words, table, 0, n, k, kind);
 }
 
 // The bytes of a packed table of n inputs.
@@ -131,10 +261,13 @@ fn fill_rows(work: &mut [u16], tables: &[u8], n: usize, rows: usize, k: usize, k
 {
     let size = places(n);
     let bytes = table_bytes(n);
+    let mut words = [0u64; 16];
+    fill_words(&mut words, k % 4);
     let mut r = 0;
     while r < rows {
         transform(
             &mut work[r * size..r * size + size],
+            &words,
             &tables[r * bytes..r * bytes + bytes],
             0,
             n,
@@ -309,7 +442,7 @@ fn recover(table: &mut [u8], sums: &mut [u16], numbers: &[u16], n: usize, k: usi
     ensures { λ r. ⌜ now (table .exit) ≡ packed (2 ^ n) (recovered n k (at (now (numbers .entry)))) ⌝ }
 {
     pack(table, numbers, 0);
-    transform(sums, table, 0, n, 0, Kind::Rm);
+    table_spectrum(sums, table, n, 0, Kind::Rm);
     pack(table, sums, k);
 }
 
@@ -356,7 +489,7 @@ fn undo_in(
     ensures { λ r. ⌜ record { answer = outcome r; memory = now (out .exit) } ≡ leaves (undoneOf n (now (numbers .entry)) kind k (length (now (out .entry)))) (now (out .entry)) ⌝ }
 {
     recover(table, sums, numbers, n, k);
-    transform(sums, table, 0, n, k, kind);
+    table_spectrum(sums, table, n, k, kind);
     if !same(numbers, sums) {
         return Outcome::Refused(Refusal::NoTable);
     }

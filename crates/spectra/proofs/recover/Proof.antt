@@ -7,11 +7,11 @@ use Rattle.spectra.proofs.recover.Tie as tie
 pack-requires : tie.Need-pack-requires
 pack-requires c κs = packs-numbers (c .before .before .before .before .pre)
 
-transform-requires : tie.Need-transform-requires
-transform-requires c κs = transforms-parities (c .before .before .before .before .before .before .before .before .before .pre) (c .before .before .before .before .pack .ensures)
+table-spectrum-requires : tie.Need-table-spectrum-requires
+table-spectrum-requires c κs = transforms-parities (c .before .before .before .before .before .before .before .before .before .pre) (c .before .before .before .before .pack .ensures)
 
 pack-requires-2 : tie.Need-pack-requires-2
-pack-requires-2 c κs = packs-sums (c .before .before .before .before .before .before .before .before .before .before .before .before .before .before .pre) (c .before .before .before .before .before .before .before .before .before .pack .ensures) (c .before .before .before .before .transform .ensures)
+pack-requires-2 c κs = packs-sums (c .before .before .before .before .before .before .before .before .before .before .before .before .before .before .pre) (c .before .before .before .before .before .before .before .before .before .pack .ensures) (c .before .before .before .before .table-spectrum .ensures)
 
 same-length : tie.Need-same-length
 same-length c = search needs
@@ -20,9 +20,9 @@ same-length-2 : tie.Need-same-length-2
 same-length-2 c = search needs
 
 returns : tie.Need-returns
-returns c = recovers (c .before .before .before .before .before .before .before .before .before .before .before .before .before .before .before .before .before .pre) (c .before .before .before .before .before .before .before .before .before .before .before .before .pack .ensures) (c .before .before .before .before .before .before .before .transform .ensures) (c .before .before .pack2 .ensures)
+returns c = recovers (c .before .before .before .before .before .before .before .before .before .before .before .before .before .before .before .before .before .pre) (c .before .before .before .before .before .before .before .before .before .before .before .before .pack .ensures) (c .before .before .before .before .before .before .before .table-spectrum .ensures) (c .before .before .pack2 .ensures)
 
 pub recover-spec : {M : Type 1} → statement M
 recover-spec =
     tie.close
-    (tie.spec pack-requires transform-requires pack-requires-2 same-length same-length-2 returns)
+    (tie.spec pack-requires table-spectrum-requires pack-requires-2 same-length same-length-2 returns)

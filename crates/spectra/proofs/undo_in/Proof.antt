@@ -10,8 +10,8 @@ use Rattle.spectra.proofs.undo_in.Tie as tie
 recover-requires : tie.Need-recover-requires
 recover-requires c κs = search needs
 
-transform-requires : tie.Need-transform-requires
-transform-requires c κs = transforms-recovered (c .before .before .before .before .before .before .before .before .before .before .before .before .before .pre .1) (c .before .before .before .before .before .before .recover .last .1 .0) (c .before .before .before .before .before .before .recover .ensures) (c .before .before .before .sums .given)
+table-spectrum-requires : tie.Need-table-spectrum-requires
+table-spectrum-requires c κs = transforms-recovered (c .before .before .before .before .before .before .before .before .before .before .before .before .before .pre .1) (c .before .before .before .before .before .before .recover .last .1 .0) (c .before .before .before .before .before .before .recover .ensures) (c .before .before .before .sums .given)
 
 same-requires : tie.Need-same-requires
 same-requires c κs = search needs
@@ -23,7 +23,7 @@ same-length-2 : tie.Need-same-length-2
 same-length-2 c = search needs
 
 returns : tie.Need-returns
-returns c = let a = c .before .before .before .before .before .before .before .before .before .before .before .before .before .before .before .before .before .before .before .args in let l = c .before .before .before .before .before .before .before .before .before .before .before .before .before .before .before .before .before .before .before .pre .1 in undo-none (a .n) (now (a .numbers)) (a .kind) (a .k) (now (a .out)) (c .before .before .before .before .before .before .before .before .before .before .before .before .before .before .before .before .before .before .before .pre .0) (l .few) (l .polarity) (sym (not-true _ (c .if1 .taken)) ∙ c .before .same .ensures ∙ compares l (a .kind) (c .before .before .before .before .before .before .before .before .before .before .before .before .recover .ensures) (c .before .before .before .before .before .transform .ensures))
+returns c = let a = c .before .before .before .before .before .before .before .before .before .before .before .before .before .before .before .before .before .before .before .args in let l = c .before .before .before .before .before .before .before .before .before .before .before .before .before .before .before .before .before .before .before .pre .1 in undo-none (a .n) (now (a .numbers)) (a .kind) (a .k) (now (a .out)) (c .before .before .before .before .before .before .before .before .before .before .before .before .before .before .before .before .before .before .before .pre .0) (l .few) (l .polarity) (sym (not-true _ (c .if1 .taken)) ∙ c .before .same .ensures ∙ compares l (a .kind) (c .before .before .before .before .before .before .before .before .before .before .before .before .recover .ensures) (c .before .before .before .before .before .table-spectrum .ensures))
 
 same-length-3 : tie.Need-same-length-3
 same-length-3 c = search needs
@@ -32,7 +32,7 @@ same-length-4 : tie.Need-same-length-4
 same-length-4 c = search needs
 
 returns-2 : tie.Need-returns-2
-returns-2 c = let a = c .before .before .before .before .before .before .before .before .before .before .before .before .before .before .before .before .before .before .before .before .args in let l = c .before .before .before .before .before .before .before .before .before .before .before .before .before .before .before .before .before .before .before .before .pre .1 in undo-memory (a .n) (now (a .numbers)) (a .kind) (a .k) (now (a .out)) (c .before .before .before .before .before .before .before .before .before .before .before .before .before .before .before .before .before .before .before .before .pre .0) (l .few) (l .polarity) (sym (not-false _ (c .before .if1 .left)) ∙ c .before .before .same .ensures ∙ compares l (a .kind) (c .before .before .before .before .before .before .before .before .before .before .before .before .before .recover .ensures) (c .before .before .before .before .before .before .transform .ensures)) (c .before .before .before .before .before .before .before .before .before .before .before .before .before .recover .ensures) (c .if2 .taken)
+returns-2 c = let a = c .before .before .before .before .before .before .before .before .before .before .before .before .before .before .before .before .before .before .before .before .args in let l = c .before .before .before .before .before .before .before .before .before .before .before .before .before .before .before .before .before .before .before .before .pre .1 in undo-memory (a .n) (now (a .numbers)) (a .kind) (a .k) (now (a .out)) (c .before .before .before .before .before .before .before .before .before .before .before .before .before .before .before .before .before .before .before .before .pre .0) (l .few) (l .polarity) (sym (not-false _ (c .before .if1 .left)) ∙ c .before .before .same .ensures ∙ compares l (a .kind) (c .before .before .before .before .before .before .before .before .before .before .before .before .before .recover .ensures) (c .before .before .before .before .before .before .table-spectrum .ensures)) (c .before .before .before .before .before .before .before .before .before .before .before .before .before .recover .ensures) (c .if2 .taken)
 
 copy-requires : tie.Need-copy-requires
 copy-requires c κs = search needs
@@ -47,14 +47,14 @@ same-length-7 : tie.Need-same-length-7
 same-length-7 c = search needs
 
 returns-3 : tie.Need-returns-3
-returns-3 c = let a = c .before .before .before .before .before .before .before .before .before .before .before .before .before .before .before .before .before .before .before .before .before .before .before .before .before .args in let l = c .before .before .before .before .before .before .before .before .before .before .before .before .before .before .before .before .before .before .before .before .before .before .before .before .before .pre .1 in undo-done (a .n) (now (a .numbers)) (a .kind) (a .k) (now (a .out)) (c .before .before .before .before .before .before .before .before .before .before .before .before .before .before .before .before .before .before .before .before .before .before .before .before .before .pre .0) (l .few) (l .polarity) (sym (not-false _ (c .before .before .before .before .before .before .if1 .left)) ∙ c .before .before .before .before .before .before .before .same .ensures ∙ compares l (a .kind) (c .before .before .before .before .before .before .before .before .before .before .before .before .before .before .before .before .before .before .recover .ensures) (c .before .before .before .before .before .before .before .before .before .before .before .transform .ensures)) (c .before .before .before .before .before .before .before .before .before .before .before .before .before .before .before .before .before .before .recover .ensures) (c .before .before .before .before .before .if2 .left) (c .before .before .copy .ensures)
+returns-3 c = let a = c .before .before .before .before .before .before .before .before .before .before .before .before .before .before .before .before .before .before .before .before .before .before .before .before .before .args in let l = c .before .before .before .before .before .before .before .before .before .before .before .before .before .before .before .before .before .before .before .before .before .before .before .before .before .pre .1 in undo-done (a .n) (now (a .numbers)) (a .kind) (a .k) (now (a .out)) (c .before .before .before .before .before .before .before .before .before .before .before .before .before .before .before .before .before .before .before .before .before .before .before .before .before .pre .0) (l .few) (l .polarity) (sym (not-false _ (c .before .before .before .before .before .before .if1 .left)) ∙ c .before .before .before .before .before .before .before .same .ensures ∙ compares l (a .kind) (c .before .before .before .before .before .before .before .before .before .before .before .before .before .before .before .before .before .before .recover .ensures) (c .before .before .before .before .before .before .before .before .before .before .before .table-spectrum .ensures)) (c .before .before .before .before .before .before .before .before .before .before .before .before .before .before .before .before .before .before .recover .ensures) (c .before .before .before .before .before .if2 .left) (c .before .before .copy .ensures)
 
 pub undo-in-spec : {M : Type 1} → statement M
 undo-in-spec =
     tie.close
     (tie.spec
     recover-requires
-    transform-requires
+    table-spectrum-requires
     same-requires
     same-length
     same-length-2

@@ -1,0 +1,288 @@
+-- Four subset sums in one word (specs/Lanes.antt).
+--
+--   lane-lanes       lane r of a word made of four numbers is number r
+--   lanes-sum        the subset sums of words are the words of the subset sums
+--   nibble-lt        a nibble is below 16
+--   nibble-entry     entry t of nibble i is entry 4 i + t
+--   word-entries     the word of a nibble is that of the subset sums of four entries
+--   nibble-word      the word of a nibble is the sum of its entries' multiples
+--   words-length     there are sixteen words
+--   words-most       no word is larger than 2 ^ 60
+--   bit-lt           an entry of a nibble is 0 or 1
+--   multiples-fit, sums-fit   so its multiples and their sums fit a u64
+--   word-small       a word that is looked up is at most 2 ^ 60
+--   words-2 .. words-8   a sum of two to eight words fits a u64
+--   words-asked      what the sums of eight words ask of the table
+--   length-wordSums  they are eight
+--   wide-spectrum    the lanes of the eight sums are the spectrum of five inputs
+--   wide-written     the same, as they are written
+use Prim.Native.Nat.{ℕ, zero, suc, _+_, _-_, _*_, _/_, _%_, _^_, _≤_, _<_}
+use native.Mathlib.Nat.{add-mul, add-assoc, div-add-mod', mod-lt}
+use native.Mathlib.Omega.{arith}
+use mathlib.Core.Path.{_≡_, refl, sym, ap, ap₂, subst, _∙_}
+use mathlib.Core.Bool.{cond}
+use mathlib.Core.List.{List}
+use mathlib.Core.Logic.{⊎-elim}
+use lib.Bits.{bitXor, xor-zero-l}
+use lib.Dec.{lit<}
+use lib.ListN.{length, getD}
+use lib.Pow.{shr-shr}
+use mir.Syntax.{w64}
+use mir.Val.{Fits}
+use Rattle.bits.specs.Packed.{entry, tabulate}
+use Rattle.bits.proofs.Below.{lt-or-ge}
+use Rattle.bits.proofs.Digits.{digit-above}
+use Rattle.bits.proofs.Packed.{entry-lt, length-tabulate, tabulate-at, tabulate-past, tabulate-ext}
+use Rattle.spectra.specs.Lanes.{nibble, bitOf, lanes, lane, nibbleWord, nibbleWords, wordAt, wordSums, laneNumbers}
+use Rattle.spectra.specs.Spectrum.{inside, sumTo, subsetSum, reduce, coefficient, spectrum}
+use Rattle.spectra.specs.Transform.{entriesFrom, Most}
+use Rattle.spectra.specs.declared.Kind.{Kind}
+use Rattle.spectra.specs.declared.Kind.the-variants.{Mrm}
+use Rattle.spectra.proofs.Blocks.{subset-blocks, subset-plus, subset-times}
+use Rattle.spectra.proofs.Bounds.{coefficient-le, subset-ext, length-spectrum, spectrum-at}
+
+-- ---- words of four numbers
+
+module _ (a b c d : ℕ) (ha : a < 2 ^ 16) (hb : b < 2 ^ 16) (hc : c < 2 ^ 16) (hd : d < 2 ^ 16) where
+  abbrev word : ℕ
+  word = a + b * 2 ^ 16 + c * 2 ^ 32 + d * 2 ^ 48
+
+  lane-0 : word / 2 ^ 0 % 2 ^ 16 ≡ a
+  lane-0 = omega arith
+
+  lane-1 : word / 2 ^ 16 % 2 ^ 16 ≡ b
+  lane-1 = omega arith
+
+  lane-2 : word / 2 ^ 32 % 2 ^ 16 ≡ c
+  lane-2 = omega arith
+
+  lane-3 : word / 2 ^ 48 % 2 ^ 16 ≡ d
+  lane-3 = omega arith
+
+pub lane-lanes : (f : ℕ → ℕ) (r : ℕ) → r < 4 → ((t : ℕ) → t < 4 → f t < 2 ^ 16) → lane (lanes f) r ≡ f r
+unfolding lane lanes
+lane-lanes f zero h small = lane-0 (f 0) (f 1) (f 2) (f 3) (small 0 (lit< tt)) (small 1 (lit< tt)) (small 2 (lit< tt)) (small 3 (lit< tt))
+lane-lanes f (suc zero) h small = lane-1 (f 0) (f 1) (f 2) (f 3) (small 0 (lit< tt)) (small 1 (lit< tt)) (small 2 (lit< tt)) (small 3 (lit< tt))
+lane-lanes f (suc (suc zero)) h small = lane-2 (f 0) (f 1) (f 2) (f 3) (small 0 (lit< tt)) (small 1 (lit< tt)) (small 2 (lit< tt)) (small 3 (lit< tt))
+lane-lanes f (suc (suc (suc zero))) h small = lane-3 (f 0) (f 1) (f 2) (f 3) (small 0 (lit< tt)) (small 1 (lit< tt)) (small 2 (lit< tt)) (small 3 (lit< tt))
+lane-lanes f (suc (suc (suc (suc r)))) h small = absurd (omega arith)
+
+lanes-ext : (f g : ℕ → ℕ) → ((r : ℕ) → r < 4 → f r ≡ g r) → lanes f ≡ lanes g
+unfolding lanes
+lanes-ext f g same =
+    let e0 = same 0 (lit< tt) in
+    let e1 = same 1 (lit< tt) in
+    let e2 = same 2 (lit< tt) in
+    let e3 = same 3 (lit< tt) in omega arith
+
+pub lanes-sum : (n k : ℕ) (g : ℕ → ℕ → ℕ) (i : ℕ) → subsetSum n k (λ u. lanes (g u)) i ≡ lanes (λ r. subsetSum n k (λ u. g u r) i)
+unfolding lanes
+lanes-sum n k g i =
+    subset-plus n k (λ u. g u 0 + g u 1 * 2 ^ 16 + g u 2 * 2 ^ 32) i (λ u. g u 3 * 2 ^ 48)
+    ∙ ap₂ _+_
+    (subset-plus n k (λ u. g u 0 + g u 1 * 2 ^ 16) i (λ u. g u 2 * 2 ^ 32)
+    ∙ ap₂ _+_
+    (subset-plus n k (λ u. g u 0) i (λ u. g u 1 * 2 ^ 16)
+    ∙ ap (λ (x : ℕ). subsetSum n k (λ u. g u 0) i + x) (subset-times n k (λ u. g u 1) i (2 ^ 16)))
+    (subset-times n k (λ u. g u 2) i (2 ^ 32)))
+    (subset-times n k (λ u. g u 3) i (2 ^ 48))
+
+-- ---- nibbles
+
+pub nibble-lt : (s : List ℕ) (i : ℕ) → nibble s i < 16
+unfolding nibble
+nibble-lt s i = mod-lt (getD s (i / 2) 0 / 2 ^ (4 - 4 * (i % 2))) (lit< tt)
+
+-- digit t of the lowest four, counted from the highest, of a number shifted by c
+nibble-digit : (x c t : ℕ) → t < 4 → x / 2 ^ c % 16 / 2 ^ (3 - t) % 2 ≡ x / 2 ^ (c + (3 - t)) % 2
+nibble-digit x c t h =
+    let l : 3 - t < 4 = omega arith in
+    sym (digit-above 4 (3 - t) (x / 2 ^ c / 16) (x / 2 ^ c % 16) l)
+    ∙ ap (λ (y : ℕ). y / 2 ^ (3 - t) % 2) (div-add-mod' (x / 2 ^ c) 16)
+    ∙ ap (λ (y : ℕ). y % 2) (shr-shr x c (3 - t))
+
+pub nibble-entry : (s : List ℕ) (i t : ℕ) → t < 4 → bitOf (nibble s i) t ≡ entry s (i * 4 + t)
+unfolding bitOf nibble entry
+nibble-entry s i t h =
+    let byte : i / 2 ≡ (i * 4 + t) / 8 = omega arith in
+    let shift : 4 - 4 * (i % 2) + (3 - t) ≡ 7 - (i * 4 + t) % 8 = omega arith in
+    nibble-digit (getD s (i / 2) 0) (4 - 4 * (i % 2)) t h
+    ∙ ap₂ (λ (x y : ℕ). getD s x 0 / 2 ^ y % 2) byte shift
+
+-- ---- the words of nibbles
+
+-- the subset sums of a table of n inputs are at most 2 ^ n
+subset-le : (n k : ℕ) (e : ℕ → ℕ) (j : ℕ) → ((m : ℕ) → e m < 2) → k < 2 ^ n → subsetSum n k e j ≤ 2 ^ n
+unfolding coefficient
+subset-le n k e j bits hk = coefficient-le Mrm n k e j (λ m _. bits m) hk
+
+word-le : (c v : ℕ) → c < 4 → nibbleWord c v ≤ 2 ^ 60
+unfolding nibbleWord lanes bitOf
+word-le c v hc =
+    let l : (r : ℕ) → subsetSum 2 c (bitOf v) r ≤ 4 = λ r. subset-le 2 c (bitOf v) r (λ m. mod-lt (v / 2 ^ (3 - m)) (lit< tt)) hc in
+    omega (arith, l 0, l 1, l 2, l 3)
+
+module _ (words : List ℕ) (c : ℕ) (e : words ≡ nibbleWords c) (hc : c < 4) where
+  pub words-length : length words ≡ 16
+  unfolding nibbleWords
+  words-length = ap length e ∙ length-tabulate 16 (nibbleWord c)
+
+  words-at : (v : ℕ) → v < 16 → getD words v 0 ≡ nibbleWord c v
+  unfolding nibbleWords
+  words-at v h = ap (λ (l : List ℕ). getD l v 0) e ∙ tabulate-at 16 (nibbleWord c) v h
+
+  pub words-most : Most (2 ^ 60) words
+  unfolding nibbleWords
+  words-most v =
+      ⊎-elim (λ h. subst (λ (x : ℕ). x ≤ 2 ^ 60) (sym (words-at v h)) (word-le c v hc))
+      (λ h. subst (λ (x : ℕ). x ≤ 2 ^ 60) (sym (ap (λ (l : List ℕ). getD l v 0) e ∙ tabulate-past 16 (nibbleWord c) v h)) (omega arith))
+      (lt-or-ge v 16)
+
+  pub word-entries : (s : List ℕ) (i : ℕ) → wordAt words s i ≡ lanes (subsetSum 2 c (λ t. entry s (i * 4 + t)))
+  unfolding wordAt nibbleWord
+  word-entries s i =
+      words-at (nibble s i) (nibble-lt s i)
+      ∙ lanes-ext (subsetSum 2 c (bitOf (nibble s i))) (subsetSum 2 c (λ t. entry s (i * 4 + t)))
+      (λ r _. subset-ext 2 c (bitOf (nibble s i)) (λ t. entry s (i * 4 + t)) r hc (nibble-entry s i))
+
+-- ---- the word of a nibble as the code makes it: each entry in the lanes whose sums have it
+
+-- the sum of the numbers of a function at the t inside j
+abbrev partSum : (ℕ → ℕ) → ℕ → ℕ
+partSum g j = sumTo 4 (λ t. cond (inside t j) (g t) 0)
+
+module _ (g : ℕ → ℕ) where
+  sum-0 : partSum g 0 ≡ g 0
+  unfolding sumTo inside
+  sum-0 = omega arith
+
+  sum-1 : partSum g 1 ≡ g 0 + g 1
+  unfolding sumTo inside
+  sum-1 = omega arith
+
+  sum-2 : partSum g 2 ≡ g 0 + g 2
+  unfolding sumTo inside
+  sum-2 = omega arith
+
+  sum-3 : partSum g 3 ≡ g 0 + g 1 + g 2 + g 3
+  unfolding sumTo inside
+  sum-3 = omega arith
+
+  lanes-parts : g 0 * 281479271743489 + g 1 * 281474976776192 + g 2 * 281479271677952 + g 3 * 281474976710656 ≡ lanes (partSum g)
+  unfolding lanes
+  lanes-parts = omega (arith, sum-0, sum-1, sum-2, sum-3)
+
+pub nibble-word : {a b c d : ℕ} (v k : ℕ) → a ≡ bitOf v k → b ≡ bitOf v (bitXor 1 k) → c ≡ bitOf v (bitXor 2 k) → d ≡ bitOf v (bitXor 3 k)
+    → a * 281479271743489 + b * 281474976776192 + c * 281479271677952 + d * 281474976710656 ≡ nibbleWord k v
+unfolding nibbleWord subsetSum
+nibble-word v k ea eb ec ed = rw (ea ∙ ap (bitOf v) (sym (xor-zero-l k)), eb, ec, ed) (lanes-parts (λ t. bitOf v (bitXor t k)))
+
+pub bit-lt : {x : ℕ} (v t : ℕ) → x ≡ bitOf v t → x < 2
+unfolding bitOf
+bit-lt v t e = rw e (mod-lt (v / 2 ^ (3 - t)) (lit< tt))
+
+module _ {a b c d : ℕ} (ha : a < 2) (hb : b < 2) (hc : c < 2) (hd : d < 2) where
+  pub multiples-fit : Fits w64 (a * 281479271743489) × Fits w64 (b * 281474976776192) × Fits w64 (c * 281479271677952) × Fits w64 (d * 281474976710656)
+  multiples-fit = (omega arith, omega arith, omega arith, omega arith)
+
+  pub sums-fit : Fits w64 (a * 281479271743489 + b * 281474976776192) × Fits w64 (a * 281479271743489 + b * 281474976776192 + c * 281479271677952)
+      × Fits w64 (a * 281479271743489 + b * 281474976776192 + c * 281479271677952 + d * 281474976710656)
+  sums-fit = (omega arith, omega arith, omega arith)
+
+-- ---- sums of words
+
+pub word-small : {x : ℕ} (words s : List ℕ) (i : ℕ) → Most (2 ^ 60) words → x ≡ wordAt words s i → x ≤ 2 ^ 60
+unfolding wordAt
+word-small words s i most e = rw e (most (nibble s i))
+
+-- so many words, summed from the left
+module _ {a b : ℕ} (ha : a ≤ 2 ^ 60) (hb : b ≤ 2 ^ 60) where
+  pub words-2 : Fits w64 (a + b)
+  words-2 = omega arith
+
+  module _ {c : ℕ} (hc : c ≤ 2 ^ 60) where
+    pub words-3 : Fits w64 (a + b + c)
+    words-3 = omega arith
+
+    module _ {d : ℕ} (hd : d ≤ 2 ^ 60) where
+      pub words-4 : Fits w64 (a + b + c + d)
+      words-4 = omega arith
+
+      module _ {e : ℕ} (he : e ≤ 2 ^ 60) where
+        pub words-5 : Fits w64 (a + b + c + d + e)
+        words-5 = omega arith
+
+        module _ {f : ℕ} (hf : f ≤ 2 ^ 60) where
+          pub words-6 : Fits w64 (a + b + c + d + e + f)
+          words-6 = omega arith
+
+          module _ {g : ℕ} (hg : g ≤ 2 ^ 60) where
+            pub words-7 : Fits w64 (a + b + c + d + e + f + g)
+            words-7 = omega arith
+
+            pub words-8 : {h : ℕ} → h ≤ 2 ^ 60 → Fits w64 (a + b + c + d + e + f + g + h)
+            words-8 hh = omega arith
+
+-- ---- five inputs
+
+place-four : (at u t : ℕ) → at % 4 ≡ 0 → (at / 4 + u) * 4 + t ≡ at + (u * 4 + t)
+place-four at u t h = omega arith
+
+module _ (words s : List ℕ) (at k : ℕ) (four : at % 4 ≡ 0) (hk : k < 32) (e : words ≡ nibbleWords (k % 4)) where
+  low-lt : k % 4 < 4
+  low-lt = mod-lt k (lit< tt)
+
+  high-lt : k / 4 < 8
+  high-lt = omega arith
+
+  pub words-asked : (len : ℕ) → at + 32 ≤ 8 * len → at + 32 < 2 ^ 64
+      → (length words ≡ 16) × Most (2 ^ 60) words × (k / 4 < 8) × (at / 4 + 8 ≤ 2 * len) × (at / 4 + 8 < 2 ^ 64)
+  words-asked len within fits =
+      (words-length words (k % 4) e low-lt, words-most words (k % 4) e low-lt, high-lt, omega arith, omega arith)
+
+  abbrev table : ℕ → ℕ
+  table = entriesFrom s at
+
+  -- sum r of four entries of the table
+  abbrev four-sum : ℕ → ℕ → ℕ
+  four-sum u = subsetSum 2 (k % 4) (λ t. table (u * 4 + t))
+
+  word-four : (u : ℕ) → wordAt words s (at / 4 + u) ≡ lanes (four-sum u)
+  word-four u =
+      word-entries words (k % 4) e low-lt s (at / 4 + u)
+      ∙ lanes-ext (subsetSum 2 (k % 4) (λ t. entry s ((at / 4 + u) * 4 + t))) (four-sum u)
+      (λ r _. subset-ext 2 (k % 4) (λ t. entry s ((at / 4 + u) * 4 + t)) (λ t. table (u * 4 + t)) r low-lt
+      (λ t _. ap (entry s) (place-four at u t four)))
+
+  sum-five : (i r : ℕ) → r < 4 → subsetSum 3 (k / 4) (λ u. four-sum u r) i ≡ subsetSum 5 k table (i * 4 + r)
+  sum-five i r hr =
+      sym (subset-blocks 3 2 (k / 4) (k % 4) i r table low-lt hr)
+      ∙ ap (λ (x : ℕ). subsetSum 5 x table (i * 4 + r)) (div-add-mod' k 4)
+
+  word-five : (i : ℕ) → i < 8 → getD (wordSums (k / 4) words s (at / 4)) i 0 ≡ lanes (λ r. subsetSum 5 k table (i * 4 + r))
+  unfolding coefficient
+  word-five i hi =
+      spectrum-at Mrm 3 (k / 4) (λ u. wordAt words s (at / 4 + u)) i hi
+      ∙ subset-ext 3 (k / 4) (λ u. wordAt words s (at / 4 + u)) (λ u. lanes (four-sum u)) i high-lt (λ u _. word-four u)
+      ∙ lanes-sum 3 (k / 4) four-sum i
+      ∙ lanes-ext (λ r. subsetSum 3 (k / 4) (λ u. four-sum u r) i) (λ r. subsetSum 5 k table (i * 4 + r)) (sum-five i)
+
+  lane-five : (j : ℕ) → j < 32 → lane (getD (wordSums (k / 4) words s (at / 4)) (j / 4) 0) (j % 4) ≡ subsetSum 5 k table j
+  lane-five j hj =
+      ap (λ (x : ℕ). lane x (j % 4)) (word-five (j / 4) (omega arith))
+      ∙ lane-lanes (λ r. subsetSum 5 k table (j / 4 * 4 + r)) (j % 4) (mod-lt j (lit< tt))
+      (λ r _. let l = subset-le 5 k table (j / 4 * 4 + r) (λ m. entry-lt s (at + m)) hk in omega arith)
+      ∙ ap (subsetSum 5 k table) (div-add-mod' j 4)
+
+  pub wide-spectrum : (kind : Kind) → laneNumbers kind (wordSums (k / 4) words s (at / 4)) ≡ spectrum kind 5 k table
+  unfolding spectrum coefficient
+  wide-spectrum kind =
+      tabulate-ext 32 (λ j. reduce kind (lane (getD (wordSums (k / 4) words s (at / 4)) (j / 4) 0) (j % 4))) (λ j. reduce kind (subsetSum 5 k table j))
+      (λ j h. ap (reduce kind) (lane-five j h))
+
+  pub wide-written : (kind : Kind) {sums out : List ℕ} → sums ≡ wordSums (k / 4) words s (at / 4) → out ≡ laneNumbers kind sums
+      → out ≡ spectrum kind 5 k table
+  wide-written kind es eo = eo ∙ ap (laneNumbers kind) es ∙ wide-spectrum kind
+
+pub length-wordSums : (k : ℕ) (words s : List ℕ) (at : ℕ) → length (wordSums k words s at) ≡ 8
+length-wordSums k words s at = length-spectrum Mrm 3 k (λ u. wordAt words s (at + u))
