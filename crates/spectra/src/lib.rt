@@ -3,9 +3,9 @@ ghost use Prim.Native.Nat.{_+_, _*_, _%_, _^_, _≤_, _<_};
 ghost use Rattle.bits.specs.Answer.{outcome, leaves};
 ghost use Rattle.bits.specs.Bits.{valueFrom};
 ghost use Rattle.bits.specs.Packed.{entry, packed, tabulate};
-ghost use Rattle.spectra.specs.Filling.{Counted, spectraFilled, rowsFit};
+ghost use Rattle.spectra.specs.Filling.{Counted, rowsFilled, spectraFilled, rowsFit};
 ghost use Rattle.spectra.specs.Lanes.{nibble, bitOf, nibbleWord, nibbleWords, wordAt, wordSums, laneNumbers, Wide};
-ghost use Rattle.spectra.specs.Operations.{spectrumOf, undoneOf, rowsOf, jobSpectraOf, rowSpectra, tableOk, at, sameNumbers};
+ghost use Rattle.spectra.specs.Operations.{spectrumOf, undoneOf, rowsOf, jobSpectraOf, tableOk, at, sameNumbers};
 ghost use Rattle.spectra.specs.Packing.{parityAt, Closed, Packs, Lent};
 ghost use Rattle.spectra.specs.Spectrum.{spectrum, reduce, recovered};
 ghost use Rattle.spectra.specs.Transform.{entriesFrom, Most, combined};
@@ -14,7 +14,6 @@ ghost use Rattle.gates.specs.Rows.{splice};
 ghost use Rattle.tables.specs.Operations.{tablesTold};
 ghost use lib.ListN.{length, take, drop};
 ghost use mathlib.Core.Bool.{true};
-ghost use mathlib.Core.List.{_++_};
 ghost use mathlib.Core.Path.{_≡_};
 use bits::Outcome;
 use bits::Refusal;
@@ -236,16 +235,6 @@ fn transform(
     combine(out, half, kind);
 }
 
-// The spectrum of one table.
-fn table_spectrum(out: &mut [u16], table: &[u8], n: usize, k: usize, kind: Kind)
-    requires { ⌜ (n ≤ 15) × (length (now out) ≡ 2 ^ n) × (k < 2 ^ n) × (0 + 2 ^ n ≤ 8 * length (now table)) × (0 + 2 ^ n < 2 ^ 64) ⌝ }
-    ensures { λ r. ⌜ now (out .exit) ≡ spectrum kind n k (entriesFrom (now (table .entry)) 0) ⌝ }
-{
-    let mut words = [0u64; 16];
-    fill_words(&mut words, k % 4);
-    transform(out, &words, table, 0, n, k, kind);
-}
-
 // The bytes of a packed table of n inputs.
 fn table_bytes(n: usize) -> usize
     requires { ⌜ n ≤ 15 ⌝ }
@@ -254,20 +243,26 @@ fn table_bytes(n: usize) -> usize
     (places(n) + 7) / 8
 }
 
-// The spectra of tables that stand row after row.
-fn fill_rows(work: &mut [u16], tables: &[u8], n: usize, rows: usize, k: usize, kind: Kind)
-    requires { ⌜ (n ≤ 15) × (k < 2 ^ n) × (rows * 2 ^ n ≤ length (now work)) × (rows * tableBytes n ≤ length (now tables)) ⌝ }
-    ensures { λ r. ⌜ now (work .exit) ≡ rowSpectra kind n k (now (tables .entry)) rows ++ drop (rows * 2 ^ n) (now (work .entry)) ⌝ }
+// The spectra of tables that stand row after row, with the words of the polarity.
+fn transform_rows(
+    work: &mut [u16],
+    words: &[u64],
+    tables: &[u8],
+    n: usize,
+    rows: usize,
+    k: usize,
+    kind: Kind,
+)
+    requires { ⌜ (n ≤ 15) × (k < 2 ^ n) × (rows * 2 ^ n ≤ length (now work)) × (rows * tableBytes n ≤ length (now tables)) × (now words ≡ nibbleWords (k % 4)) ⌝ }
+    ensures { λ r. ⌜ now (work .exit) ≡ rowsFilled kind n k (now (tables .entry)) rows (now (work .entry)) ⌝ }
 {
     let size = places(n);
     let bytes = table_bytes(n);
-    let mut words = [0u64; 16];
-    fill_words(&mut words, k % 4);
     let mut r = 0;
     while r < rows {
         transform(
             &mut work[r * size..r * size + size],
-            &words,
+            words,
             &tables[r * bytes..r * bytes + bytes],
             0,
             n,
@@ -276,6 +271,16 @@ fn fill_rows(work: &mut [u16], tables: &[u8], n: usize, rows: usize, k: usize, k
         );
         r += 1;
     }
+}
+
+// The spectra of tables that stand row after row. The words are made once for all rows.
+fn fill_rows(work: &mut [u16], tables: &[u8], n: usize, rows: usize, k: usize, kind: Kind)
+    requires { ⌜ (n ≤ 15) × (k < 2 ^ n) × (rows * 2 ^ n ≤ length (now work)) × (rows * tableBytes n ≤ length (now tables)) ⌝ }
+    ensures { λ r. ⌜ now (work .exit) ≡ rowsFilled kind n k (now (tables .entry)) rows (now (work .entry)) ⌝ }
+{
+    let mut words = [0u64; 16];
+    fill_words(&mut words, k % 4);
+    transform_rows(work, &words, tables, n, rows, k, kind);
 }
 
 // (63 + 1) circuits of at most 32 bytes.
@@ -442,7 +447,7 @@ fn recover(table: &mut [u8], sums: &mut [u16], numbers: &[u16], n: usize, k: usi
     ensures { λ r. ⌜ now (table .exit) ≡ packed (2 ^ n) (recovered n k (at (now (numbers .entry)))) ⌝ }
 {
     pack(table, numbers, 0);
-    table_spectrum(sums, table, n, 0, Kind::Rm);
+    fill_rows(sums, table, n, 1, 0, Kind::Rm);
     pack(table, sums, k);
 }
 
@@ -489,7 +494,7 @@ fn undo_in(
     ensures { λ r. ⌜ record { answer = outcome r; memory = now (out .exit) } ≡ leaves (undoneOf n (now (numbers .entry)) kind k (length (now (out .entry)))) (now (out .entry)) ⌝ }
 {
     recover(table, sums, numbers, n, k);
-    table_spectrum(sums, table, n, k, kind);
+    fill_rows(sums, table, n, 1, k, kind);
     if !same(numbers, sums) {
         return Outcome::Refused(Refusal::NoTable);
     }

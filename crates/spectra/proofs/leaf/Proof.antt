@@ -1,7 +1,6 @@
 -- `spectra::leaf` meets its contract: the eight sums are the spectrum of three inputs.
 use native.Mathlib.Omega.{arith}
 use mathlib.Core.List.{[], _∷_}
-use borrow.Author.Needs.{needs}
 use denote.Ref.{now}
 use lib.Dec.{lit<}
 use lib.ListN.{length-set}
@@ -14,7 +13,7 @@ add-entry-at : tie.Need-add-entry-at
 add-entry-at c = omega (arith, c .before .before .pre .1, c .before .before .pre .3)
 
 entry-at-requires : tie.Need-entry-at-requires
-entry-at-requires c κs = search needs
+entry-at-requires c κs = omega (arith, c .before .before .pre .1, c .before .before .pre .2)
 
 add-entry-at-2 : tie.Need-add-entry-at-2
 add-entry-at-2 c = place-fits (c .before .before .before .args .at) (c .before .before .before .args .k) 1 (c .before .before .before .pre .1) (lit< tt) (c .before .before .before .pre .3)
@@ -59,7 +58,7 @@ entry-at-requires-8 : tie.Need-entry-at-requires-8
 entry-at-requires-8 c κs = entry-inside (c .before .before .before .before .before .before .before .before .before .args .at) (c .before .before .before .before .before .before .before .before .before .args .k) 7 _ (c .before .before .before .before .before .before .before .before .before .pre .1) (lit< tt) (c .before .before .before .before .before .before .before .before .before .pre .2)
 
 reduced-requires : tie.Need-reduced-requires
-reduced-requires c κs = search needs
+reduced-requires c κs = tt
 
 slice-write-out : tie.Need-slice-write-out
 slice-write-out c = room-for (now (c .before .before .before .before .before .before .before .before .before .before .before .args .out)) ([]) 0 (c .before .before .before .before .before .before .before .before .before .before .before .pre .0) (lit< tt)
@@ -68,7 +67,7 @@ add-reduced : tie.Need-add-reduced
 add-reduced c = fits-2 (bit _ _ (c .before .before .before .before .before .before .before .before .entry-at .ensures)) (bit _ _ (c .before .before .before .before .before .before .before .entry-at2 .ensures))
 
 reduced-requires-2 : tie.Need-reduced-requires-2
-reduced-requires-2 c κs = search needs
+reduced-requires-2 c κs = tt
 
 slice-write-out-2 : tie.Need-slice-write-out-2
 slice-write-out-2 c = room-for (now (c .before .before .before .before .before .before .before .before .before .before .before .before .args .out)) (c .before .reduced .result ∷ []) 1 (c .before .before .before .before .before .before .before .before .before .before .before .before .pre .0) (lit< tt)
@@ -77,7 +76,7 @@ add-reduced-2 : tie.Need-add-reduced-2
 add-reduced-2 c = fits-2 (bit _ _ (c .before .before .before .before .before .before .before .before .before .entry-at .ensures)) (bit _ _ (c .before .before .before .before .before .before .before .entry-at3 .ensures))
 
 reduced-requires-3 : tie.Need-reduced-requires-3
-reduced-requires-3 c κs = search needs
+reduced-requires-3 c κs = tt
 
 slice-write-out-3 : tie.Need-slice-write-out-3
 slice-write-out-3 c = room-for (now (c .before .before .before .before .before .before .before .before .before .before .before .before .before .args .out)) (c .before .before .reduced .result ∷ c .before .reduced2 .result ∷ []) 2 (c .before .before .before .before .before .before .before .before .before .before .before .before .before .pre .0) (lit< tt)
@@ -92,7 +91,7 @@ add-reduced-5 : tie.Need-add-reduced-5
 add-reduced-5 c = fits-4 (bit _ _ (c .before .before .before .before .before .before .before .before .before .before .entry-at .ensures)) (bit _ _ (c .before .before .before .before .before .before .before .before .before .entry-at2 .ensures)) (bit _ _ (c .before .before .before .before .before .before .before .before .entry-at3 .ensures)) (bit _ _ (c .before .before .before .before .before .before .before .entry-at4 .ensures))
 
 reduced-requires-4 : tie.Need-reduced-requires-4
-reduced-requires-4 c κs = search needs
+reduced-requires-4 c κs = tt
 
 slice-write-out-4 : tie.Need-slice-write-out-4
 slice-write-out-4 c = room-for (now (c .before .before .before .before .before .before .before .before .before .before .before .before .before .before .args .out)) (c .before .before .before .reduced .result ∷ c .before .before .reduced2 .result ∷ c .before .reduced3 .result ∷ []) 3 (c .before .before .before .before .before .before .before .before .before .before .before .before .before .before .pre .0) (lit< tt)
@@ -101,7 +100,7 @@ add-reduced-6 : tie.Need-add-reduced-6
 add-reduced-6 c = fits-2 (bit _ _ (c .before .before .before .before .before .before .before .before .before .before .before .entry-at .ensures)) (bit _ _ (c .before .before .before .before .before .before .before .entry-at5 .ensures))
 
 reduced-requires-5 : tie.Need-reduced-requires-5
-reduced-requires-5 c κs = search needs
+reduced-requires-5 c κs = tt
 
 slice-write-out-5 : tie.Need-slice-write-out-5
 slice-write-out-5 c = room-for (now (c .before .before .before .before .before .before .before .before .before .before .before .before .before .before .before .args .out)) (c .before .before .before .before .reduced .result ∷ c .before .before .before .reduced2 .result ∷ c .before .before .reduced3 .result ∷ c .before .reduced4 .result ∷ []) 4 (c .before .before .before .before .before .before .before .before .before .before .before .before .before .before .before .pre .0) (lit< tt)
@@ -116,7 +115,7 @@ add-reduced-9 : tie.Need-add-reduced-9
 add-reduced-9 c = fits-4 (bit _ _ (c .before .before .before .before .before .before .before .before .before .before .before .before .entry-at .ensures)) (bit _ _ (c .before .before .before .before .before .before .before .before .before .before .before .entry-at2 .ensures)) (bit _ _ (c .before .before .before .before .before .before .before .before .entry-at5 .ensures)) (bit _ _ (c .before .before .before .before .before .before .before .entry-at6 .ensures))
 
 reduced-requires-6 : tie.Need-reduced-requires-6
-reduced-requires-6 c κs = search needs
+reduced-requires-6 c κs = tt
 
 slice-write-out-6 : tie.Need-slice-write-out-6
 slice-write-out-6 c = room-for (now (c .before .before .before .before .before .before .before .before .before .before .before .before .before .before .before .before .args .out)) (c .before .before .before .before .before .reduced .result ∷ c .before .before .before .before .reduced2 .result ∷ c .before .before .before .reduced3 .result ∷ c .before .before .reduced4 .result ∷ c .before .reduced5 .result ∷ []) 5 (c .before .before .before .before .before .before .before .before .before .before .before .before .before .before .before .before .pre .0) (lit< tt)
@@ -131,7 +130,7 @@ add-reduced-12 : tie.Need-add-reduced-12
 add-reduced-12 c = fits-4 (bit _ _ (c .before .before .before .before .before .before .before .before .before .before .before .before .before .entry-at .ensures)) (bit _ _ (c .before .before .before .before .before .before .before .before .before .before .before .entry-at3 .ensures)) (bit _ _ (c .before .before .before .before .before .before .before .before .before .entry-at5 .ensures)) (bit _ _ (c .before .before .before .before .before .before .before .entry-at7 .ensures))
 
 reduced-requires-7 : tie.Need-reduced-requires-7
-reduced-requires-7 c κs = search needs
+reduced-requires-7 c κs = tt
 
 slice-write-out-7 : tie.Need-slice-write-out-7
 slice-write-out-7 c = room-for (now (c .before .before .before .before .before .before .before .before .before .before .before .before .before .before .before .before .before .args .out)) (c .before .before .before .before .before .before .reduced .result ∷ c .before .before .before .before .before .reduced2 .result ∷ c .before .before .before .before .reduced3 .result ∷ c .before .before .before .reduced4 .result ∷ c .before .before .reduced5 .result ∷ c .before .reduced6 .result ∷ []) 6 (c .before .before .before .before .before .before .before .before .before .before .before .before .before .before .before .before .before .pre .0) (lit< tt)
@@ -158,7 +157,7 @@ add-reduced-19 : tie.Need-add-reduced-19
 add-reduced-19 c = fits-8 (bit _ _ (c .before .before .before .before .before .before .before .before .before .before .before .before .before .before .entry-at .ensures)) (bit _ _ (c .before .before .before .before .before .before .before .before .before .before .before .before .before .entry-at2 .ensures)) (bit _ _ (c .before .before .before .before .before .before .before .before .before .before .before .before .entry-at3 .ensures)) (bit _ _ (c .before .before .before .before .before .before .before .before .before .before .before .entry-at4 .ensures)) (bit _ _ (c .before .before .before .before .before .before .before .before .before .before .entry-at5 .ensures)) (bit _ _ (c .before .before .before .before .before .before .before .before .before .entry-at6 .ensures)) (bit _ _ (c .before .before .before .before .before .before .before .before .entry-at7 .ensures)) (bit _ _ (c .before .before .before .before .before .before .before .entry-at8 .ensures))
 
 reduced-requires-8 : tie.Need-reduced-requires-8
-reduced-requires-8 c κs = search needs
+reduced-requires-8 c κs = tt
 
 slice-write-out-8 : tie.Need-slice-write-out-8
 slice-write-out-8 c = room-for (now (c .before .before .before .before .before .before .before .before .before .before .before .before .before .before .before .before .before .before .args .out)) (c .before .before .before .before .before .before .before .reduced .result ∷ c .before .before .before .before .before .before .reduced2 .result ∷ c .before .before .before .before .before .reduced3 .result ∷ c .before .before .before .before .reduced4 .result ∷ c .before .before .before .reduced5 .result ∷ c .before .before .reduced6 .result ∷ c .before .reduced7 .result ∷ []) 7 (c .before .before .before .before .before .before .before .before .before .before .before .before .before .before .before .before .before .before .pre .0) (lit< tt)
