@@ -12,10 +12,11 @@
 --   multiples-fit, sums-fit   so its multiples and their sums fit a u64
 --   word-small       a word that is looked up is at most 2 ^ 60
 --   words-2 .. words-8   a sum of two to eight words fits a u64
---   words-asked      what the sums of eight words ask of the table
---   length-wordSums  they are eight
---   wide-spectrum    the lanes of the eight sums are the spectrum of five inputs
---   wide-written     the same, as they are written
+--   table-words      the words that a leaf has are sixteen, and small
+--   nibble-fits, nibble-asked   what looking up the word of a nibble of the leaf asks
+--   leaf-written     the lanes of the sums of a leaf's words are its spectrum
+--   eight-asked      what the sums of eight words ask for
+--   length-wordSums  how many they are
 use Prim.Native.Nat.{ℕ, zero, suc, _+_, _-_, _*_, _/_, _%_, _^_, _≤_, _<_}
 use native.Mathlib.Nat.{add-mul, add-assoc, div-add-mod', mod-lt}
 use native.Mathlib.Omega.{arith}
@@ -23,17 +24,17 @@ use mathlib.Core.Path.{_≡_, refl, sym, ap, ap₂, subst, _∙_}
 use mathlib.Core.Bool.{cond}
 use mathlib.Core.List.{List}
 use mathlib.Core.Logic.{⊎-elim}
-use lib.Bits.{bitXor, xor-zero-l}
+use lib.Bits.{bitXor, xor-lt, xor-zero-l}
 use lib.Dec.{lit<}
 use lib.ListN.{length, getD}
-use lib.Pow.{shr-shr}
+use lib.Pow.{pow-add, pow-mono, shr-shr}
 use mir.Syntax.{w64}
 use mir.Val.{Fits}
 use Rattle.bits.specs.Packed.{entry, tabulate}
 use Rattle.bits.proofs.Below.{lt-or-ge}
 use Rattle.bits.proofs.Digits.{digit-above}
 use Rattle.bits.proofs.Packed.{entry-lt, length-tabulate, tabulate-at, tabulate-past, tabulate-ext}
-use Rattle.spectra.specs.Lanes.{nibble, bitOf, lanes, lane, nibbleWord, nibbleWords, wordAt, wordSums, laneNumbers}
+use Rattle.spectra.specs.Lanes.{nibble, bitOf, lanes, lane, nibbleWord, nibbleWords, wordAt, wordSums, laneNumbers, LeafAsks}
 use Rattle.spectra.specs.Spectrum.{inside, sumTo, subsetSum, reduce, coefficient, spectrum}
 use Rattle.spectra.specs.Transform.{entriesFrom, Most}
 use Rattle.spectra.specs.declared.Kind.{Kind}
@@ -223,22 +224,30 @@ module _ {a b : ℕ} (ha : a ≤ 2 ^ 60) (hb : b ≤ 2 ^ 60) where
             pub words-8 : {h : ℕ} → h ≤ 2 ^ 60 → Fits w64 (a + b + c + d + e + f + g + h)
             words-8 hh = omega arith
 
--- ---- five inputs
+-- ---- the spectrum of a + 2 inputs
 
 place-four : (at u t : ℕ) → at % 4 ≡ 0 → (at / 4 + u) * 4 + t ≡ at + (u * 4 + t)
 place-four at u t h = omega arith
 
-module _ (words s : List ℕ) (at k : ℕ) (four : at % 4 ≡ 0) (hk : k < 32) (e : words ≡ nibbleWords (k % 4)) where
+module _ (a places : ℕ) (words s : List ℕ) (at k : ℕ) (asks : LeafAsks a places words (length s) at k) where
   low-lt : k % 4 < 4
   low-lt = mod-lt k (lit< tt)
 
-  high-lt : k / 4 < 8
-  high-lt = omega arith
+  high-lt : k / 4 < 2 ^ a
+  high-lt = let e = pow-add 2 a 2 in omega (arith, asks .polarity)
 
-  pub words-asked : (len : ℕ) → at + 32 ≤ 8 * len → at + 32 < 2 ^ 64
-      → (length words ≡ 16) × Most (2 ^ 60) words × (k / 4 < 8) × (at / 4 + 8 ≤ 2 * len) × (at / 4 + 8 < 2 ^ 64)
-  words-asked len within fits =
-      (words-length words (k % 4) e low-lt, words-most words (k % 4) e low-lt, high-lt, omega arith, omega arith)
+  pub table-words : (length words ≡ 16) × Most (2 ^ 60) words
+  table-words = (words-length words (k % 4) (asks .worded) low-lt, words-most words (k % 4) (asks .worded) low-lt)
+
+  pub nibble-fits : (t : ℕ) → t < 2 ^ a → Fits w64 (at / 4 + bitXor t (k / 4))
+  nibble-fits t h =
+      let e = pow-add 2 a 2 in
+      let l : bitXor t (k / 4) < 2 ^ a = xor-lt a t (k / 4) h high-lt in omega (arith, asks .fits)
+
+  pub nibble-asked : (t : ℕ) → t < 2 ^ a → (length words ≡ 16) × (at / 4 + bitXor t (k / 4) < 2 * length s)
+  nibble-asked t h =
+      let e = pow-add 2 a 2 in
+      let l : bitXor t (k / 4) < 2 ^ a = xor-lt a t (k / 4) h high-lt in (table-words .0, omega (arith, asks .within))
 
   abbrev table : ℕ → ℕ
   table = entriesFrom s at
@@ -249,40 +258,49 @@ module _ (words s : List ℕ) (at k : ℕ) (four : at % 4 ≡ 0) (hk : k < 32) (
 
   word-four : (u : ℕ) → wordAt words s (at / 4 + u) ≡ lanes (four-sum u)
   word-four u =
-      word-entries words (k % 4) e low-lt s (at / 4 + u)
+      word-entries words (k % 4) (asks .worded) low-lt s (at / 4 + u)
       ∙ lanes-ext (subsetSum 2 (k % 4) (λ t. entry s ((at / 4 + u) * 4 + t))) (four-sum u)
       (λ r _. subset-ext 2 (k % 4) (λ t. entry s ((at / 4 + u) * 4 + t)) (λ t. table (u * 4 + t)) r low-lt
-      (λ t _. ap (entry s) (place-four at u t four)))
+      (λ t _. ap (entry s) (place-four at u t (asks .fours))))
 
-  sum-five : (i r : ℕ) → r < 4 → subsetSum 3 (k / 4) (λ u. four-sum u r) i ≡ subsetSum 5 k table (i * 4 + r)
-  sum-five i r hr =
-      sym (subset-blocks 3 2 (k / 4) (k % 4) i r table low-lt hr)
-      ∙ ap (λ (x : ℕ). subsetSum 5 x table (i * 4 + r)) (div-add-mod' k 4)
+  sum-whole : (i r : ℕ) → r < 4 → subsetSum a (k / 4) (λ u. four-sum u r) i ≡ subsetSum (a + 2) k table (i * 4 + r)
+  sum-whole i r hr =
+      sym (subset-blocks a 2 (k / 4) (k % 4) i r table low-lt hr)
+      ∙ ap (λ (x : ℕ). subsetSum (a + 2) x table (i * 4 + r)) (div-add-mod' k 4)
 
-  word-five : (i : ℕ) → i < 8 → getD (wordSums (k / 4) words s (at / 4)) i 0 ≡ lanes (λ r. subsetSum 5 k table (i * 4 + r))
+  word-whole : (i : ℕ) → i < 2 ^ a → getD (wordSums a (k / 4) words s (at / 4)) i 0 ≡ lanes (λ r. subsetSum (a + 2) k table (i * 4 + r))
   unfolding coefficient
-  word-five i hi =
-      spectrum-at Mrm 3 (k / 4) (λ u. wordAt words s (at / 4 + u)) i hi
-      ∙ subset-ext 3 (k / 4) (λ u. wordAt words s (at / 4 + u)) (λ u. lanes (four-sum u)) i high-lt (λ u _. word-four u)
-      ∙ lanes-sum 3 (k / 4) four-sum i
-      ∙ lanes-ext (λ r. subsetSum 3 (k / 4) (λ u. four-sum u r) i) (λ r. subsetSum 5 k table (i * 4 + r)) (sum-five i)
+  word-whole i hi =
+      spectrum-at Mrm a (k / 4) (λ u. wordAt words s (at / 4 + u)) i hi
+      ∙ subset-ext a (k / 4) (λ u. wordAt words s (at / 4 + u)) (λ u. lanes (four-sum u)) i high-lt (λ u _. word-four u)
+      ∙ lanes-sum a (k / 4) four-sum i
+      ∙ lanes-ext (λ r. subsetSum a (k / 4) (λ u. four-sum u r) i) (λ r. subsetSum (a + 2) k table (i * 4 + r)) (sum-whole i)
 
-  lane-five : (j : ℕ) → j < 32 → lane (getD (wordSums (k / 4) words s (at / 4)) (j / 4) 0) (j % 4) ≡ subsetSum 5 k table j
-  lane-five j hj =
-      ap (λ (x : ℕ). lane x (j % 4)) (word-five (j / 4) (omega arith))
-      ∙ lane-lanes (λ r. subsetSum 5 k table (j / 4 * 4 + r)) (j % 4) (mod-lt j (lit< tt))
-      (λ r _. let l = subset-le 5 k table (j / 4 * 4 + r) (λ m. entry-lt s (at + m)) hk in omega arith)
-      ∙ ap (subsetSum 5 k table) (div-add-mod' j 4)
+  module _ (few : a ≤ 3) where
+    lane-whole : (j : ℕ) → j < 2 ^ (a + 2) → lane (getD (wordSums a (k / 4) words s (at / 4)) (j / 4) 0) (j % 4) ≡ subsetSum (a + 2) k table j
+    lane-whole j hj =
+        let e = pow-add 2 a 2 in
+        let most : 2 ^ (a + 2) ≤ 2 ^ 5 = pow-mono {j = 5} (omega arith) in
+        ap (λ (x : ℕ). lane x (j % 4)) (word-whole (j / 4) (omega arith))
+        ∙ lane-lanes (λ r. subsetSum (a + 2) k table (j / 4 * 4 + r)) (j % 4) (mod-lt j (lit< tt))
+        (λ r _. let l = subset-le (a + 2) k table (j / 4 * 4 + r) (λ m. entry-lt s (at + m)) (asks .polarity) in omega arith)
+        ∙ ap (subsetSum (a + 2) k table) (div-add-mod' j 4)
 
-  pub wide-spectrum : (kind : Kind) → laneNumbers kind (wordSums (k / 4) words s (at / 4)) ≡ spectrum kind 5 k table
-  unfolding spectrum coefficient
-  wide-spectrum kind =
-      tabulate-ext 32 (λ j. reduce kind (lane (getD (wordSums (k / 4) words s (at / 4)) (j / 4) 0) (j % 4))) (λ j. reduce kind (subsetSum 5 k table j))
-      (λ j h. ap (reduce kind) (lane-five j h))
+    lanes-spectrum : (kind : Kind) → laneNumbers kind (2 ^ (a + 2)) (wordSums a (k / 4) words s (at / 4)) ≡ spectrum kind (a + 2) k table
+    unfolding spectrum coefficient
+    lanes-spectrum kind =
+        tabulate-ext (2 ^ (a + 2)) (λ j. reduce kind (lane (getD (wordSums a (k / 4) words s (at / 4)) (j / 4) 0) (j % 4)))
+        (λ j. reduce kind (subsetSum (a + 2) k table j)) (λ j h. ap (reduce kind) (lane-whole j h))
 
-  pub wide-written : (kind : Kind) {sums out : List ℕ} → sums ≡ wordSums (k / 4) words s (at / 4) → out ≡ laneNumbers kind sums
-      → out ≡ spectrum kind 5 k table
-  wide-written kind es eo = eo ∙ ap (laneNumbers kind) es ∙ wide-spectrum kind
+    pub leaf-written : (kind : Kind) {sums out : List ℕ} → sums ≡ wordSums a (k / 4) words s (at / 4) → out ≡ laneNumbers kind (2 ^ (a + 2)) sums
+        → out ≡ spectrum kind (a + 2) k table
+    leaf-written kind es eo = eo ∙ ap (laneNumbers kind (2 ^ (a + 2))) es ∙ lanes-spectrum kind
 
-pub length-wordSums : (k : ℕ) (words s : List ℕ) (at : ℕ) → length (wordSums k words s at) ≡ 8
-length-wordSums k words s at = length-spectrum Mrm 3 k (λ u. wordAt words s (at + u))
+pub eight-asked : (places : ℕ) (words s : List ℕ) (at k : ℕ) → LeafAsks 3 places words (length s) at k
+    → (length words ≡ 16) × Most (2 ^ 60) words × (k / 4 < 8) × (at / 4 + 8 ≤ 2 * length s) × (at / 4 + 8 < 2 ^ 64)
+eight-asked places words s at k asks =
+    let w = table-words 3 places words s at k asks in
+    (w .0, w .1, high-lt 3 places words s at k asks, omega (arith, asks .within), omega (arith, asks .fits))
+
+pub length-wordSums : (a k : ℕ) (words s : List ℕ) (at : ℕ) → length (wordSums a k words s at) ≡ 2 ^ a
+length-wordSums a k words s at = length-spectrum Mrm a k (λ u. wordAt words s (at + u))

@@ -7,7 +7,7 @@
 --   top-le                the top bit of the polarity is 0 or 1
 --   other-le              and so is the other bit
 --   down                  the number of inputs falls
---   wide-start            what the transform asks of the place and of the words holds at place 0
+--   ready-start           what the transform asks of the place and of the words holds at place 0
 --   half-fits             half x of the table begins at a number that fits a usize
 --   place-fits            and so does its place in the bytes
 --   part-asked            what the transform asks of a half
@@ -22,7 +22,7 @@
 --   transformed           the combined halves are the spectrum
 --   transformed-one       the spectrum of one entry
 --   transformed-leaf      the spectrum that a leaf makes
---   one-asked, eight-asked, wide-asked   what reading one entry asks, and what the leaves of three and of five inputs ask
+--   one-asked, leaf-asked   what reading one entry asks, and what a leaf asks
 use Prim.Native.Nat.{ℕ, suc, _+_, _-_, _*_, _/_, _%_, _^_, _≤_, _<_, zero-le}
 use native.Mathlib.Nat.{div-lt-iff-lt-mul, div-add-mod', mod-lt, mul-le-mul-right, mul-assoc, add-assoc, add-zero, one-mul}
 use native.Mathlib.Omega.{arith}
@@ -38,7 +38,7 @@ use mir.Val.{Fits}
 use Rattle.bits.specs.Packed.{entry}
 use Rattle.bits.proofs.Below.{lt-or-ge}
 use Rattle.bits.proofs.Packed.{entry-lt}
-use Rattle.spectra.specs.Lanes.{nibbleWords, Wide}
+use Rattle.spectra.specs.Lanes.{nibbleWords, LeafAsks, Ready}
 use Rattle.spectra.specs.Spectrum.{spectrum}
 use Rattle.spectra.specs.Transform.{entriesFrom, Most, combined}
 use Rattle.spectra.specs.declared.Kind.{Kind}
@@ -54,7 +54,7 @@ one-fits n h = shl-exact {a = 1} 1 n 64 (lit< tt) (omega arith) ∙ one-mul (2 ^
 -- what the transform requires, of so many places of memory and so many bytes of tables
 abbrev Asks : ℕ → List ℕ → ℕ → ℕ → ℕ → ℕ → Type 0
 Asks places words len at n k =
-    (n ≤ 15) × (places ≡ 2 ^ n) × (k < 2 ^ n) × (at + 2 ^ n ≤ 8 * len) × (at + 2 ^ n < 2 ^ 64) × Wide n at k words
+    (n ≤ 15) × (places ≡ 2 ^ n) × (k < 2 ^ n) × (at + 2 ^ n ≤ 8 * len) × (at + 2 ^ n < 2 ^ 64) × Ready n at k words
 
 pub record Parted (out words : List ℕ) (len at n k h : ℕ) : Type 0 where
   pub few : n ≤ 15
@@ -66,7 +66,7 @@ pub record Parted (out words : List ℕ) (len at n k h : ℕ) : Type 0 where
   pub below : k < h + h
   pub inside : at + (h + h) ≤ 8 * len
   pub fits : at + (h + h) < 2 ^ 64
-  pub wide : Wide n at k words
+  pub ready : Ready n at k words
 
 doubled : (n h : ℕ) → 1 ≤ n → h ≡ 2 ^ (n - 1) → 2 ^ n ≡ h + h
 doubled n h some e =
@@ -91,7 +91,7 @@ parted out words len at n k {h} asks ne e =
       below = omega (arith, asks .2);
       inside = omega (arith, asks .3);
       fits = omega (arith, asks .4);
-      wide = asks .5;
+      ready = asks .5;
     }
 
 pub down : {n t : ℕ} → 1 ≤ n → n ≡ t → n - 1 < t
@@ -100,13 +100,13 @@ down some e = omega arith
 times-le : (x h : ℕ) → x ≤ 1 → x * h ≤ h
 times-le x h l = subst (λ (y : ℕ). x * h ≤ y) (one-mul h) (mul-le-mul-right h l)
 
-pub wide-start : (n k : ℕ) {words : List ℕ} → words ≡ nibbleWords (k % 4) → Wide n 0 k words
-wide-start n k e five = (refl, e)
+pub ready-start : (n k : ℕ) {words : List ℕ} → words ≡ nibbleWords (k % 4) → Ready n 0 k words
+ready-start n k e three = (refl, e)
 
 -- a half of a multiple of 4 begins at one, and its polarity has the same two lowest bits
-wide-half : (words : List ℕ) (at n k h x : ℕ) → h ≡ 2 ^ (n - 1) → Wide n at k words → Wide (n - 1) (at + x * h) (k % h) words
-wide-half words at n k h x e wide five =
-    let w = wide (omega arith) in
+ready-half : (words : List ℕ) (at n k h x : ℕ) → h ≡ 2 ^ (n - 1) → Ready n at k words → Ready (n - 1) (at + x * h) (k % h) words
+ready-half words at n k h x e ready three =
+    let w = ready (omega arith) in
     let up : n - 1 ≡ (n - 3) + 2 = omega arith in
     let fours : h ≡ 2 ^ ((n - 3) + 2) = e ∙ ap (λ (y : ℕ). 2 ^ y) up in
     let place : x * h ≡ x * 2 ^ (n - 3) * 4 = ap (λ (y : ℕ). x * y) (fours ∙ pow-add 2 (n - 3) 2) ∙ sym (mul-assoc x (2 ^ (n - 3)) 4) in
@@ -135,7 +135,7 @@ module _ {out words : List ℕ} {len at n k h : ℕ} (p : Parted out words len a
           omega (arith, p .half),
           omega (arith, p .half, p .inside),
           omega (arith, p .half, p .fits),
-          wide-half words at n k h x (p .half) (p .wide),
+          ready-half words at n k h x (p .half) (p .ready),
         )
 
   pub half-scaled : Fits w64 (h * 2)
@@ -270,14 +270,15 @@ module _ (out words : List ℕ) (len at n k : ℕ) (asks : Asks (length out) wor
       let p : 2 ^ n ≡ 1 = ap (λ (m : ℕ). 2 ^ m) z in
       (omega (arith, asks .3), omega (arith, asks .1))
 
-  pub eight-asked : n ≡ 3 → (length out ≡ 8) × (k < 8) × (at + 8 ≤ 8 * len) × (at + 8 < 2 ^ 64)
-  eight-asked z =
-      let p : 2 ^ n ≡ 8 = ap (λ (m : ℕ). 2 ^ m) z in
-      (asks .1 ∙ p, omega (arith, asks .2), omega (arith, asks .3), omega (arith, asks .4))
-
-  pub wide-asked : n ≡ 5
-      → (length out ≡ 32) × (k < 32) × (at + 32 ≤ 8 * len) × (at + 32 < 2 ^ 64) × (at % 4 ≡ 0) × (words ≡ nibbleWords (k % 4))
-  wide-asked z =
-      let p : 2 ^ n ≡ 32 = ap (λ (m : ℕ). 2 ^ m) z in
+  pub leaf-asked : (a : ℕ) → 1 ≤ a → n ≡ a + 2 → LeafAsks a (length out) words len at k
+  leaf-asked a some z =
+      let p : 2 ^ n ≡ 2 ^ (a + 2) = ap (λ (m : ℕ). 2 ^ m) z in
       let w = asks .5 (omega arith) in
-      (asks .1 ∙ p, omega (arith, asks .2), omega (arith, asks .3), omega (arith, asks .4), w .0, w .1)
+      record {
+        room = asks .1 ∙ p;
+        polarity = omega (arith, asks .2);
+        within = omega (arith, asks .3);
+        fits = omega (arith, asks .4);
+        fours = w .0;
+        worded = w .1;
+      }

@@ -7,10 +7,11 @@
 --   nibbleWord    the word of the subset sums of a nibble's four entries in a polarity
 --   nibbleWords   these words, for each nibble
 --   wordAt        the word of nibble i of packed bytes
---   wordSums      the spectrum of three inputs whose entries are the words of eight nibbles
---   laneNumbers   the lanes of eight words, as the kind has them
---   Wide          what the transform of five inputs or more asks of the place and of the words
-use Prim.Native.Nat.{ℕ, _+_, _-_, _*_, _/_, _%_, _^_, _≤_}
+--   wordSums      the MRM spectrum of a inputs whose entries are the words of nibbles
+--   laneNumbers   the lanes of words, as the kind has them
+--   LeafAsks      what a leaf of a + 2 inputs asks for
+--   Ready         what the transform asks of the place and of the words
+use Prim.Native.Nat.{ℕ, _+_, _-_, _*_, _/_, _%_, _^_, _≤_, _<_}
 use mathlib.Core.List.{List}
 use mathlib.Core.Path.{_≡_}
 use lib.ListN.{getD}
@@ -40,12 +41,21 @@ nibbleWords k = tabulate 16 (nibbleWord k)
 unfoldable pub wordAt : List ℕ → List ℕ → ℕ → ℕ
 wordAt words s i = getD words (nibble s i) 0
 
-abbrev pub wordSums : ℕ → List ℕ → List ℕ → ℕ → List ℕ
-wordSums k words s at = spectrum Mrm 3 k (λ u. wordAt words s (at + u))
+abbrev pub wordSums : ℕ → ℕ → List ℕ → List ℕ → ℕ → List ℕ
+wordSums a k words s at = spectrum Mrm a k (λ u. wordAt words s (at + u))
 
-abbrev pub laneNumbers : Kind → List ℕ → List ℕ
-laneNumbers kind sums = tabulate 32 (λ j. reduce kind (lane (getD sums (j / 4) 0) (j % 4)))
+abbrev pub laneNumbers : Kind → ℕ → List ℕ → List ℕ
+laneNumbers kind count sums = tabulate count (λ j. reduce kind (lane (getD sums (j / 4) 0) (j % 4)))
+
+-- a leaf has the place and the words that the transform of three inputs or more asks for
+pub record LeafAsks (a places : ℕ) (words : List ℕ) (len at k : ℕ) : Type 0 where
+  pub room : places ≡ 2 ^ (a + 2)
+  pub polarity : k < 2 ^ (a + 2)
+  pub within : at + 2 ^ (a + 2) ≤ 8 * len
+  pub fits : at + 2 ^ (a + 2) < 2 ^ 64
+  pub fours : at % 4 ≡ 0
+  pub worded : words ≡ nibbleWords (k % 4)
 
 -- a place that is a multiple of 4, and the words for the polarity's two lowest bits
-abbrev pub Wide : ℕ → ℕ → ℕ → List ℕ → Type 0
-Wide n at k words = 5 ≤ n → (at % 4 ≡ 0) × (words ≡ nibbleWords (k % 4))
+abbrev pub Ready : ℕ → ℕ → ℕ → List ℕ → Type 0
+Ready n at k words = 3 ≤ n → (at % 4 ≡ 0) × (words ≡ nibbleWords (k % 4))

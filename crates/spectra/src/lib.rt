@@ -4,7 +4,7 @@ ghost use Rattle.bits.specs.Answer.{outcome, leaves};
 ghost use Rattle.bits.specs.Bits.{valueFrom};
 ghost use Rattle.bits.specs.Packed.{entry, packed, tabulate};
 ghost use Rattle.spectra.specs.Filling.{Counted, rowsFilled, spectraFilled, rowsFit};
-ghost use Rattle.spectra.specs.Lanes.{nibble, bitOf, nibbleWord, nibbleWords, wordAt, wordSums, laneNumbers, Wide};
+ghost use Rattle.spectra.specs.Lanes.{nibble, bitOf, nibbleWord, nibbleWords, wordAt, wordSums, laneNumbers, LeafAsks, Ready};
 ghost use Rattle.spectra.specs.Operations.{spectrumOf, undoneOf, rowsOf, jobSpectraOf, tableOk, at, sameNumbers};
 ghost use Rattle.spectra.specs.Packing.{parityAt, Closed, Packs, Lent};
 ghost use Rattle.spectra.specs.Spectrum.{spectrum, reduce, recovered};
@@ -54,29 +54,6 @@ fn combine(out: &mut [u16], half: usize, kind: Kind)
         out[half + i] = reduced(out[i] + out[half + i], kind);
         i += 1;
     }
-}
-
-// The spectrum of three inputs, from its eight entries.
-fn leaf(out: &mut [u16], table: &[u8], at: usize, k: usize, kind: Kind)
-    requires { ⌜ (length (now out) ≡ 8) × (k < 8) × (at + 8 ≤ 8 * length (now table)) × (at + 8 < 2 ^ 64) ⌝ }
-    ensures { λ r. ⌜ now (out .exit) ≡ spectrum kind 3 k (entriesFrom (now (table .entry)) at) ⌝ }
-{
-    let e0 = entry_at(table, at + k);
-    let e1 = entry_at(table, at + (1 ^ k));
-    let e2 = entry_at(table, at + (2 ^ k));
-    let e3 = entry_at(table, at + (3 ^ k));
-    let e4 = entry_at(table, at + (4 ^ k));
-    let e5 = entry_at(table, at + (5 ^ k));
-    let e6 = entry_at(table, at + (6 ^ k));
-    let e7 = entry_at(table, at + (7 ^ k));
-    out[0] = reduced(e0, kind);
-    out[1] = reduced(e0 + e1, kind);
-    out[2] = reduced(e0 + e2, kind);
-    out[3] = reduced(e0 + e1 + e2 + e3, kind);
-    out[4] = reduced(e0 + e4, kind);
-    out[5] = reduced(e0 + e1 + e4 + e5, kind);
-    out[6] = reduced(e0 + e2 + e4 + e6, kind);
-    out[7] = reduced(e0 + e1 + e2 + e3 + e4 + e5 + e6 + e7, kind);
 }
 
 // Four entries from entry 4 i on as a number, the first its highest bit.
@@ -134,7 +111,7 @@ fn word_at(words: &[u64], table: &[u8], i: usize) -> u64
 // The sums of eight words, as the spectrum of three inputs has them.
 fn eight_words(words: &[u64], table: &[u8], at: usize, k: usize) -> [u64; 8]
     requires { ⌜ (length (now words) ≡ 16) × Most (2 ^ 60) (now words) × (k < 8) × (at + 8 ≤ 2 * length (now table)) × (at + 8 < 2 ^ 64) ⌝ }
-    ensures { λ r. ⌜ r ≡ wordSums k (now (words .entry)) (now (table .entry)) at ⌝ }
+    ensures { λ r. ⌜ r ≡ wordSums 3 k (now (words .entry)) (now (table .entry)) at ⌝ }
 {
     let w0 = word_at(words, table, at + k);
     let w1 = word_at(words, table, at + (1 ^ k));
@@ -156,25 +133,36 @@ fn eight_words(words: &[u64], table: &[u8], at: usize, k: usize) -> [u64; 8]
     ]
 }
 
-// Writes the lanes of eight words, as the kind has them.
-fn put_lanes(out: &mut [u16], sums: &[u64], kind: Kind)
-    requires { ⌜ (length (now out) ≡ 32) × (length (now sums) ≡ 8) ⌝ }
-    ensures { λ r. ⌜ now (out .exit) ≡ laneNumbers kind (now (sums .entry)) ⌝ }
+// Writes the lanes of words, as the kind has them.
+fn put_lanes(out: &mut [u16], sums: &[u64], count: usize, kind: Kind)
+    requires { ⌜ (length (now out) ≡ count) × (count ≡ length (now sums) * 4) × (count ≤ 32) ⌝ }
+    ensures { λ r. ⌜ now (out .exit) ≡ laneNumbers kind count (now (sums .entry)) ⌝ }
 {
     let mut j = 0;
-    while j < 32 {
+    while j < count {
         out[j] = reduced(((sums[j / 4] >> (16 * (j % 4))) % 65536) as u16, kind);
         j += 1;
     }
 }
 
+// The spectrum of three inputs, from the words of its two nibbles.
+fn leaf(out: &mut [u16], words: &[u64], table: &[u8], at: usize, k: usize, kind: Kind)
+    requires { ⌜ LeafAsks 1 (length (now out)) (now words) (length (now table)) at k ⌝ }
+    ensures { λ r. ⌜ now (out .exit) ≡ spectrum kind 3 k (entriesFrom (now (table .entry)) at) ⌝ }
+{
+    let w0 = word_at(words, table, at / 4 + k / 4);
+    let w1 = word_at(words, table, at / 4 + (1 ^ (k / 4)));
+    let sums = [w0, w0 + w1];
+    put_lanes(out, &sums, 8, kind);
+}
+
 // The spectrum of five inputs, from the words of its eight nibbles.
 fn wide_leaf(out: &mut [u16], words: &[u64], table: &[u8], at: usize, k: usize, kind: Kind)
-    requires { ⌜ (length (now out) ≡ 32) × (k < 32) × (at + 32 ≤ 8 * length (now table)) × (at + 32 < 2 ^ 64) × (at % 4 ≡ 0) × (now words ≡ nibbleWords (k % 4)) ⌝ }
+    requires { ⌜ LeafAsks 3 (length (now out)) (now words) (length (now table)) at k ⌝ }
     ensures { λ r. ⌜ now (out .exit) ≡ spectrum kind 5 k (entriesFrom (now (table .entry)) at) ⌝ }
 {
     let sums = eight_words(words, table, at / 4, k / 4);
-    put_lanes(out, &sums, kind);
+    put_lanes(out, &sums, 32, kind);
 }
 
 // The number of coefficients of n inputs.
@@ -196,7 +184,7 @@ fn transform(
     k: usize,
     kind: Kind,
 )
-    requires { ⌜ (n ≤ 15) × (length (now out) ≡ 2 ^ n) × (k < 2 ^ n) × (at + 2 ^ n ≤ 8 * length (now table)) × (at + 2 ^ n < 2 ^ 64) × Wide n at k (now words) ⌝ }
+    requires { ⌜ (n ≤ 15) × (length (now out) ≡ 2 ^ n) × (k < 2 ^ n) × (at + 2 ^ n ≤ 8 * length (now table)) × (at + 2 ^ n < 2 ^ 64) × Ready n at k (now words) ⌝ }
     ensures { λ r. ⌜ now (out .exit) ≡ spectrum kind n k (entriesFrom (now (table .entry)) at) ⌝ }
 {
     if n == 0 {
@@ -204,7 +192,7 @@ fn transform(
         return;
     }
     if n == 3 {
-        leaf(out, table, at, k, kind);
+        leaf(out, words, table, at, k, kind);
         return;
     }
     if n == 5 {

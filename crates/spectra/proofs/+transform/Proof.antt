@@ -4,8 +4,9 @@ use native.Mathlib.Nat.{le-refl, pos-of-ne-zero}
 use native.Mathlib.Omega.{arith}
 use mathlib.Core.Path.{sym, _∙_}
 use denote.Ref.{now}
+use lib.Dec.{lit≤}
 use lib.ListN.{length, length-set}
-use Rattle.spectra.proofs.Transforming.{parted, top-le, other-le, down, half-fits, place-fits, part-asked, half-scaled, front-inside, front-size, back-start, back-size, whole-halves, combine-asked, transformed, transformed-one, transformed-leaf, one-asked, eight-asked, wide-asked}
+use Rattle.spectra.proofs.Transforming.{parted, top-le, other-le, down, half-fits, place-fits, part-asked, half-scaled, front-inside, front-size, back-start, back-size, whole-halves, combine-asked, transformed, transformed-one, transformed-leaf, one-asked, leaf-asked}
 use borrow.Fn.Kinds.{In}
 use borrow.Fn.PlainCycle.{Measures, is, falls, and}
 use Rattle.spectra.proofs.transform.Reads as transform
@@ -58,7 +59,7 @@ transform-returns : (t : ℕ) → transform-lts.Need-returns (claims t) (transfo
 transform-returns t c = let a = c .before .before .before .before .before .args in transformed-one (a .kind) (now (a .table)) (now (a .out)) (a .at) (a .n) (a .k) (c .entry-at .result) (c .before .if1 .taken) (c .before .before .before .before .before .pre .1 .1) (c .before .before .before .before .before .pre .1 .2) (c .entry-at .ensures)
 
 transform-leaf-requires : (t : ℕ) → transform-lts.Need-leaf-requires (claims t) (transform-at t) transform.Post
-transform-leaf-requires t c κs = let a = c .before .before .before .before .before .before .args in eight-asked (now (a .out)) (now (a .words)) (length (now (a .table))) (a .at) (a .n) (a .k) (c .before .before .before .before .before .before .pre .1) (c .before .if2 .taken)
+transform-leaf-requires t c κs = let a = c .before .before .before .before .before .before .args in leaf-asked (now (a .out)) (now (a .words)) (length (now (a .table))) (a .at) (a .n) (a .k) (c .before .before .before .before .before .before .pre .1) 1 (le-refl 1) (c .before .if2 .taken)
 
 transform-same-length-2 : (t : ℕ) → transform-lts.Need-same-length-2 (claims t) (transform-at t) transform.Post
 transform-same-length-2 t c = c .before .before .leaf .kept .0
@@ -67,7 +68,7 @@ transform-returns-2 : (t : ℕ) → transform-lts.Need-returns-2 (claims t) (tra
 transform-returns-2 t c = let a = c .before .before .before .before .before .before .before .before .before .args in transformed-leaf (a .kind) (now (a .table)) (a .at) (a .n) (a .k) (c .before .before .before .before .if2 .taken) (c .before .before .leaf .ensures)
 
 transform-wide-leaf-requires : (t : ℕ) → transform-lts.Need-wide-leaf-requires (claims t) (transform-at t) transform.Post
-transform-wide-leaf-requires t c κs = let a = c .before .before .before .before .before .before .before .args in wide-asked (now (a .out)) (now (a .words)) (length (now (a .table))) (a .at) (a .n) (a .k) (c .before .before .before .before .before .before .before .pre .1) (c .before .if3 .taken)
+transform-wide-leaf-requires t c κs = let a = c .before .before .before .before .before .before .before .args in leaf-asked (now (a .out)) (now (a .words)) (length (now (a .table))) (a .at) (a .n) (a .k) (c .before .before .before .before .before .before .before .pre .1) 3 (lit≤ tt) (c .before .if3 .taken)
 
 transform-same-length-3 : (t : ℕ) → transform-lts.Need-same-length-3 (claims t) (transform-at t) transform.Post
 transform-same-length-3 t c = c .before .before .wide-leaf .kept .0

@@ -11,16 +11,16 @@ use Rattle.spectra.proofs.put_lanes.Statement.{statement}
 use Rattle.spectra.proofs.put_lanes.Tie as tie
 
 abbrev Inv-loop : tie.InvT-loop
-Inv-loop out₀ sums kind j₀ out j = Written out₀ 0 32 (λ i. reduce kind (lane (getD sums (i / 4) 0) (i % 4))) out j
+Inv-loop out₀ sums count kind j₀ out j = Written out₀ 0 count (λ i. reduce kind (lane (getD sums (i / 4) 0) (i % 4))) out j
 
 abbrev μ-loop : tie.MeasureT-loop
-μ-loop out₀ sums kind j₀ out j = 32 - j
+μ-loop out₀ sums count kind j₀ out j = count - j
 
 loop-holds : tie.Need-loop-holds Inv-loop μ-loop
 loop-holds c = written-none (omega (arith, c .before .before .pre .0))
 
 mul-reduced : tie.Need-mul-reduced Inv-loop μ-loop
-mul-reduced c = omega (arith, c .loop-test .taken)
+mul-reduced c = omega (arith, c .loop-test .taken, c .before .before .before .before .pre .2)
 
 shared-slice-read-reduced : tie.Need-shared-slice-read-reduced Inv-loop μ-loop
 shared-slice-read-reduced c = omega (arith, c .before .before .before .before .before .pre .1, c .before .loop-test .taken)
@@ -38,13 +38,13 @@ reduced-requires : tie.Need-reduced-requires Inv-loop μ-loop
 reduced-requires c κs = tt
 
 mul-out : tie.Need-mul-out Inv-loop μ-loop
-mul-out c = omega (arith, c .before .before .loop-test .taken)
+mul-out c = omega (arith, c .before .before .loop-test .taken, c .before .before .before .before .before .before .pre .2)
 
 slice-write-out : tie.Need-slice-write-out Inv-loop μ-loop
 slice-write-out c = omega (arith, written-length (c .before .before .before .loop .inv), c .before .before .before .before .before .before .pre .0, c .before .before .loop-test .taken)
 
 add-j : tie.Need-add-j Inv-loop μ-loop
-add-j c = omega (arith, c .before .before .loop-test .taken)
+add-j c = omega (arith, c .before .before .loop-test .taken, c .before .before .before .before .before .before .pre .2)
 
 loop-less : tie.Need-loop-less Inv-loop μ-loop
 loop-less c = falls _ _ (c .before .before .loop-test .taken)

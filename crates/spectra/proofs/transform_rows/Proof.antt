@@ -4,7 +4,7 @@ use Prim.Native.Nat.{_-_}
 use denote.Ref.{now}
 use borrow.Author.Count.{falls}
 use Rattle.spectra.proofs.Filling.{Filling, row-place, filling-start, filling-length, filling-place, filling-part, filling-lent, filling-end, row-ready, size-fits}
-use Rattle.spectra.proofs.Transforming.{wide-start}
+use Rattle.spectra.proofs.Transforming.{ready-start}
 use Rattle.spectra.proofs.transform_rows.Statement.{statement}
 use Rattle.spectra.proofs.transform_rows.Tie as tie
 
@@ -69,7 +69,7 @@ transform-requires c κs = (
   c .before .before .before .before .before .before .before .before .before .pre .1,
   row-ready (c .before .before .before .before .before .before .before .before .before .args .n) (now (c .before .before .before .before .before .before .before .before .before .args .tables)) (c .before .before .before .before .table-bytes .ensures) (c .before .before .loop-test .taken) (c .before .before .before .before .before .before .before .before .before .pre .3),
   size-fits (c .before .before .before .before .before .before .before .before .before .pre .0),
-  wide-start (c .before .before .before .before .before .before .before .before .before .args .n) (c .before .before .before .before .before .before .before .before .before .args .k) (c .before .before .before .before .before .before .before .before .before .pre .4),
+  ready-start (c .before .before .before .before .before .before .before .before .before .args .n) (c .before .before .before .before .before .before .before .before .before .args .k) (c .before .before .before .before .before .before .before .before .before .pre .4),
 )
 
 add-r : tie.Need-add-r Inv-loop μ-loop
