@@ -18,9 +18,9 @@
 --   eight-asked      what the sums of eight words ask for
 --   length-wordSums  how many they are
 use Prim.Native.Nat.{ℕ, zero, suc, _+_, _-_, _*_, _/_, _%_, _^_, _≤_, _<_}
-use native.Mathlib.Nat.{add-mul, add-assoc, div-add-mod', mod-lt}
+use native.Mathlib.Nat.{div-add-mod', mod-lt}
 use native.Mathlib.Omega.{arith}
-use mathlib.Core.Path.{_≡_, refl, sym, ap, ap₂, subst, _∙_}
+use mathlib.Core.Path.{_≡_, sym, ap, ap₂, subst, _∙_}
 use mathlib.Core.Bool.{cond}
 use mathlib.Core.List.{List}
 use mathlib.Core.Logic.{⊎-elim}
@@ -30,7 +30,7 @@ use lib.ListN.{length, getD}
 use lib.Pow.{pow-add, pow-mono, shr-shr}
 use mir.Syntax.{w64}
 use mir.Val.{Fits}
-use Rattle.bits.specs.Packed.{entry, tabulate}
+use Rattle.bits.specs.Packed.{entry}
 use Rattle.bits.proofs.Below.{lt-or-ge}
 use Rattle.bits.proofs.Digits.{digit-above}
 use Rattle.bits.proofs.Packed.{entry-lt, length-tabulate, tabulate-at, tabulate-past, tabulate-ext}
@@ -148,6 +148,19 @@ module _ (words : List ℕ) (c : ℕ) (e : words ≡ nibbleWords c) (hc : c < 4)
 
 -- ---- the word of a nibble as the code makes it: each entry in the lanes whose sums have it
 
+-- entry 0 is in all four sums, entry 1 in the second and the fourth, entry 2 in the third and the fourth, entry 3 in the fourth
+abbrev in0 : ℕ
+in0 = 2 ^ 0 + 2 ^ 16 + 2 ^ 32 + 2 ^ 48
+
+abbrev in1 : ℕ
+in1 = 2 ^ 16 + 2 ^ 48
+
+abbrev in2 : ℕ
+in2 = 2 ^ 32 + 2 ^ 48
+
+abbrev in3 : ℕ
+in3 = 2 ^ 48
+
 -- the sum of the numbers of a function at the t inside j
 abbrev partSum : (ℕ → ℕ) → ℕ → ℕ
 partSum g j = sumTo 4 (λ t. cond (inside t j) (g t) 0)
@@ -169,12 +182,12 @@ module _ (g : ℕ → ℕ) where
   unfolding sumTo inside
   sum-3 = omega arith
 
-  lanes-parts : g 0 * 281479271743489 + g 1 * 281474976776192 + g 2 * 281479271677952 + g 3 * 281474976710656 ≡ lanes (partSum g)
+  lanes-parts : g 0 * in0 + g 1 * in1 + g 2 * in2 + g 3 * in3 ≡ lanes (partSum g)
   unfolding lanes
   lanes-parts = omega (arith, sum-0, sum-1, sum-2, sum-3)
 
 pub nibble-word : {a b c d : ℕ} (v k : ℕ) → a ≡ bitOf v k → b ≡ bitOf v (bitXor 1 k) → c ≡ bitOf v (bitXor 2 k) → d ≡ bitOf v (bitXor 3 k)
-    → a * 281479271743489 + b * 281474976776192 + c * 281479271677952 + d * 281474976710656 ≡ nibbleWord k v
+    → a * in0 + b * in1 + c * in2 + d * in3 ≡ nibbleWord k v
 unfolding nibbleWord subsetSum
 nibble-word v k ea eb ec ed = rw (ea ∙ ap (bitOf v) (sym (xor-zero-l k)), eb, ec, ed) (lanes-parts (λ t. bitOf v (bitXor t k)))
 
@@ -183,11 +196,11 @@ unfolding bitOf
 bit-lt v t e = rw e (mod-lt (v / 2 ^ (3 - t)) (lit< tt))
 
 module _ {a b c d : ℕ} (ha : a < 2) (hb : b < 2) (hc : c < 2) (hd : d < 2) where
-  pub multiples-fit : Fits w64 (a * 281479271743489) × Fits w64 (b * 281474976776192) × Fits w64 (c * 281479271677952) × Fits w64 (d * 281474976710656)
+  pub multiples-fit : Fits w64 (a * in0) × Fits w64 (b * in1) × Fits w64 (c * in2) × Fits w64 (d * in3)
   multiples-fit = (omega arith, omega arith, omega arith, omega arith)
 
-  pub sums-fit : Fits w64 (a * 281479271743489 + b * 281474976776192) × Fits w64 (a * 281479271743489 + b * 281474976776192 + c * 281479271677952)
-      × Fits w64 (a * 281479271743489 + b * 281474976776192 + c * 281479271677952 + d * 281474976710656)
+  pub sums-fit : Fits w64 (a * in0 + b * in1) × Fits w64 (a * in0 + b * in1 + c * in2)
+      × Fits w64 (a * in0 + b * in1 + c * in2 + d * in3)
   sums-fit = (omega arith, omega arith, omega arith)
 
 -- ---- sums of words

@@ -1,5 +1,4 @@
 -- `spectra::eight_words` meets its contract: the eight sums are the spectrum of three inputs whose entries are words.
-use borrow.Author.Needs.{needs}
 use native.Mathlib.Omega.{arith}
 use denote.Ref.{now}
 use lib.Dec.{lit<}

@@ -1,5 +1,4 @@
 -- `spectra::nibble_word` meets its contract: the entries' multiples are the word of the subset sums.
-use borrow.Author.Needs.{needs}
 use lib.Bits.{xor-lt}
 use lib.Dec.{lit<}
 use Rattle.spectra.proofs.Lanes.{nibble-word, bit-lt, multiples-fit, sums-fit}
