@@ -7,15 +7,14 @@
 --   rows-onward             past these checks the spectra are filled
 --   spectrum-row            the spectrum of a table is that of one row
 use Prim.Native.Nat.{ℕ, _-_, _*_, _/_, _^_, _≤_, _<_}
-use native.Mathlib.Nat.{zero-mul, one-mul, div-lt-iff-lt-mul, le-div-iff-mul-le, le-of-eq}
+use native.Mathlib.Nat.{one-mul, div-lt-iff-lt-mul, le-div-iff-mul-le}
 use mathlib.Core.Path.{_≡_, refl, sym, ap, ap₂, subst, _∙_}
 use mathlib.Core.Bool.{Bool, true, false, _&&_}
 use mathlib.Core.List.{List, _++_}
 use borrow.Author.Tests.{eqb-true, le-leb, lt-leb, lt-ltb, le-ltb}
 use lib.Dec.{leb, eqb}
-use lib.ListN.{length, take, drop}
+use lib.ListN.{length, drop}
 use lib.Pow.{pow-pos}
-use lib.Seq.{take-all}
 use Rattle.bits.specs.Answer.{Answer, Fills, leaves, unless}
 use Rattle.bits.specs.Answer.Answer.{gives, refused}
 use Rattle.bits.specs.Packed.{entry}
@@ -28,7 +27,7 @@ use Rattle.spectra.specs.Operations.{zeroFrom, tableOk, tableRow, rowsOk
 use Rattle.spectra.specs.Spectrum.{spectrum}
 use Rattle.spectra.specs.declared.Kind.{Kind}
 use Rattle.tables.proofs.Answering.{kept}
-use Rattle.spectra.proofs.Filling.{length-rowSpectra}
+use Rattle.spectra.proofs.Filling.{length-rowSpectra, row-whole}
 
 pub room-of : (n : ℕ) {size rows room : ℕ} → size ≡ 2 ^ n → rows ≤ room / size → rows * 2 ^ n ≤ room
 room-of n {size} {rows} {room} e h = le-div-iff-mul-le (pow-pos n) .0 (subst (λ (x : ℕ). rows ≤ room / x) e h)
@@ -100,8 +99,7 @@ spectrum-row n s kind k room = go (eqb (length s) (tableBytes n)) refl
 
     go : (u : Bool) → eqb (length s) (tableBytes n) ≡ u → rowsOf n 1 s kind k room ≡ spectrumOf n s kind k room
     go true e =
-        let row : tableRow n s 0 ≡ s =
-        ap (λ (x : ℕ). take (tableBytes n) (drop x s)) (zero-mul (tableBytes n)) ∙ take-all (tableBytes n) s (le-of-eq (eqb-true (length s) (tableBytes n) e)) in
+        let row : tableRow n s 0 ≡ s = row-whole n s (eqb-true (length s) (tableBytes n) e) in
         ap (λ (x : ℕ). checks n kind k room (eqb (length s) x && tableOk n (tableRow n s 0)) (1 * 2 ^ n) (tableRow n s 0)) size
         ∙ ap₂ (λ (x : ℕ) (l : List ℕ). checks n kind k room (eqb (length s) (tableBytes n) && tableOk n l) x l) places row
         ∙ ap (λ (t : Bool). checks n kind k room (t && tableOk n s) (2 ^ n) s) e

@@ -4,7 +4,8 @@
 --   rm-le              an RM coefficient is at most 1
 --   length-spectrum    a spectrum has 2 ^ n numbers
 --   spectrum-at        number j of a spectrum is coefficient j
---   coefficient-ext    a coefficient depends on the entries below 2 ^ n alone
+--   subset-ext         a subset sum depends on the entries below 2 ^ n alone
+--   coefficient-ext    so does a coefficient
 --   spectrum-ext       and so does a spectrum
 use Prim.Native.Nat.{ℕ, _^_, _≤_, _<_}
 use native.Mathlib.Omega.{arith}
@@ -46,13 +47,16 @@ pub spectrum-at : (kind : Kind) (n k : ℕ) (e : ℕ → ℕ) (j : ℕ) → j < 
 unfolding spectrum
 spectrum-at kind n k e j h = tabulate-at (2 ^ n) (coefficient kind n k e) j h
 
+pub subset-ext : (n k : ℕ) (e f : ℕ → ℕ) (j : ℕ) → k < 2 ^ n → ((m : ℕ) → m < 2 ^ n → e m ≡ f m) → subsetSum n k e j ≡ subsetSum n k f j
+unfolding subsetSum
+subset-ext n k e f j hk same =
+    sumTo-ext (2 ^ n) (term k e j) (term k f j)
+    (λ t h. ap (λ (x : ℕ). cond (inside t j) x 0) (same (bitXor t k) (xor-lt n t k h hk)))
+
 pub coefficient-ext : (kind : Kind) (n k : ℕ) (e f : ℕ → ℕ) (j : ℕ) → k < 2 ^ n → ((m : ℕ) → m < 2 ^ n → e m ≡ f m)
     → coefficient kind n k e j ≡ coefficient kind n k f j
-unfolding coefficient subsetSum
-coefficient-ext kind n k e f j hk same =
-    ap (reduce kind)
-    (sumTo-ext (2 ^ n) (term k e j) (term k f j)
-    (λ t h. ap (λ (x : ℕ). cond (inside t j) x 0) (same (bitXor t k) (xor-lt n t k h hk))))
+unfolding coefficient
+coefficient-ext kind n k e f j hk same = ap (reduce kind) (subset-ext n k e f j hk same)
 
 pub spectrum-ext : (kind : Kind) (n k : ℕ) (e f : ℕ → ℕ) → k < 2 ^ n → ((m : ℕ) → m < 2 ^ n → e m ≡ f m)
     → spectrum kind n k e ≡ spectrum kind n k f

@@ -4,6 +4,8 @@
 --   row-within          row r of rows that lie within a list lies within it
 --   row-place           the same of a size that equals another
 --   row-part            a row as it is lent
+--   row-whole           the one row of a table is the table
+--   one-row             the spectra of one row are the spectrum of the table
 --   Filling             the spectra of the rows below r are put
 --   filling-start       nothing is put yet
 --   filling-length      the memory is as long as before
@@ -16,14 +18,14 @@
 --   filling-lent        the same, as the part and the row are lent
 --   filling-end         all are put
 use Prim.Native.Nat.{ℕ, zero, suc, _+_, _-_, _*_, _^_, _≤_, _<_}
-use native.Mathlib.Nat.{le-antisymm, zero-mul, zero-add, suc-mul, mul-le-mul-right, le-trans}
+use native.Mathlib.Nat.{le-antisymm, le-of-eq, zero-mul, zero-add, suc-mul, mul-le-mul-right, le-trans}
 use native.Mathlib.Numerals.{add-one}
 use native.Mathlib.Omega.{arith}
 use mathlib.Core.Path.{_≡_, sym, ap, ap₂, subst, _∙_}
-use mathlib.Core.List.{List, _++_, append-assoc}
-use lib.ListN.{length, take, drop, length-append, length-take, length-drop}
+use mathlib.Core.List.{List, _++_, append-assoc, append-nil}
+use lib.ListN.{length, take, drop, length-append, length-take, length-drop, drop-of-length-le}
 use lib.Pow.{pow-mono}
-use lib.Seq.{take-at, drop-append-add, drop-drop}
+use lib.Seq.{take-all, take-at, drop-append-add, drop-drop}
 use Rattle.bits.specs.Packed.{entry}
 use Rattle.gates.specs.Form.{tableBytes}
 use Rattle.spectra.specs.Operations.{tableRow, rowSpectra}
@@ -64,6 +66,17 @@ row-ready n {bytes} {r} {rows} s e h fits =
 
 pub size-fits : {n : ℕ} → n ≤ 15 → 0 + 2 ^ n < 2 ^ 64
 size-fits {n} h = let p : 2 ^ n ≤ 2 ^ 15 = pow-mono h in omega arith
+
+pub row-whole : (n : ℕ) (s : List ℕ) → length s ≡ tableBytes n → tableRow n s 0 ≡ s
+row-whole n s e = ap (λ (x : ℕ). take (tableBytes n) (drop x s)) (zero-mul (tableBytes n)) ∙ take-all (tableBytes n) s (le-of-eq e)
+
+pub one-row : (kind : Kind) (n k : ℕ) (s start : List ℕ) {work : List ℕ} → length s ≡ tableBytes n → length start ≡ 2 ^ n
+    → work ≡ rowSpectra kind n k s 1 ++ drop (1 * 2 ^ n) start → work ≡ spectrum kind n k (entry s)
+unfolding rowSpectra
+one-row kind n k s start bytes places e =
+    e
+    ∙ ap₂ _++_ (ap (λ (l : List ℕ). spectrum kind n k (entry l)) (row-whole n s bytes)) (drop-of-length-le start {i = 1 * 2 ^ n} (omega arith))
+    ∙ append-nil (spectrum kind n k (entry s))
 
 pub record Filling (kind : Kind) (n k : ℕ) (s start : List ℕ) (rows : ℕ) (work : List ℕ) (r : ℕ) : Type 0 where
   pub room : rows * 2 ^ n ≤ length start

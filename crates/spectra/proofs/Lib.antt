@@ -1,4 +1,5 @@
 pub mod Answering
+pub mod Blocks
 pub mod Bounds
 pub mod Combining
 pub mod Delivered
@@ -6,6 +7,7 @@ pub mod Eight
 pub mod Filling
 pub mod Halves
 pub mod Inverse
+pub mod Lanes
 pub mod Packing
 pub mod WorkPlaces
 pub mod Subnumbers

@@ -8,6 +8,8 @@
 --   digits-more      one digit more
 --   digits-all       all eight
 --   tabulate-list    a list from its own numbers
+--   filled-more      one number more, where a loop writes a list from its start on
+--   filled-all       all numbers: the list is the new one
 --   Packing          what a loop has done after i turns: the first i bytes are written
 --   packing-none     no byte yet
 --   packing-lt       the place of the next byte was there from the start
@@ -94,6 +96,13 @@ splice-whole : (start new : List ℕ) → length new ≡ length start → splice
 splice-whole start new e =
     splice-start start new ∙ ap (λ (l : List ℕ). new ++ l) (drop-of-length-le start {i = length new} (omega arith)) ∙ append-nil new
 
+module _ {start : List ℕ} {count : ℕ} {f : ℕ → ℕ} {rows : List ℕ} {i : ℕ} (w : Written start 0 count f rows i) where
+  pub filled-more : (v : ℕ) → i < count → v ≡ f i → Written start 0 count f (set rows i v) (i + 1)
+  filled-more v h e = subst (λ (j : ℕ). Written start 0 count f (set rows j v) (i + 1)) (zero-add i) (written-more w v h e)
+
+  pub filled-all : length start ≡ count → count ≤ i → rows ≡ tabulate count f
+  filled-all e h = written-all w h ∙ splice-whole start (tabulate count f) (length-tabulate count f ∙ sym e)
+
 abbrev pub Packing : ℕ → List ℕ → List ℕ → List ℕ → ℕ → Type 0
 Packing k numbers start table i = Written start 0 (length start) (at (packed (length numbers) (parityAt numbers k))) table i
 
@@ -110,9 +119,7 @@ module _ {k : ℕ} {numbers start : List ℕ} (p : Packs k numbers start) where
 
     pub packing-more : (v : ℕ) → i < length table → v ≡ valueFrom 0 (tabulate 8 (λ t. at (tabulate (length numbers) (parityAt numbers k)) (8 * i + t)))
         → Packing k numbers start (set table i v) (i + 1)
-    packing-more v h e =
-        subst (λ (j : ℕ). Packing k numbers start (set table j v) (i + 1)) (zero-add i)
-        (written-more w v (packing-lt h) (e ∙ sym (packed-at (length numbers) (parityAt numbers k) i (omega (arith, packing-lt h, p .room)))))
+    packing-more v h e = filled-more w v (packing-lt h) (e ∙ sym (packed-at (length numbers) (parityAt numbers k) i (omega (arith, packing-lt h, p .room))))
 
     pub packing-all : length table ≤ i → table ≡ packed (length numbers) (parityAt numbers k)
     packing-all h =
@@ -123,8 +130,7 @@ module _ {k : ℕ} {numbers start : List ℕ} (p : Packs k numbers start) where
 
 pub copied-more : (out table : List ℕ) {after : List ℕ} {i : ℕ} → Written out 0 (length table) (at table) after i → i < length table
     → Written out 0 (length table) (at table) (set after i (at table i)) (i + 1)
-copied-more out table {after} {i} w h =
-    subst (λ (j : ℕ). Written out 0 (length table) (at table) (set after j (at table i)) (i + 1)) (zero-add i) (written-more w (at table i) h refl)
+copied-more out table {after} {i} w h = filled-more w (at table i) h refl
 
 pub copied-all : (out table after : List ℕ) {i : ℕ} → Written out 0 (length table) (at table) after i → length table ≤ i → after ≡ splice out 0 table
 copied-all out table after w h = written-all w h ∙ ap (splice out 0) (tabulate-list table)

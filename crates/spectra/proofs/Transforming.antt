@@ -7,6 +7,7 @@
 --   top-le                the top bit of the polarity is 0 or 1
 --   other-le              and so is the other bit
 --   down                  the number of inputs falls
+--   ready-start           what the transform asks of the place and of the words holds at place 0
 --   half-fits             half x of the table begins at a number that fits a usize
 --   place-fits            and so does its place in the bytes
 --   part-asked            what the transform asks of a half
@@ -20,23 +21,24 @@
 --   combine-asked         what combining asks: two halves of numbers that are at most 2 ^ 14
 --   transformed           the combined halves are the spectrum
 --   transformed-one       the spectrum of one entry
---   transformed-eight     the spectrum of three inputs
---   one-asked, eight-asked   what reading one entry asks, and what the leaf asks
+--   transformed-leaf      the spectrum that a leaf makes
+--   one-asked, leaf-asked   what reading one entry asks, and what a leaf asks
 use Prim.Native.Nat.{ℕ, suc, _+_, _-_, _*_, _/_, _%_, _^_, _≤_, _<_, zero-le}
-use native.Mathlib.Nat.{div-lt-iff-lt-mul, div-add-mod', mod-lt, mul-le-mul-right, add-assoc, add-zero, one-mul}
+use native.Mathlib.Nat.{div-lt-iff-lt-mul, div-add-mod', mod-lt, mul-le-mul-right, mul-assoc, add-assoc, add-zero, one-mul}
 use native.Mathlib.Omega.{arith}
 use mathlib.Core.Path.{_≡_, refl, sym, ap, ap₂, subst, _∙_}
 use mathlib.Core.List.{List, [], _∷_, _++_, append-nil}
 use mathlib.Core.Logic.{⊎-elim}
 use lib.ListN.{length, getD, take, drop, set, length-append, length-take, length-drop, drop-of-length-le, List·getD-append, List·getD-eq-default}
 use lib.Dec.{lit<}
-use lib.Pow.{pow-pos, pow-mono, shl-exact}
+use lib.Pow.{pow-pos, pow-mono, pow-add, mod-mod-pow, shl-exact}
 use lib.Seq.{getD-append-add, take-at, drop-at, length-front}
 use mir.Syntax.{w64}
 use mir.Val.{Fits}
 use Rattle.bits.specs.Packed.{entry}
 use Rattle.bits.proofs.Below.{lt-or-ge}
 use Rattle.bits.proofs.Packed.{entry-lt}
+use Rattle.spectra.specs.Lanes.{nibbleWords, LeafAsks, Ready}
 use Rattle.spectra.specs.Spectrum.{spectrum}
 use Rattle.spectra.specs.Transform.{entriesFrom, Most, combined}
 use Rattle.spectra.specs.declared.Kind.{Kind}
@@ -50,10 +52,11 @@ one-fits n h = shl-exact {a = 1} 1 n 64 (lit< tt) (omega arith) ∙ one-mul (2 ^
 -- ---- the two halves
 
 -- what the transform requires, of so many places of memory and so many bytes of tables
-abbrev Asks : ℕ → ℕ → ℕ → ℕ → ℕ → Type 0
-Asks places len at n k = (n ≤ 15) × (places ≡ 2 ^ n) × (k < 2 ^ n) × (at + 2 ^ n ≤ 8 * len) × (at + 2 ^ n < 2 ^ 64)
+abbrev Asks : ℕ → List ℕ → ℕ → ℕ → ℕ → ℕ → Type 0
+Asks places words len at n k =
+    (n ≤ 15) × (places ≡ 2 ^ n) × (k < 2 ^ n) × (at + 2 ^ n ≤ 8 * len) × (at + 2 ^ n < 2 ^ 64) × Ready n at k words
 
-pub record Parted (out : List ℕ) (len at n k h : ℕ) : Type 0 where
+pub record Parted (out words : List ℕ) (len at n k h : ℕ) : Type 0 where
   pub few : n ≤ 15
   pub some : 1 ≤ n
   pub half : h ≡ 2 ^ (n - 1)
@@ -63,14 +66,16 @@ pub record Parted (out : List ℕ) (len at n k h : ℕ) : Type 0 where
   pub below : k < h + h
   pub inside : at + (h + h) ≤ 8 * len
   pub fits : at + (h + h) < 2 ^ 64
+  pub ready : Ready n at k words
 
 doubled : (n h : ℕ) → 1 ≤ n → h ≡ 2 ^ (n - 1) → 2 ^ n ≡ h + h
 doubled n h some e =
     let s : n ≡ suc (n - 1) = omega arith in
     ap (λ (x : ℕ). 2 ^ x) s ∙ pow-double (n - 1) ∙ ap₂ _+_ (sym e) (sym e)
 
-pub parted : (out : List ℕ) (len at n k : ℕ) {h : ℕ} → Asks (length out) len at n k → (n ≡ 0 → ⊥) → h ≡ 2 ^ (n - 1) → Parted out len at n k h
-parted out len at n k {h} asks ne e =
+pub parted : (out words : List ℕ) (len at n k : ℕ) {h : ℕ} → Asks (length out) words len at n k → (n ≡ 0 → ⊥) → h ≡ 2 ^ (n - 1)
+    → Parted out words len at n k h
+parted out words len at n k {h} asks ne e =
     let some : 1 ≤ n = omega arith in
     let d : 2 ^ n ≡ h + h = doubled n h some e in
     let few : n - 1 ≤ 14 = omega (arith, asks .0) in
@@ -86,6 +91,7 @@ parted out len at n k {h} asks ne e =
       below = omega (arith, asks .2);
       inside = omega (arith, asks .3);
       fits = omega (arith, asks .4);
+      ready = asks .5;
     }
 
 pub down : {n t : ℕ} → 1 ≤ n → n ≡ t → n - 1 < t
@@ -94,7 +100,19 @@ down some e = omega arith
 times-le : (x h : ℕ) → x ≤ 1 → x * h ≤ h
 times-le x h l = subst (λ (y : ℕ). x * h ≤ y) (one-mul h) (mul-le-mul-right h l)
 
-module _ {out : List ℕ} {len at n k h : ℕ} (p : Parted out len at n k h) where
+pub ready-start : (n k : ℕ) {words : List ℕ} → words ≡ nibbleWords (k % 4) → Ready n 0 k words
+ready-start n k e three = (refl, e)
+
+-- a half of a multiple of 4 begins at one, and its polarity has the same two lowest bits
+ready-half : (words : List ℕ) (at n k h x : ℕ) → h ≡ 2 ^ (n - 1) → Ready n at k words → Ready (n - 1) (at + x * h) (k % h) words
+ready-half words at n k h x e ready three =
+    let w = ready (omega arith) in
+    let up : n - 1 ≡ (n - 3) + 2 = omega arith in
+    let fours : h ≡ 2 ^ ((n - 3) + 2) = e ∙ ap (λ (y : ℕ). 2 ^ y) up in
+    let place : x * h ≡ x * 2 ^ (n - 3) * 4 = ap (λ (y : ℕ). x * y) (fours ∙ pow-add 2 (n - 3) 2) ∙ sym (mul-assoc x (2 ^ (n - 3)) 4) in
+    (omega (arith, w .0), w .1 ∙ ap nibbleWords (sym (ap (λ (y : ℕ). k % y % 4) fours ∙ mod-mod-pow k (n - 3) 2)))
+
+module _ {out words : List ℕ} {len at n k h : ℕ} (p : Parted out words len at n k h) where
   pub top-le : k / h ≤ 1
   top-le = let l : k / h < 2 = (div-lt-iff-lt-mul {k = h} {x = k} {y = 2} (p .half-some)) .1 (omega (arith, p .below)) in omega arith
 
@@ -108,11 +126,17 @@ module _ {out : List ℕ} {len at n k h : ℕ} (p : Parted out len at n k h) whe
     pub place-fits : Fits w64 (at + x * h)
     place-fits = let b = times-le x h l in record { fits = omega (arith, p .fits) }
 
-    pub part-asked : {places : ℕ} → places ≡ h → Asks places len (at + x * h) (n - 1) (k % h)
+    pub part-asked : {places : ℕ} → places ≡ h → Asks places words len (at + x * h) (n - 1) (k % h)
     part-asked e =
         let b = times-le x h l in
-        let r : k % h < h = mod-lt k (p .half-some) in
-        (omega (arith, p .few), e ∙ p .half, omega (arith, p .half), omega (arith, p .half, p .inside), omega (arith, p .half, p .fits))
+        let r : k % h < h = mod-lt k (p .half-some) in (
+          omega (arith, p .few),
+          e ∙ p .half,
+          omega (arith, p .half),
+          omega (arith, p .half, p .inside),
+          omega (arith, p .half, p .fits),
+          ready-half words at n k h x (p .half) (p .ready),
+        )
 
   pub half-scaled : Fits w64 (h * 2)
   half-scaled = record { fits = omega (arith, p .half-few) }
@@ -174,7 +198,7 @@ module _ (kind : Kind) (s : List ℕ) (at m r : ℕ) (l : r < 2 ^ m) where
       spectrum-halves kind m b d r (entriesFrom s at) e l
       ∙ ap₂ (λ (x y : List ℕ). combined kind (2 ^ m) x y) (moved (b * 2 ^ m)) (moved (d * 2 ^ m))
 
-module _ (kind : Kind) (s : List ℕ) {out : List ℕ} {at n k h : ℕ} (p : Parted out (length s) at n k h) where
+module _ (kind : Kind) (s : List ℕ) {out words : List ℕ} {at n k h : ℕ} (p : Parted out words (length s) at n k h) where
   -- the spectrum of half x of the table
   abbrev halfOf : ℕ → List ℕ
   halfOf x = spectrum kind (n - 1) (k % h) (entriesFrom s (at + x * h))
@@ -236,17 +260,25 @@ transformed-one kind s out at n k x z size below e =
     ∙ sym (spectrum-one kind (entriesFrom s at) (entry-lt s (at + 0)))
     ∙ ap₂ (λ (m y : ℕ). spectrum kind m y (entriesFrom s at)) (sym z) (sym none)
 
-pub transformed-eight : (kind : Kind) (s : List ℕ) {after : List ℕ} (at n k : ℕ) → n ≡ 3 → after ≡ spectrum kind 3 k (entriesFrom s at)
+pub transformed-leaf : (kind : Kind) (s : List ℕ) {after : List ℕ} (at n k : ℕ) {m : ℕ} → n ≡ m → after ≡ spectrum kind m k (entriesFrom s at)
     → after ≡ spectrum kind n k (entriesFrom s at)
-transformed-eight kind s at n k z e = e ∙ ap (λ (m : ℕ). spectrum kind m k (entriesFrom s at)) (sym z)
+transformed-leaf kind s at n k z e = e ∙ ap (λ (m : ℕ). spectrum kind m k (entriesFrom s at)) (sym z)
 
-pub eight-asked : (out : List ℕ) (len at n k : ℕ) → Asks (length out) len at n k → n ≡ 3
-    → (length out ≡ 8) × (k < 8) × (at + 8 ≤ 8 * len) × (at + 8 < 2 ^ 64)
-eight-asked out len at n k asks z =
-    let p : 2 ^ n ≡ 8 = ap (λ (m : ℕ). 2 ^ m) z in
-    (asks .1 ∙ p, omega (arith, asks .2), omega (arith, asks .3), omega (arith, asks .4))
+module _ (out words : List ℕ) (len at n k : ℕ) (asks : Asks (length out) words len at n k) where
+  pub one-asked : n ≡ 0 → (at < 8 * len) × (0 < length out)
+  one-asked z =
+      let p : 2 ^ n ≡ 1 = ap (λ (m : ℕ). 2 ^ m) z in
+      (omega (arith, asks .3), omega (arith, asks .1))
 
-pub one-asked : (out : List ℕ) (len at n k : ℕ) → Asks (length out) len at n k → n ≡ 0 → (at < 8 * len) × (0 < length out)
-one-asked out len at n k asks z =
-    let p : 2 ^ n ≡ 1 = ap (λ (m : ℕ). 2 ^ m) z in
-    (omega (arith, asks .3), omega (arith, asks .1))
+  pub leaf-asked : (a : ℕ) → 1 ≤ a → n ≡ a + 2 → LeafAsks a (length out) words len at k
+  leaf-asked a some z =
+      let p : 2 ^ n ≡ 2 ^ (a + 2) = ap (λ (m : ℕ). 2 ^ m) z in
+      let w = asks .5 (omega arith) in
+      record {
+        room = asks .1 ∙ p;
+        polarity = omega (arith, asks .2);
+        within = omega (arith, asks .3);
+        fits = omega (arith, asks .4);
+        fours = w .0;
+        worded = w .1;
+      }

@@ -19,7 +19,7 @@
 --   undo-low, undo-high, undo-polarity, undo-count, undo-none, undo-memory, undo-done   undoing's ways out: 2 twice, 13, 14 twice, 10, success
 use Prim.Native.Nat.{ℕ, suc, _+_, _*_, _/_, _%_, _^_, _≤_, _<_}
 use native.Mathlib.Omega.{arith}
-use native.Mathlib.Nat.{zero-add, lt-of-le-of-lt}
+use native.Mathlib.Nat.{lt-of-le-of-lt}
 use native.Mathlib.Numerals.{add-one}
 use mathlib.Core.Path.{_≡_, refl, sym, ap, _∙_}
 use mathlib.Core.Bool.{Bool, true, false, _&&_}
@@ -40,13 +40,14 @@ use Rattle.job.specs.Layout.{maxInputs}
 use Rattle.gates.specs.Form.{tableBytes}
 use Rattle.gates.specs.Rows.{splice}
 use Rattle.tables.proofs.Answering.{kept, put}
+use Rattle.spectra.specs.Filling.{rowsFilled}
 use Rattle.spectra.specs.Operations.{at, sameNumbers, isSpectrum, undoneOf}
 use Rattle.spectra.specs.Packing.{parityAt, Packs, Lent}
 use Rattle.spectra.specs.Spectrum.{spectrum, recovered}
-use Rattle.spectra.specs.Transform.{entriesFrom}
 use Rattle.spectra.specs.declared.Kind.{Kind}
 use Rattle.spectra.specs.declared.Kind.the-variants.{Rm}
 use Rattle.spectra.proofs.Bounds.{length-spectrum, spectrum-at, coefficient-ext, spectrum-ext}
+use Rattle.spectra.proofs.Filling.{one-row}
 use Rattle.spectra.proofs.Inverse.{coefficient-mod}
 use Rattle.spectra.proofs.Undone.{recovered-bits}
 
@@ -106,13 +107,16 @@ most-entries = lit< tt
 few-entries : (n : ℕ) → n ≤ maxInputs → 2 ^ n < 2 ^ 63
 few-entries n h = lt-of-le-of-lt (pow-mono h) most-entries
 
--- what a transform asks for
+-- what the spectrum of one row asks for
 abbrev Transforms : ℕ → ℕ → List ℕ → List ℕ → Type 0
-Transforms n k table sums = (n ≤ 15) × (length sums ≡ 2 ^ n) × (k < 2 ^ n) × (0 + 2 ^ n ≤ 8 * length table) × (0 + 2 ^ n < 2 ^ 64)
+Transforms n k table sums = (n ≤ 15) × (k < 2 ^ n) × (1 * 2 ^ n ≤ length sums) × (1 * tableBytes n ≤ length table)
+
+-- what it leaves
+abbrev Transformed : Kind → ℕ → ℕ → List ℕ → List ℕ → List ℕ → Type 0
+Transformed kind n k table sums sums₁ = sums₁ ≡ rowsFilled kind n k table 1 sums
 
 transforms : (n k : ℕ) (table sums : List ℕ) → n ≤ maxInputs → k < 2 ^ n → length table ≡ tableBytes n → length sums ≡ 2 ^ n → Transforms n k table sums
-transforms n k table sums few h bytes places =
-    let p = few-entries n few in (omega (arith, most-inputs), places, h, omega arith, omega arith)
+transforms n k table sums few h bytes places = (omega (arith, most-inputs), h, omega arith, omega arith)
 
 module _ {n k : ℕ} {numbers table sums : List ℕ} (l : Lent n k numbers table sums) where
   pub packs-numbers : Packs 0 numbers table
@@ -131,50 +135,56 @@ module _ {n k : ℕ} {numbers table sums : List ℕ} (l : Lent n k numbers table
   pub transforms-parities : {table₁ : List ℕ} → table₁ ≡ packed (length numbers) (parityAt numbers 0) → Transforms n 0 table₁ sums
   transforms-parities {table₁} e = transforms n 0 table₁ sums (l .few) (pow-pos n) (ap length e ∙ length-parities) (l .places)
 
-  pub packs-sums : {table₁ sums₁ : List ℕ} → table₁ ≡ packed (length numbers) (parityAt numbers 0) → sums₁ ≡ spectrum Rm n 0 (entriesFrom table₁ 0)
+  parity-spectrum : {table₁ sums₁ : List ℕ} → table₁ ≡ packed (length numbers) (parityAt numbers 0) → Transformed Rm n 0 table₁ sums sums₁
+      → sums₁ ≡ spectrum Rm n 0 (entry table₁)
+  parity-spectrum {table₁} et es = one-row Rm n 0 table₁ sums (ap length et ∙ length-parities) (l .places) es
+
+  pub packs-sums : {table₁ sums₁ : List ℕ} → table₁ ≡ packed (length numbers) (parityAt numbers 0) → Transformed Rm n 0 table₁ sums sums₁
       → Packs k sums₁ table₁
   packs-sums {table₁} {sums₁} et es =
       let p = few-entries n (l .few) in
-      let e : length sums₁ ≡ 2 ^ n = ap length es ∙ length-spectrum Rm n 0 (entriesFrom table₁ 0) in
+      let e : length sums₁ ≡ 2 ^ n = ap length (parity-spectrum et es) ∙ length-spectrum Rm n 0 (entry table₁) in
       record {
         closed = λ m h. rw e (xor-lt n m k (rw e at h) (l .polarity));
         few = omega arith;
         room = ap length et ∙ length-parities ∙ ap (λ (x : ℕ). (x + 7) / 8) (sym e);
       }
 
+  length-recovered : {table₁ : List ℕ} → table₁ ≡ packed (2 ^ n) (recovered n k (at numbers)) → length table₁ ≡ tableBytes n
+  length-recovered et = ap length et ∙ length-packed (2 ^ n) (recovered n k (at numbers))
+
   pub transforms-recovered : {table₁ : List ℕ} (sums₁ : List ℕ) → table₁ ≡ packed (2 ^ n) (recovered n k (at numbers)) → length sums₁ ≡ length sums
       → Transforms n k table₁ sums₁
-  transforms-recovered {table₁} sums₁ et es =
-      transforms n k table₁ sums₁ (l .few) (l .polarity) (ap length et ∙ length-packed (2 ^ n) (recovered n k (at numbers))) (es ∙ l .places)
+  transforms-recovered {table₁} sums₁ et es = transforms n k table₁ sums₁ (l .few) (l .polarity) (length-recovered et) (es ∙ l .places)
 
   -- the entries of the packed parities
-  parity-entry : (j : ℕ) → j < 2 ^ n → entriesFrom (packed (length numbers) (parityAt numbers 0)) 0 j ≡ at numbers j % 2
+  parity-entry : (j : ℕ) → j < 2 ^ n → entry (packed (length numbers) (parityAt numbers 0)) j ≡ at numbers j % 2
   parity-entry j h =
-      ap (entry (packed (length numbers) (parityAt numbers 0))) (zero-add j)
-      ∙ entry-packed (length numbers) (parityAt numbers 0) (λ m _. omega arith) j (omega (arith, l .count))
+      entry-packed (length numbers) (parityAt numbers 0) (λ m _. omega arith) j (omega (arith, l .count))
       ∙ ap (λ (x : ℕ). at numbers x % 2) (xor-zero-r j)
 
-  pub recovers : {table₁ sums₁ table₂ : List ℕ} → table₁ ≡ packed (length numbers) (parityAt numbers 0) → sums₁ ≡ spectrum Rm n 0 (entriesFrom table₁ 0)
+  pub recovers : {table₁ sums₁ table₂ : List ℕ} → table₁ ≡ packed (length numbers) (parityAt numbers 0) → Transformed Rm n 0 table₁ sums sums₁
       → table₂ ≡ packed (length sums₁) (parityAt sums₁ k) → table₂ ≡ packed (2 ^ n) (recovered n k (at numbers))
   unfolding recovered
-  recovers {table₁} {sums₁} {table₂} et es e =
-      e ∙ ap (λ (x : ℕ). packed x (parityAt sums₁ k)) (ap length es ∙ length-spectrum Rm n 0 (entriesFrom table₁ 0))
+  recovers {table₁} {sums₁} {table₂} et filled e =
+      let es = parity-spectrum et filled in
+      e ∙ ap (λ (x : ℕ). packed x (parityAt sums₁ k)) (ap length es ∙ length-spectrum Rm n 0 (entry table₁))
       ∙ packed-ext (2 ^ n) (parityAt sums₁ k) (recovered n k (at numbers))
       (λ m h. let x : bitXor m k < 2 ^ n = xor-lt n m k h (l .polarity) in
       ap (λ (s : List ℕ). at s (bitXor m k) % 2) es
-      ∙ ap (λ (v : ℕ). v % 2) (spectrum-at Rm n 0 (entriesFrom table₁ 0) (bitXor m k) x)
-      ∙ coefficient-mod Rm n 0 (entriesFrom table₁ 0) (bitXor m k)
-      ∙ coefficient-ext Rm n 0 (entriesFrom table₁ 0) (λ j. at numbers j % 2) (bitXor m k) (pow-pos n)
-      (λ j hj. ap (λ (s : List ℕ). entriesFrom s 0 j) et ∙ parity-entry j hj))
+      ∙ ap (λ (v : ℕ). v % 2) (spectrum-at Rm n 0 (entry table₁) (bitXor m k) x)
+      ∙ coefficient-mod Rm n 0 (entry table₁) (bitXor m k)
+      ∙ coefficient-ext Rm n 0 (entry table₁) (λ j. at numbers j % 2) (bitXor m k) (pow-pos n)
+      (λ j hj. ap (λ (s : List ℕ). entry s j) et ∙ parity-entry j hj))
 
-  pub compares : (kind : Kind) {table₁ sums₁ : List ℕ} → table₁ ≡ packed (2 ^ n) (recovered n k (at numbers)) → sums₁ ≡ spectrum kind n k (entriesFrom table₁ 0)
-      → sameNumbers numbers sums₁ ≡ isSpectrum kind n k numbers
+  pub compares : (kind : Kind) {table₁ : List ℕ} (sums₁ : List ℕ) {sums₂ : List ℕ} → table₁ ≡ packed (2 ^ n) (recovered n k (at numbers))
+      → length sums₁ ≡ length sums → Transformed kind n k table₁ sums₁ sums₂ → sameNumbers numbers sums₂ ≡ isSpectrum kind n k numbers
   unfolding isSpectrum
-  compares kind {table₁} {sums₁} et es =
+  compares kind {table₁} sums₁ et el es =
       ap (sameNumbers numbers)
-      (es ∙ spectrum-ext kind n k (entriesFrom table₁ 0) (recovered n k (at numbers)) (l .polarity)
-      (λ m h. ap (λ (s : List ℕ). entriesFrom s 0 m) et
-      ∙ ap (entry (packed (2 ^ n) (recovered n k (at numbers)))) (zero-add m)
+      (one-row kind n k table₁ sums₁ (length-recovered et) (el ∙ l .places) es
+      ∙ spectrum-ext kind n k (entry table₁) (recovered n k (at numbers)) (l .polarity)
+      (λ m h. ap (λ (s : List ℕ). entry s m) et
       ∙ entry-packed (2 ^ n) (recovered n k (at numbers)) (recovered-bits n k numbers) m h))
 
 -- ---- the ways out

@@ -1,13 +1,14 @@
 -- What the operations on spectra do once the tables are known to be tables.
 --
 --   rowsFit          the bytes are so many tables
+--   rowsFilled       the spectra of so many tables at the start of memory, the rest as it was
 --   spectraFilled    the refusals 13 and 10, and then the spectra of so many tables, with a value
 --   Counted          the counts of a job whose tables lie within so many bytes
 use Prim.Native.Nat.{ℕ, _+_, _*_, _^_, _≤_}
 use mathlib.Core.Bool.{Bool, _&&_}
-use mathlib.Core.List.{List}
+use mathlib.Core.List.{List, _++_}
 use lib.Dec.{leb, eqb}
-use lib.ListN.{length}
+use lib.ListN.{length, drop}
 use Rattle.bits.specs.Answer.{Answer, Fills, unless}
 use Rattle.bits.specs.Answer.Answer.{gives}
 use Rattle.job.specs.Layout.{maxInputs, maxFaults}
@@ -18,6 +19,9 @@ use Rattle.spectra.specs.declared.Kind.{Kind}
 
 unfoldable pub rowsFit : ℕ → List ℕ → ℕ → Bool
 rowsFit n s rows = eqb (length s) (rows * tableBytes n) && rowsOk n s rows
+
+abbrev pub rowsFilled : Kind → ℕ → ℕ → List ℕ → ℕ → List ℕ → List ℕ
+rowsFilled kind n k s rows start = rowSpectra kind n k s rows ++ drop (rows * 2 ^ n) start
 
 unfoldable pub spectraFilled : {A : Type 0} → A → ℕ → ℕ → List ℕ → Kind → ℕ → ℕ → Answer (Fills A)
 spectraFilled v n rows s kind k room =

@@ -1,4 +1,5 @@
 pub mod Filling
+pub mod Lanes
 pub mod Operations
 pub mod Packing
 pub mod Spectrum

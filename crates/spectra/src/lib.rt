@@ -1,10 +1,11 @@
 // Reed-Muller spectra of packed truth tables, of both kinds, in every polarity (document 01, "Spectra").
-ghost use Prim.Native.Nat.{_+_, _*_, _^_, _≤_, _<_};
+ghost use Prim.Native.Nat.{_+_, _*_, _%_, _^_, _≤_, _<_};
 ghost use Rattle.bits.specs.Answer.{outcome, leaves};
 ghost use Rattle.bits.specs.Bits.{valueFrom};
 ghost use Rattle.bits.specs.Packed.{entry, packed, tabulate};
-ghost use Rattle.spectra.specs.Filling.{Counted, spectraFilled, rowsFit};
-ghost use Rattle.spectra.specs.Operations.{spectrumOf, undoneOf, rowsOf, jobSpectraOf, rowSpectra, tableOk, at, sameNumbers};
+ghost use Rattle.spectra.specs.Filling.{Counted, rowsFilled, spectraFilled, rowsFit};
+ghost use Rattle.spectra.specs.Lanes.{nibble, bitOf, nibbleWord, nibbleWords, wordAt, wordSums, laneNumbers, LeafAsks, Ready};
+ghost use Rattle.spectra.specs.Operations.{spectrumOf, undoneOf, rowsOf, jobSpectraOf, tableOk, at, sameNumbers};
 ghost use Rattle.spectra.specs.Packing.{parityAt, Closed, Packs, Lent};
 ghost use Rattle.spectra.specs.Spectrum.{spectrum, reduce, recovered};
 ghost use Rattle.spectra.specs.Transform.{entriesFrom, Most, combined};
@@ -13,7 +14,6 @@ ghost use Rattle.gates.specs.Rows.{splice};
 ghost use Rattle.tables.specs.Operations.{tablesTold};
 ghost use lib.ListN.{length, take, drop};
 ghost use mathlib.Core.Bool.{true};
-ghost use mathlib.Core.List.{_++_};
 ghost use mathlib.Core.Path.{_≡_};
 use bits::Outcome;
 use bits::Refusal;
@@ -56,27 +56,113 @@ fn combine(out: &mut [u16], half: usize, kind: Kind)
     }
 }
 
-// The spectrum of three inputs, from its eight entries.
-fn leaf(out: &mut [u16], table: &[u8], at: usize, k: usize, kind: Kind)
-    requires { ⌜ (length (now out) ≡ 8) × (k < 8) × (at + 8 ≤ 8 * length (now table)) × (at + 8 < 2 ^ 64) ⌝ }
+// Four entries from entry 4 i on as a number, the first its highest bit.
+fn nibble_at(table: &[u8], i: usize) -> usize
+    requires { ⌜ i < 2 * length (now table) ⌝ }
+    ensures { λ r. ⌜ r ≡ nibble (now (table .entry)) i ⌝ }
+{
+    (table[i / 2] as usize >> (4 - 4 * (i % 2))) % 16
+}
+
+// Entry t of a nibble.
+fn bit_of(nibble: usize, t: usize) -> u64
+    requires { ⌜ t < 4 ⌝ }
+    ensures { λ r. ⌜ r ≡ bitOf nibble t ⌝ }
+{
+    ((nibble >> (3 - t)) % 2) as u64
+}
+
+// The subset sums of a nibble's four entries, each in a lane of 16 bits, the first lowest. Every entry goes into the lanes whose sums
+// have it.
+fn nibble_word(nibble: usize, k: usize) -> u64
+    requires { ⌜ k < 4 ⌝ }
+    ensures { λ r. ⌜ r ≡ nibbleWord k nibble ⌝ }
+{
+    let e0 = bit_of(nibble, k);
+    let e1 = bit_of(nibble, 1 ^ k);
+    let e2 = bit_of(nibble, 2 ^ k);
+    let e3 = bit_of(nibble, 3 ^ k);
+    e0 * 0x0001000100010001
+        + e1 * 0x0001000000010000
+        + e2 * 0x0001000100000000
+        + e3 * 0x0001000000000000
+}
+
+// The words of all nibbles.
+fn fill_words(words: &mut [u64], k: usize)
+    requires { ⌜ (length (now words) ≡ 16) × (k < 4) ⌝ }
+    ensures { λ r. ⌜ now (words .exit) ≡ nibbleWords k ⌝ }
+{
+    let mut v = 0;
+    while v < 16 {
+        words[v] = nibble_word(v, k);
+        v += 1;
+    }
+}
+
+// The word of the nibble at i.
+fn word_at(words: &[u64], table: &[u8], i: usize) -> u64
+    requires { ⌜ (length (now words) ≡ 16) × (i < 2 * length (now table)) ⌝ }
+    ensures { λ r. ⌜ r ≡ wordAt (now (words .entry)) (now (table .entry)) i ⌝ }
+{
+    words[nibble_at(table, i)]
+}
+
+// The sums of eight words, as the spectrum of three inputs has them.
+fn eight_words(words: &[u64], table: &[u8], at: usize, k: usize) -> [u64; 8]
+    requires { ⌜ (length (now words) ≡ 16) × Most (2 ^ 60) (now words) × (k < 8) × (at + 8 ≤ 2 * length (now table)) × (at + 8 < 2 ^ 64) ⌝ }
+    ensures { λ r. ⌜ r ≡ wordSums 3 k (now (words .entry)) (now (table .entry)) at ⌝ }
+{
+    let w0 = word_at(words, table, at + k);
+    let w1 = word_at(words, table, at + (1 ^ k));
+    let w2 = word_at(words, table, at + (2 ^ k));
+    let w3 = word_at(words, table, at + (3 ^ k));
+    let w4 = word_at(words, table, at + (4 ^ k));
+    let w5 = word_at(words, table, at + (5 ^ k));
+    let w6 = word_at(words, table, at + (6 ^ k));
+    let w7 = word_at(words, table, at + (7 ^ k));
+    [
+        w0,
+        w0 + w1,
+        w0 + w2,
+        w0 + w1 + w2 + w3,
+        w0 + w4,
+        w0 + w1 + w4 + w5,
+        w0 + w2 + w4 + w6,
+        w0 + w1 + w2 + w3 + w4 + w5 + w6 + w7,
+    ]
+}
+
+// Writes the lanes of words, as the kind has them.
+fn put_lanes(out: &mut [u16], sums: &[u64], count: usize, kind: Kind)
+    requires { ⌜ (length (now out) ≡ count) × (count ≡ length (now sums) * 4) × (count ≤ 32) ⌝ }
+    ensures { λ r. ⌜ now (out .exit) ≡ laneNumbers kind count (now (sums .entry)) ⌝ }
+{
+    let mut j = 0;
+    while j < count {
+        out[j] = reduced(((sums[j / 4] >> (16 * (j % 4))) % 65536) as u16, kind);
+        j += 1;
+    }
+}
+
+// The spectrum of three inputs, from the words of its two nibbles.
+fn leaf(out: &mut [u16], words: &[u64], table: &[u8], at: usize, k: usize, kind: Kind)
+    requires { ⌜ LeafAsks 1 (length (now out)) (now words) (length (now table)) at k ⌝ }
     ensures { λ r. ⌜ now (out .exit) ≡ spectrum kind 3 k (entriesFrom (now (table .entry)) at) ⌝ }
 {
-    let e0 = entry_at(table, at + k);
-    let e1 = entry_at(table, at + (1 ^ k));
-    let e2 = entry_at(table, at + (2 ^ k));
-    let e3 = entry_at(table, at + (3 ^ k));
-    let e4 = entry_at(table, at + (4 ^ k));
-    let e5 = entry_at(table, at + (5 ^ k));
-    let e6 = entry_at(table, at + (6 ^ k));
-    let e7 = entry_at(table, at + (7 ^ k));
-    out[0] = reduced(e0, kind);
-    out[1] = reduced(e0 + e1, kind);
-    out[2] = reduced(e0 + e2, kind);
-    out[3] = reduced(e0 + e1 + e2 + e3, kind);
-    out[4] = reduced(e0 + e4, kind);
-    out[5] = reduced(e0 + e1 + e4 + e5, kind);
-    out[6] = reduced(e0 + e2 + e4 + e6, kind);
-    out[7] = reduced(e0 + e1 + e2 + e3 + e4 + e5 + e6 + e7, kind);
+    let w0 = word_at(words, table, at / 4 + k / 4);
+    let w1 = word_at(words, table, at / 4 + (1 ^ (k / 4)));
+    let sums = [w0, w0 + w1];
+    put_lanes(out, &sums, 8, kind);
+}
+
+// The spectrum of five inputs, from the words of its eight nibbles.
+fn wide_leaf(out: &mut [u16], words: &[u64], table: &[u8], at: usize, k: usize, kind: Kind)
+    requires { ⌜ LeafAsks 3 (length (now out)) (now words) (length (now table)) at k ⌝ }
+    ensures { λ r. ⌜ now (out .exit) ≡ spectrum kind 5 k (entriesFrom (now (table .entry)) at) ⌝ }
+{
+    let sums = eight_words(words, table, at / 4, k / 4);
+    put_lanes(out, &sums, 32, kind);
 }
 
 // The number of coefficients of n inputs.
@@ -89,8 +175,16 @@ fn places(n: usize) -> usize
 
 // The spectrum of the 2 to the power n entries from `at` on. "The spectrum of n inputs is combined from those of its two halves; the
 // halves change places where the top bit of k is 1."
-fn transform(out: &mut [u16], table: &[u8], at: usize, n: usize, k: usize, kind: Kind)
-    requires { ⌜ (n ≤ 15) × (length (now out) ≡ 2 ^ n) × (k < 2 ^ n) × (at + 2 ^ n ≤ 8 * length (now table)) × (at + 2 ^ n < 2 ^ 64) ⌝ }
+fn transform(
+    out: &mut [u16],
+    words: &[u64],
+    table: &[u8],
+    at: usize,
+    n: usize,
+    k: usize,
+    kind: Kind,
+)
+    requires { ⌜ (n ≤ 15) × (length (now out) ≡ 2 ^ n) × (k < 2 ^ n) × (at + 2 ^ n ≤ 8 * length (now table)) × (at + 2 ^ n < 2 ^ 64) × Ready n at k (now words) ⌝ }
     ensures { λ r. ⌜ now (out .exit) ≡ spectrum kind n k (entriesFrom (now (table .entry)) at) ⌝ }
 {
     if n == 0 {
@@ -98,15 +192,28 @@ fn transform(out: &mut [u16], table: &[u8], at: usize, n: usize, k: usize, kind:
         return;
     }
     if n == 3 {
-        leaf(out, table, at, k, kind);
+        leaf(out, words, table, at, k, kind);
+        return;
+    }
+    if n == 5 {
+        wide_leaf(out, words, table, at, k, kind);
         return;
     }
     let half = places(n - 1);
     let top = k / half;
     let rest = k % half;
-    transform(&mut out[..half], table, at + top * half, n - 1, rest, kind);
+    transform(
+        &mut out[..half],
+        words,
+        table,
+        at + top * half,
+        n - 1,
+        rest,
+        kind,
+    );
     transform(
         &mut out[half..],
+        words,
         table,
         at + (1 - top) * half,
         n - 1,
@@ -124,10 +231,18 @@ fn table_bytes(n: usize) -> usize
     (places(n) + 7) / 8
 }
 
-// The spectra of tables that stand row after row.
-fn fill_rows(work: &mut [u16], tables: &[u8], n: usize, rows: usize, k: usize, kind: Kind)
-    requires { ⌜ (n ≤ 15) × (k < 2 ^ n) × (rows * 2 ^ n ≤ length (now work)) × (rows * tableBytes n ≤ length (now tables)) ⌝ }
-    ensures { λ r. ⌜ now (work .exit) ≡ rowSpectra kind n k (now (tables .entry)) rows ++ drop (rows * 2 ^ n) (now (work .entry)) ⌝ }
+// The spectra of tables that stand row after row, with the words of the polarity.
+fn transform_rows(
+    work: &mut [u16],
+    words: &[u64],
+    tables: &[u8],
+    n: usize,
+    rows: usize,
+    k: usize,
+    kind: Kind,
+)
+    requires { ⌜ (n ≤ 15) × (k < 2 ^ n) × (rows * 2 ^ n ≤ length (now work)) × (rows * tableBytes n ≤ length (now tables)) × (now words ≡ nibbleWords (k % 4)) ⌝ }
+    ensures { λ r. ⌜ now (work .exit) ≡ rowsFilled kind n k (now (tables .entry)) rows (now (work .entry)) ⌝ }
 {
     let size = places(n);
     let bytes = table_bytes(n);
@@ -135,6 +250,7 @@ fn fill_rows(work: &mut [u16], tables: &[u8], n: usize, rows: usize, k: usize, k
     while r < rows {
         transform(
             &mut work[r * size..r * size + size],
+            words,
             &tables[r * bytes..r * bytes + bytes],
             0,
             n,
@@ -143,6 +259,16 @@ fn fill_rows(work: &mut [u16], tables: &[u8], n: usize, rows: usize, k: usize, k
         );
         r += 1;
     }
+}
+
+// The spectra of tables that stand row after row. The words are made once for all rows.
+fn fill_rows(work: &mut [u16], tables: &[u8], n: usize, rows: usize, k: usize, kind: Kind)
+    requires { ⌜ (n ≤ 15) × (k < 2 ^ n) × (rows * 2 ^ n ≤ length (now work)) × (rows * tableBytes n ≤ length (now tables)) ⌝ }
+    ensures { λ r. ⌜ now (work .exit) ≡ rowsFilled kind n k (now (tables .entry)) rows (now (work .entry)) ⌝ }
+{
+    let mut words = [0u64; 16];
+    fill_words(&mut words, k % 4);
+    transform_rows(work, &words, tables, n, rows, k, kind);
 }
 
 // (63 + 1) circuits of at most 32 bytes.
@@ -309,7 +435,7 @@ fn recover(table: &mut [u8], sums: &mut [u16], numbers: &[u16], n: usize, k: usi
     ensures { λ r. ⌜ now (table .exit) ≡ packed (2 ^ n) (recovered n k (at (now (numbers .entry)))) ⌝ }
 {
     pack(table, numbers, 0);
-    transform(sums, table, 0, n, 0, Kind::Rm);
+    fill_rows(sums, table, n, 1, 0, Kind::Rm);
     pack(table, sums, k);
 }
 
@@ -356,7 +482,7 @@ fn undo_in(
     ensures { λ r. ⌜ record { answer = outcome r; memory = now (out .exit) } ≡ leaves (undoneOf n (now (numbers .entry)) kind k (length (now (out .entry)))) (now (out .entry)) ⌝ }
 {
     recover(table, sums, numbers, n, k);
-    transform(sums, table, 0, n, k, kind);
+    fill_rows(sums, table, n, 1, k, kind);
     if !same(numbers, sums) {
         return Outcome::Refused(Refusal::NoTable);
     }
