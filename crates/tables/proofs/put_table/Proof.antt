@@ -1,9 +1,8 @@
 -- `tables::put_table` meets its contract: the row that `table_row` names holds the circuit's table, and is copied.
 use Prim.Native.Nat.{ℕ, _+_, _≤_}
 use native.Mathlib.Omega.{arith}
-use mathlib.Core.Path.{sym, subst}
+use mathlib.Core.Path.{sym, subst, _∙_}
 use lib.ListN.{length}
-use borrow.Author.Needs.{needs}
 use Rattle.tables.proofs.Putting.{sound-kept, shape-bytes, table-inside, table-put}
 use Rattle.tables.proofs.put_table.Statement.{statement}
 use Rattle.tables.proofs.put_table.Tie as tie
@@ -30,10 +29,10 @@ copy-requires c κs =
     )
 
 same-length : tie.Need-same-length
-same-length c = search needs
+same-length c = c .before .before .copy .kept .0
 
 same-length-2 : tie.Need-same-length-2
-same-length-2 c = search needs
+same-length-2 c = c .before .before .before .before .before .before .before .table-row .kept .0 ∙ c .before .before .before .before .before .before .before .before .before .before .before .good-circuit .kept .0
 
 returns : tie.Need-returns
 returns c =

@@ -16,7 +16,7 @@ use Rattle.tables.proofs.table.Statement.{statement}
 use Rattle.tables.proofs.table.Tie as tie
 
 read-requires : tie.Need-read-requires
-read-requires c κs = search needs
+read-requires c κs = tt
 
 enum-known-outcome : tie.Need-enum-known-outcome
 enum-known-outcome c = search needs
@@ -51,7 +51,7 @@ unfolding maxInputs maxGates maxTableBytes rowBytes
 put-table-requires c κs = let a = c .before .before .before .before .before .before .before .before .before .before .before .before .before .before .args in let r = c .before .before .before .before .before .before .before .before .before .before .before .read in let done = c .before .before .before .before .before .before .before .before .before .enum-told in (sound-of (r .result .job) _ _ (told-valid (r .result) (now (a .bytes)) (r .ensures) (done .given .1)) (c .before .before .before .before .shape-of .ensures) (length-replicate {A = ℕ} 4608 0), c .before .before .before .before .before .before .if1 .left, subst (λ (k : ℕ). k ≤ length (now (a .out))) (ap (λ (x : Shape). x .bytes) (c .before .before .before .before .shape-of .ensures)) (c .before .before .if2 .left))
 
 same-length : tie.Need-same-length
-same-length c = search needs
+same-length c = c .before .before .before .put-table .kept .0
 
 returns-4 : tie.Need-returns-4
 returns-4 c = let a = c .before .before .before .before .before .before .before .before .before .before .before .before .before .before .before .before .before .before .args in let r = c .before .before .before .before .before .before .before .before .before .before .before .before .before .before .before .read in let done = c .before .before .before .before .before .before .before .before .before .before .before .before .before .enum-told in table-done (now (a .bytes)) (now (a .out)) (a .circuit) (r .result .job) (told-done (r .result) (reading (now (a .bytes))) (r .ensures) (done .given .1)) _ (c .before .before .before .before .before .before .before .before .before .before .if1 .left) (subst (λ (k : ℕ). k ≤ length (now (a .out))) (ap (λ (x : Shape). x .bytes) (c .before .before .before .before .before .before .before .before .shape-of .ensures)) (c .before .before .before .before .before .before .if2 .left)) (c .before .before .before .put-table .ensures)

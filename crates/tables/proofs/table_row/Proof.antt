@@ -31,7 +31,7 @@ faulty-circuit-requires : tie.Need-faulty-circuit-requires
 faulty-circuit-requires c κs = (c .before .before .before .before .pre .0, c .before .before .before .before .pre .1, c .before .before .before .before .pre .2, fixes (c .before .before .before .before .args .t2) (c .before .before .before .before .args .circuit - 1) (c .before .before .before .before .pre .0 .valid) (omega arith))
 
 same-length : tie.Need-same-length
-same-length c = search needs
+same-length c = c .before .before .faulty-circuit .kept .0
 
 returns-2 : tie.Need-returns-2
 returns-2 c = table-faulty (c .before .before .before .before .before .before .before .args .t2) _ _ (c .before .before .before .before .before .before .before .args .circuit) (c .before .before .before .before .before .if1 .left) (c .before .before .faulty-circuit .ensures)

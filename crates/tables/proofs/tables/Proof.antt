@@ -16,7 +16,7 @@ use Rattle.tables.proofs.tables.Statement.{statement}
 use Rattle.tables.proofs.tables.Tie as tie
 
 read-requires : tie.Need-read-requires
-read-requires c κs = search needs
+read-requires c κs = tt
 
 enum-known-outcome : tie.Need-enum-known-outcome
 enum-known-outcome c = search needs
@@ -60,7 +60,7 @@ cast-t11 : tie.Need-cast-t11
 cast-t11 c = search needs
 
 same-length : tie.Need-same-length
-same-length c = search needs
+same-length c = c .before .before .before .before .before .put-tables .kept .0
 
 returns-3 : tie.Need-returns-3
 returns-3 c = let a = c .before .before .before .before .before .before .before .before .before .before .before .before .before .before .before .before .before .before .before .args in let r = c .before .before .before .before .before .before .before .before .before .before .before .before .before .before .before .before .read in let done = c .before .before .before .before .before .before .before .before .before .before .before .before .before .before .enum-told in tables-done (now (a .bytes)) (now (a .out)) (r .result .job) (told-done (r .result) (reading (now (a .bytes))) (r .ensures) (done .given .1)) _ (subst (λ (k : ℕ). (r .result .job .«fault_count» + 1) * k ≤ length (now (a .out))) (ap (λ (x : Shape). x .bytes) (c .before .before .before .before .before .before .before .before .before .before .shape-of .ensures)) (c .before .before .before .before .before .before .before .before .if1 .left)) (c .before .before .before .before .before .put-tables .ensures)

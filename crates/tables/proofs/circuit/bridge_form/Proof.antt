@@ -1,16 +1,15 @@
 -- `tables::circuit::bridge_form` meets its contract: AND is kind 0, OR is kind 1.
 use mathlib.Core.Path.{sym, ap, _∙_}
 use mathlib.Core.Bool.{Bool, cond}
-use borrow.Author.Needs.{needs}
 use Rattle.gates.specs.Form.{kindForm}
 use Rattle.tables.proofs.circuit.bridge_form.Statement.{statement}
 use Rattle.tables.proofs.circuit.bridge_form.Tie as tie
 
 form-of-requires : tie.Need-form-of-requires
-form-of-requires c κs = search needs
+form-of-requires c κs = tt
 
 form-of-requires-2 : tie.Need-form-of-requires-2
-form-of-requires-2 c κs = search needs
+form-of-requires-2 c κs = tt
 
 returns : tie.Need-returns
 returns c = c .form-of .ensures ∙ ap (λ (b : Bool). kindForm (cond b 0 1) (c .before .before .args .keep)) (sym (c .before .if1 .taken))

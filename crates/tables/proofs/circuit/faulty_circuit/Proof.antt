@@ -19,10 +19,10 @@ add-lines : tie.Need-add-lines
 add-lines c = search needs
 
 first-requires : tie.Need-first-requires
-first-requires c κs = search needs
+first-requires c κs = tt
 
 second-requires : tie.Need-second-requires
-second-requires c κs = search needs
+second-requires c κs = tt
 
 fix-rows-requires : tie.Need-fix-rows-requires
 fix-rows-requires c κs =
@@ -72,7 +72,7 @@ mul-result c =
     (row-of .result) (row-of .ensures) (start .good .0 .0)
 
 same-length : tie.Need-same-length
-same-length c = search needs
+same-length c = c .before .before .before .before .before .gate-rows .kept .0 ∙ c .before .before .before .before .before .before .before .before .before .input-rows .kept .0 ∙ c .before .before .before .before .before .before .before .before .before .before .before .before .before .fix-rows .kept .0
 
 returns : tie.Need-returns
 returns c =

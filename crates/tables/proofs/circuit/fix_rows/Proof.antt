@@ -1,5 +1,6 @@
 -- `tables::circuit::fix_rows` meets its contract: the stuck line's row is filled with its level, and the rows of bridged lines, one after
 -- the other, from the good circuit's rows, which stand before them.
+use mathlib.Core.Path.{_∙_}
 use borrow.Author.Needs.{needs}
 use Rattle.tables.proofs.Lines.{stuck-filled, bridge-filled}
 use Rattle.tables.proofs.Shaped.{bridge-spliced}
@@ -59,7 +60,7 @@ mul-y c =
     (fault2 .given .0 .0) (fault2 .given .0 .1 .0) (fault2 .given .0 .1 .1 .0) (fault2 .given .1) (start .good .0 .0)
 
 bridge-form-requires : tie.Need-bridge-form-requires
-bridge-form-requires c κs = search needs
+bridge-form-requires c κs = tt
 
 cast-row-of-2 : tie.Need-cast-row-of-2
 cast-row-of-2 c = search needs
@@ -78,7 +79,7 @@ mul-combine c =
     (start .good .0 .0)
 
 combine-requires : tie.Need-combine-requires
-combine-requires c κs = search needs
+combine-requires c κs = tt
 
 cast-row-of-3 : tie.Need-cast-row-of-3
 cast-row-of-3 c = search needs
@@ -97,10 +98,10 @@ mul-combine-2 c =
     (start .good .0 .0)
 
 combine-requires-2 : tie.Need-combine-requires-2
-combine-requires-2 c κs = search needs
+combine-requires-2 c κs = tt
 
 same-length : tie.Need-same-length
-same-length c = search needs
+same-length c = c .before .before .level-row .kept .0
 
 returns : tie.Need-returns
 returns c =
@@ -112,7 +113,7 @@ returns c =
     (fault .given .0 .0) (row-of .result) (fault .given .0 .1 .0) (fault .given .1) (row-of .ensures) (level-row .ensures)
 
 same-length-2 : tie.Need-same-length-2
-same-length-2 c = search needs
+same-length-2 c = c .before .before .combine2 .kept .0 ∙ c .before .before .before .before .before .before .before .combine .kept .0
 
 returns-2 : tie.Need-returns-2
 returns-2 c =

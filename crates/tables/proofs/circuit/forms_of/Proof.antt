@@ -27,7 +27,7 @@ element-copy-out-entry : tie.Need-element-copy-out-entry Inv-loop μ-loop
 element-copy-out-entry c = gate-index (c .loop-test .taken) (c .before .before .pre)
 
 form-of-requires : tie.Need-form-of-requires Inv-loop μ-loop
-form-of-requires c κs = search needs
+form-of-requires c κs = tt
 
 mul-form : tie.Need-mul-form Inv-loop μ-loop
 mul-form c = omega (arith, gate-index (c .before .before .loop-test .taken) (c .before .before .before .before .pre))

@@ -1,7 +1,7 @@
 -- `tables::circuit::good_circuit` meets its contract: every line has a row and none is fixed, so each row holds its line's table.
 use borrow.Author.Needs.{needs}
 use Prim.Native.Nat.{zero-le}
-use mathlib.Core.Path.{refl}
+use mathlib.Core.Path.{refl, _∙_}
 use Rattle.tables.proofs.Circuits.{goodPlan, good-made}
 use Rattle.tables.proofs.Space.{inputs-roomy, sound-planned}
 use Rattle.tables.proofs.circuit.good_circuit.Statement.{statement}
@@ -32,7 +32,7 @@ gate-rows-requires c κs =
     )
 
 same-length : tie.Need-same-length
-same-length c = search needs
+same-length c = c .before .before .gate-rows .kept .0 ∙ c .before .before .before .before .before .before .input-rows .kept .0
 
 returns : tie.Need-returns
 returns c =

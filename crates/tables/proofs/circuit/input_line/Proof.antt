@@ -41,7 +41,7 @@ input-row-requires c κs =
     )
 
 same-length : tie.Need-same-length
-same-length c = search needs
+same-length c = c .before .before .input-row .kept .0
 
 returns-3 : tie.Need-returns-3
 returns-3 c =

@@ -1,20 +1,19 @@
 -- `tables::rows::input_row` meets its contract: bytes of one pattern for the first three inputs, else bytes that alternate.
 use mathlib.Core.Path.{sym, ap, _∙_}
 use mathlib.Core.Logic.{⊎-elim}
-use borrow.Author.Needs.{needs}
 use Rattle.gates.proofs.Tabled.{patternOf, pattern-rest}
 use Rattle.tables.proofs.Shaped.{pattern-spliced, alternate-spliced}
 use Rattle.tables.proofs.rows.input_row.Statement.{statement}
 use Rattle.tables.proofs.rows.input_row.Tie as tie
 
 fill-requires : tie.Need-fill-requires
-fill-requires c κs = search needs
+fill-requires c κs = tt
 
 alternate-requires : tie.Need-alternate-requires
-alternate-requires c κs = search needs
+alternate-requires c κs = tt
 
 same-length : tie.Need-same-length
-same-length c = search needs
+same-length c = c .before .before .fill .kept .0
 
 returns : tie.Need-returns
 returns c =
@@ -28,7 +27,7 @@ returns c =
     (c .before .before .fill .ensures)
 
 same-length-2 : tie.Need-same-length-2
-same-length-2 c = search needs
+same-length-2 c = c .before .before .alternate .kept .0
 
 returns-2 : tie.Need-returns-2
 returns-2 c =

@@ -3,16 +3,15 @@ use Prim.Native.Nat.{ℕ}
 use mathlib.Core.Path.{sym, ap, _∙_}
 use mathlib.Core.Bool.{Bool, cond}
 use mathlib.Core.Logic.{⊎-elim}
-use borrow.Author.Needs.{needs}
 use Rattle.tables.proofs.Shaped.{level-spliced}
 use Rattle.tables.proofs.rows.level_row.Statement.{statement}
 use Rattle.tables.proofs.rows.level_row.Tie as tie
 
 fill-requires : tie.Need-fill-requires
-fill-requires c κs = search needs
+fill-requires c κs = tt
 
 same-length : tie.Need-same-length
-same-length c = search needs
+same-length c = c .before .before .fill .kept .0
 
 returns : tie.Need-returns
 returns c =
