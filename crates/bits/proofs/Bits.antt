@@ -6,7 +6,6 @@
 --   bitsOf-join       the bits of a number put together from two parts are those of the parts
 --   valueOf-bitsOf    the number in the w bits of v is v modulo 2 ^ w
 --   AllBits           each element of a list is 0 or 1
---   valueOf-append    the number in bits and then others is that of the bits shifted, with that of the others behind it
 --   valueOf-lt        a number of w bits is below 2 ^ w
 --   bitsOf-valueOf    the bits of the number that bits give are those bits
 --   length-stringOf   a byte holds eight bits
@@ -109,10 +108,6 @@ valueFrom-append : (v : ℕ) (bits more : List ℕ) → valueFrom v (bits ++ mor
 unfolding valueFrom
 valueFrom-append v [] more = refl
 valueFrom-append v (b ∷ bits) more = valueFrom-append (v * 2 + b) bits more
-
-pub valueOf-append : (bits more : List ℕ) → valueOf (bits ++ more) ≡ valueOf bits * 2 ^ length more + valueOf more
-unfolding valueOf
-valueOf-append bits more = valueFrom-append 0 bits more ∙ valueFrom-rest (valueFrom 0 bits) more
 
 valueOf-cons : (b : ℕ) (bits : List ℕ) → valueOf (b ∷ bits) ≡ b * 2 ^ length bits + valueOf bits
 unfolding valueFrom valueOf

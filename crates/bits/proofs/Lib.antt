@@ -1,4 +1,4 @@
-pub mod Adjacent
+pub mod Taken
 pub mod Answers
 pub mod Below
 pub mod Bits

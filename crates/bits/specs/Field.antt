@@ -21,9 +21,9 @@ from s c = drop (place c) (stringOf s)
 abbrev pub past : Cursor → ℕ → Cursor
 past c w = record { byte = (place c + w) / 8; bit = (place c + w) % 8 }
 
--- a gate's three fields together, 3 + 7 + 7 bits, are the widest that is read at once; from any bit on, four bytes hold them
+-- no field of the layout is wider than a byte; from any bit on, four bytes hold it
 abbrev pub maxWidth : ℕ
-maxWidth = 17
+maxWidth = 8
 
 abbrev pub isWidth : ℕ → Bool
 isWidth w = leb 1 w && leb w maxWidth

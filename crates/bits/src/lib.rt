@@ -105,8 +105,8 @@ fn bits_before(word: usize, end: usize, width: usize) -> usize
     (word >> (32 - end)) % (1 << width)
 }
 
-// A gate's three fields, 3 + 7 + 7 bits, are the widest that is read at once; from any bit on, four bytes hold them.
-const MAX_WIDTH: usize = 17;
+// No field of the layout is wider than a byte; from any bit on, four bytes hold it.
+const MAX_WIDTH: usize = 8;
 
 // The field of `width` bits at a place. A width outside 1 to MAX_WIDTH is no field of the layout, and is answered as cut.
 pub fn read_field(s: &[u8], c: Cursor, width: usize) -> Field

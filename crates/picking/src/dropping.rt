@@ -43,6 +43,14 @@ fn keep(rows: usize, kept: Kept, entry: u16, values: Column) -> Kept
     }
 }
 
+// The entry at a place in the order of taking.
+fn taken_at(taken: &[u16], i: usize) -> u16
+    requires { ⌜ i < length (now taken) ⌝ }
+    ensures { λ r. ⌜ r ≡ getD (now (taken .entry)) i 0 ⌝ }
+{
+    taken[i]
+}
+
 // What is kept of the entries from place i on, given the labels of the rows by the entries before.
 fn drop_from(
     work: &[u16],
@@ -59,13 +67,14 @@ fn drop_from(
     if i == taken.len() {
         return nothing_kept();
     }
-    let values = crate::classes::coefficients(work, width, rows, taken[i] as usize);
+    let entry = taken_at(taken, i);
+    let values = crate::classes::coefficients(work, width, rows, entry as usize);
     let more = crate::classes::refine(rows, labels, values);
     let kept = drop_from(work, width, rows, marks, taken, i + 1, more);
     if crate::classes::all_told(rows, marks, &labels.of, &kept.labels.of) {
         return kept;
     }
-    keep(rows, kept, taken[i], values)
+    keep(rows, kept, entry, values)
 }
 
 // The kept entries from the start on, the places after them 0.

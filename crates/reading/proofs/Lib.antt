@@ -1,6 +1,5 @@
 pub mod Entries
 pub mod FaultKinds
-pub mod Joined
 pub mod Parts
 pub mod Refusals
 pub mod Telling

@@ -1,11 +1,11 @@
 // Reading a job from any bytes (document 01, "Job layout" and "Refusal by operation").
 ghost use mathlib.Core.Path.{_≡_};
 ghost use mathlib.Core.Bool.{true};
-ghost use Prim.Native.Nat.{_+_, _≤_};
+ghost use Prim.Native.Nat.{_≤_};
 ghost use Rattle.bits.specs.Answer.{number};
 ghost use Rattle.bits.specs.Answer.Answer.{refused};
 ghost use Rattle.bits.specs.Field.{from, isWidth};
-ghost use Rattle.job.specs.Layout.{lineBits, maxGates, maxFaults};
+ghost use Rattle.job.specs.Layout.{maxGates, maxFaults};
 ghost use Rattle.reading.specs.Reading.{reading, valueRead, entryFields, unaryLinesOk, gate, fault, fromGates, fromOutput, fromFaultCount, fromFaults, fromEnd};
 ghost use Rattle.reading.specs.Told.{told, due, entryTold, LinesFit, gateTold, faultTold};
 use bits::Cursor;
@@ -73,16 +73,20 @@ enum EntryRead {
     Cut,
 }
 
-// The three fields stand side by side, so they are read as one number: line b is its lowest bits, then comes line a, then the kind.
 fn read_entry(s: &[u8], at: Cursor, kind_bits: usize) -> EntryRead
-    requires { ⌜ isWidth («kind_bits» + lineBits + lineBits) ≡ true ⌝ }
+    requires { ⌜ isWidth «kind_bits» ≡ true ⌝ }
     ensures { λ r. ⌜ (entryTold (now (s .entry)) r ≡ entryFields «kind_bits» (from (now (s .entry)) at)) × LinesFit r ⌝ }
 {
-    let Field::Value(word, c) = bits::read_field(s, at, kind_bits + LINE_BITS + LINE_BITS) else {
+    let Field::Value(kind, c) = bits::read_field(s, at, kind_bits) else {
         return EntryRead::Cut;
     };
-    let line = 1 << LINE_BITS;
-    EntryRead::Fields(word / line / line, word / line % line, word % line, c)
+    let Field::Value(a, d) = bits::read_field(s, c, LINE_BITS) else {
+        return EntryRead::Cut;
+    };
+    let Field::Value(b, e) = bits::read_field(s, d, LINE_BITS) else {
+        return EntryRead::Cut;
+    };
+    EntryRead::Fields(kind, a, b, e)
 }
 
 // What stands where a gate is due.
