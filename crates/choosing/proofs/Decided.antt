@@ -53,6 +53,7 @@ use Rattle.choosing.specs.declared.Purpose.{Purpose}
 use Rattle.choosing.specs.declared.Verdict.the-variants.{Refused}
 use Rattle.choosing.proofs.Equality.{alike-tables}
 use Rattle.choosing.proofs.Indices.{scan-below}
+use Rattle.choosing.proofs.Sizes.{faults-rows}
 
 all-within : (width : ℕ) (l : List ℕ) → ((e : ℕ) → List·Memᴰ e l → e < width) → allBelow width l ≡ true
 unfolding allBelow
@@ -62,11 +63,6 @@ all-within width (e ∷ l) h =
 
 pub all-indices : (n : ℕ) → allBelow (2 ^ n) (scanOrder n) ≡ true
 all-indices n = all-within (2 ^ n) (scanOrder n) (λ e m. scan-below n m)
-
--- no more circuits than rows: 63 + 1
-faults-rows : (f : ℕ) → f ≤ maxFaults → f + 1 ≤ maxRows
-unfolding maxFaults maxRows
-faults-rows f h = omega arith
 
 module _ (counts : Counts) (work marks : List ℕ) (enough : Filled counts (length work)) (long : length marks ≡ maxRows) where
   abbrev n : ℕ
@@ -78,7 +74,7 @@ module _ (counts : Counts) (work marks : List ℕ) (enough : Filled counts (leng
   pub filled-fits : fits work (2 ^ n) rows marks (scanOrder n) ≡ true
   unfolding fits
   filled-fits =
-      let few : rows ≤ maxRows = faults-rows (counts .faults) (enough .faults-few) in
+      let few : rows ≤ maxRows = omega (arith, enough .faults-few, faults-rows) in
       let some : 1 ≤ 2 ^ n = pow-pos n in
       simp (
         le-leb 1 rows (omega arith),
@@ -92,7 +88,7 @@ module _ (counts : Counts) (work marks : List ℕ) (enough : Filled counts (leng
   module _ (purpose : Purpose) (held : Holds maxRows (mark purpose) marks) where
     marked : (a b : ℕ) → a < b → b < rows → apart marks a b ≡ needed purpose a b
     marked a b h k =
-        let few : rows ≤ maxRows = faults-rows (counts .faults) (enough .faults-few) in
+        let few : rows ≤ maxRows = omega (arith, enough .faults-few, faults-rows) in
         ap₂ (λ (x y : ℕ). not (eqb x y)) (held a (omega arith)) (held b (omega arith))
 
     told : (p : Pair) (l : List ℕ)

@@ -1,6 +1,7 @@
 pub mod Arrays
 pub mod Bounded
+pub mod Decided
 pub mod Equality
 pub mod Indices
 pub mod Ordered
-pub mod Decided
+pub mod Sizes

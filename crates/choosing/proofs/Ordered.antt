@@ -1,6 +1,6 @@
 -- The indices as the code lists them: each at the next place of its order (specs/Choosing.antt, specs/Looking.antt).
 --
---   order-within, order-few    an index has few ones
+--   order-within               an index has few ones
 --   index-fits                 it fits in two bytes
 --   place-few, place-apart     its place is below the number of indices, and no other index has it
 --   Raised                     numbers, one for each order, that each index below e has raised by one
@@ -11,7 +11,7 @@
 --   Placing                    what a loop has done after e turns: the indices below e stand at their places
 --   placing-none, placing-inside, placing-next, placing-all     its start, its room, its step and its end
 --   placed-listed              indices that stand at their places are listed in the order of looking
---   orders-within, most-places, shifted-few  sizes as the code has them
+--   shifted-few                the number of indices as the code works it out
 --   listed-length, listed-within             a list that stands in an array is no longer than the array
 use Prim.Native.Nat.{ℕ, zero, suc, _+_, _*_, _%_, _^_, _≤_, _<_, min}
 use native.Mathlib.Nat.{not-suc-le-zero, eq-or-lt-of-le, le-of-suc-le-suc, le-refl, zero-add}
@@ -26,10 +26,11 @@ use mir.Val.{Fits}
 use borrow.Author.Tests.{eq-eqb, ne-eqb, eqb-true, eqb-false}
 use lib.Count.{ones, ones-le}
 use lib.Dec.{eqb}
-use lib.ListN.{length, take, getD, set, replicate, length-append, length-set, length-take, getD-replicate}
+use lib.ListN.{length, take, getD, set, replicate, length-append, length-set, length-take, length-replicate, getD-replicate}
 use lib.Pow.{pow-mono}
 use lib.Seq.{take-suc, getD-set-same, getD-set-other}
 use Rattle.job.specs.Layout.{maxInputs}
+use Rattle.job.proofs.Sizes.{most-inputs}
 use Rattle.spectra.proofs.Transforming.{one-fits}
 use Rattle.bits.proofs.Below.{lt-or-ge}
 use Rattle.bits.specs.Passing.{passing}
@@ -39,20 +40,16 @@ use Rattle.choosing.specs.Choosing.{scanTo, scanOrder}
 use Rattle.choosing.specs.Looking.{maxPlaces, maxOrders, ofOrder, placeOf, Placed, Listed}
 use Rattle.picking.proofs.Columns.{Filling, filling-start, filling-next, filling-all}
 use Rattle.choosing.proofs.Indices.{length-passing, passing-more, length-scanTo, length-all}
+use Rattle.choosing.proofs.Sizes.{places-fit}
 
 -- ---- one index
 
-order-within : (e : ℕ) → e < maxPlaces → ones e < maxOrders
+pub order-within : {e order : ℕ} → e < maxPlaces → order ≡ ones e → order < maxOrders
 unfolding maxPlaces maxOrders
-order-within e h = omega (arith, ones-le maxInputs e h)
-
-pub order-few : {e order : ℕ} → e < maxPlaces → order ≡ ones e → order < 9
-unfolding maxOrders maxInputs
-order-few {e} h o = omega (arith, order-within e h)
+order-within {e} h o = omega (arith, ones-le maxInputs e h)
 
 pub index-fits : (index : ℕ) → index < maxPlaces → Fits w16 index
-unfolding maxPlaces maxInputs
-index-fits index h = omega arith
+index-fits index h = omega (arith, places-fit)
 
 length-order : (size order : ℕ) → length (scanTo size (suc order)) ≡ length (scanTo size order) + length (ofOrder order size)
 unfolding scanTo
@@ -110,16 +107,16 @@ pub record Raised (base : ℕ → ℕ) (e : ℕ) (l : List ℕ) : Type 0 where
   pub long : length l ≡ maxOrders
   pub held : Holds maxOrders (λ order. base order + length (ofOrder order e)) l
 
-raised-none : (base : ℕ → ℕ) (l : List ℕ) → length l ≡ 9 → Holds maxOrders base l → Raised base 0 l
-unfolding maxOrders maxInputs passing
+raised-none : (base : ℕ → ℕ) (l : List ℕ) → length l ≡ maxOrders → Holds maxOrders base l → Raised base 0 l
+unfolding passing
 raised-none base l e h = record { long = e; held = λ order k. h order k ∙ omega arith }
 
 module _ {base : ℕ → ℕ} {e order : ℕ} {l : List ℕ} (w : Raised base e l) (h : e < maxPlaces) (o : order ≡ ones e) where
   raised-inside : order < length l
-  raised-inside = omega (arith, order-within e h, w .long)
+  raised-inside = omega (arith, order-within {e = e} h refl, w .long)
 
   raised-at : getD l order 0 ≡ base (ones e) + length (ofOrder (ones e) e)
-  raised-at = ap (λ (x : ℕ). getD l x 0) o ∙ w .held (ones e) (order-within e h)
+  raised-at = ap (λ (x : ℕ). getD l x 0) o ∙ w .held (ones e) (order-within {e = e} h refl)
 
   raised-same : (k x : ℕ) → k ≡ order → x ≡ getD l order 0 → getD (set l order (x + 1)) k 0 ≡ base k + length (ofOrder k (e + 1))
   raised-same k x q p =
@@ -147,12 +144,10 @@ module _ {base : ℕ → ℕ} {e order : ℕ} {l : List ℕ} (w : Raised base e 
             (λ f. raised-other k x b (eqb-false k order f));
       }
 
-pub counts-none : Raised (λ order. 0) 0 (replicate 9 0)
-unfolding maxOrders maxInputs
-counts-none = raised-none (λ order. 0) (replicate 9 0) refl (λ order h. getD-replicate 9 order 0 0 h)
+pub counts-none : Raised (λ order. 0) 0 (replicate maxOrders 0)
+counts-none = raised-none (λ order. 0) (replicate maxOrders 0) (length-replicate maxOrders 0) (λ order h. getD-replicate maxOrders order 0 0 h)
 
-pub counts-few : {e order : ℕ} {l : List ℕ} → Raised (λ order. 0) e l → e < maxPlaces → order ≡ ones e → getD l order 0 < 256
-unfolding maxPlaces maxInputs
+pub counts-few : {e order : ℕ} {l : List ℕ} → Raised (λ order. 0) e l → e < maxPlaces → order ≡ ones e → getD l order 0 < maxPlaces
 counts-few {e} w h o = omega (arith, raised-at w h o, length-order e (ones e), length-scanTo e (suc (ones e)))
 
 -- raised from 0, they count the indices of each order
@@ -165,44 +160,38 @@ counts-all {size} {e} w h k order b =
 
 pub record Starting (size order place : ℕ) (l : List ℕ) : Type 0 where
   pub reached : place ≡ length (scanTo size order)
-  pub starts : Filling 9 9 (λ order. length (scanTo size order)) l order
+  pub starts : Filling maxOrders maxOrders (λ order. length (scanTo size order)) l order
 
-pub starting-none : (size : ℕ) (l : List ℕ) → length l ≡ 9 → Starting size 0 0 l
+pub starting-none : (size : ℕ) (l : List ℕ) → length l ≡ maxOrders → Starting size 0 0 l
 unfolding scanTo
-starting-none size l e = record { reached = refl; starts = filling-start 9 (λ order. length (scanTo size order)) l e }
-
-pub orders-within : {order : ℕ} → order < 9 → order < maxOrders
-unfolding maxOrders maxInputs
-orders-within h = h
+starting-none size l e = record { reached = refl; starts = filling-start maxOrders (λ order. length (scanTo size order)) l e }
 
 module _ {size order place count : ℕ} {l : List ℕ} (w : Starting size order place l) (c : count ≡ length (ofOrder order size)) where
   starting-sum : place + count ≡ length (scanTo size (suc order))
   starting-sum = omega (arith, w .reached, c, length-order size order)
 
-  pub starting-fits : size ≤ maxPlaces → place + count ≤ 256
-  unfolding maxPlaces maxInputs
+  pub starting-fits : size ≤ maxPlaces → place + count ≤ maxPlaces
   starting-fits few = omega (arith, starting-sum, length-scanTo size (suc order))
 
-  pub starting-next : order < 9 → Starting size (order + 1) (place + count) (set l order place)
+  pub starting-next : order < maxOrders → Starting size (order + 1) (place + count) (set l order place)
   starting-next h =
       record {
         reached = starting-sum ∙ ap (λ (x : ℕ). length (scanTo size x)) (sym (add-one order));
-        starts = filling-next (w .starts) (le-refl 9) h (w .reached);
+        starts = filling-next (w .starts) (le-refl maxOrders) h (w .reached);
       }
 
-pub starting-all : {size order place : ℕ} {l : List ℕ} → Starting size order place l → 9 ≤ order → Holds maxOrders (λ order. length (scanTo size order)) l
-unfolding maxOrders maxInputs
+pub starting-all : {size order place : ℕ} {l : List ℕ} → Starting size order place l → maxOrders ≤ order → Holds maxOrders (λ order. length (scanTo size order)) l
 starting-all w h = filling-all (w .starts) h
 
 -- ---- all indices
 
 pub record Placing (size e : ℕ) (next places : List ℕ) : Type 0 where
   pub within : e ≤ size
-  pub long : length places ≡ 256
+  pub long : length places ≡ maxPlaces
   pub raised : Raised (λ order. length (scanTo size order)) e next
   pub placed : (i : ℕ) → i < e → getD places (placeOf size i) 0 ≡ i
 
-pub placing-none : (size : ℕ) (next places : List ℕ) → length next ≡ 9 → length places ≡ 256 → Holds maxOrders (λ order. length (scanTo size order)) next
+pub placing-none : (size : ℕ) (next places : List ℕ) → length next ≡ maxOrders → length places ≡ maxPlaces → Holds maxOrders (λ order. length (scanTo size order)) next
     → Placing size 0 next places
 placing-none size next places n e h =
     record {
@@ -219,8 +208,7 @@ module _ {size e order : ℕ} {next places : List ℕ} (w : Placing size e next 
   placing-at : getD next order 0 ≡ placeOf size e
   placing-at = raised-at (w .raised) below o
 
-  pub placing-inside : getD next order 0 < 256
-  unfolding maxPlaces maxInputs
+  pub placing-inside : getD next order 0 < maxPlaces
   placing-inside = omega (arith, placing-at, place-few size e h)
 
   pub placing-next : Placing size (e + 1) (set next order (getD next order 0 + 1)) (set places (getD next order 0) e)
@@ -285,26 +273,20 @@ module _ (size : ℕ) (places : List ℕ) (long : size ≤ length places) (place
   scan-starts zero = refl
   scan-starts (suc order) = upTo-starts order size (le-refl size) (scan-starts order)
 
-pub most-places : {n : ℕ} → n ≡ 256 → n ≡ maxPlaces
-unfolding maxPlaces maxInputs
-most-places e = e
-
 -- the number of indices as the machine works it out
 abbrev shifted : ℕ → ℕ
 shifted n = 1 * 2 ^ n % 2 ^ 64
 
 module _ {n : ℕ} (few : n ≤ maxInputs) where
   shifted-is : shifted n ≡ 2 ^ n
-  unfolding maxInputs
-  shifted-is = one-fits n (omega arith)
+  shifted-is = one-fits n (omega (arith, most-inputs))
 
   pub shifted-few : shifted n ≤ maxPlaces
   unfolding maxPlaces
   shifted-few = rw shifted-is (pow-mono {i = n} {j = maxInputs} few)
 
-  pub placed-listed : {count : ℕ} {places : List ℕ} → length places ≡ 256 → (count ≡ shifted n) × Placed (shifted n) places
+  pub placed-listed : {count : ℕ} {places : List ℕ} → length places ≡ maxPlaces → (count ≡ shifted n) × Placed (shifted n) places
       → Listed (scanOrder n) count places
-  unfolding maxPlaces maxInputs
   placed-listed {count} {places} e p =
       let all : length (scanOrder n) ≡ 2 ^ n = length-all (2 ^ n) (n + 1) (λ i h. omega (arith, ones-le n i h)) in
       let counted : count ≡ length (scanOrder n) = p .0 ∙ shifted-is ∙ sym all in

@@ -34,12 +34,10 @@ use Rattle.choosing.specs.declared.Verdict.the-variants.{Done, Alike, Re
 
 -- 2 to the power 8
 unfoldable pub maxPlaces : ℕ
-unfolding maxInputs
 maxPlaces = 2 ^ maxInputs
 
 -- 0 to 8
 unfoldable pub maxOrders : ℕ
-unfolding maxInputs
 maxOrders = suc maxInputs
 
 abbrev pub ofOrder : ℕ → ℕ → List ℕ

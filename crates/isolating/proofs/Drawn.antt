@@ -1,8 +1,8 @@
 -- The readings that a circuit has at a signature, drawn from its row of the filled work (specs/Relocating.antt).
 --
---   inputs-shift     the number of inputs can be shifted by: at most 8 is below 64
---   start-is         a row begins where the definition says: at most 8 inputs are at most 15
---   start-fits       that number fits a usize: at most 63 times 256
+--   inputs-shift     a number can be shifted by the number of inputs
+--   start-is         a row begins where the definition says
+--   start-fits       that number fits a usize
 --   signed-inside    a signature's entries lie within their array
 --   signed-counted   they are as many as the signature counts
 --   row-asked        the entries of a row lie within the work, and their numbers within the array of readings
@@ -11,7 +11,7 @@
 --   located-over     a circuit number over f is refused
 --   located-drawn    else locating is asked for the drawn readings
 use Prim.Native.Nat.{ℕ, _+_, _*_, _%_, _^_, _≤_, _<_}
-use native.Mathlib.Nat.{mul-le-mul}
+use native.Mathlib.Nat.{mul-le-mul, lt-of-le-of-lt}
 use native.Mathlib.Omega.{arith}
 use mathlib.Core.Path.{_≡_, sym, ap, subst, _∙_}
 use mathlib.Core.List.{List, _++_}
@@ -24,13 +24,13 @@ use mir.Val.{Fits}
 use Rattle.bits.specs.Answer.{Leaves, leaves}
 use Rattle.bits.specs.Answer.Answer.{refused}
 use Rattle.job.specs.Layout.{maxInputs, maxFaults}
+use Rattle.job.proofs.Sizes.{most-inputs, most-places}
 use Rattle.tables.specs.declared.Counts.{Counts}
 use Rattle.spectra.specs.declared.Kind.{Kind}
 use Rattle.spectra.proofs.Transforming.{one-fits}
 use Rattle.picking.specs.Matrix.{maxEntries}
 use Rattle.picking.specs.declared.Signature.{Signature}
 use Rattle.picking.proofs.Columns.{cell-within}
-use Rattle.picking.proofs.Resting.{most-entries}
 use Rattle.locating.specs.Locating.{Location, locatedOf}
 use Rattle.locating.specs.Scanning.{numbersAt}
 use Rattle.locating.proofs.Indexed.{numbers-length}
@@ -45,20 +45,16 @@ listOf signature = take (signature .count) (signature .entries)
 
 module _ {counts : Counts} {signature : Signature} {room : ℕ} (r : Readable counts signature room) where
   pub inputs-shift : counts .inputs < 64
-  unfolding maxInputs
-  inputs-shift = omega (arith, r .inputs-few)
+  inputs-shift = omega (arith, r .inputs-few, most-inputs)
 
   start-is : (c : ℕ) → startOf counts c ≡ c * 2 ^ (counts .inputs)
-  unfolding maxInputs
-  start-is c = ap (λ (x : ℕ). c * x) (one-fits (counts .inputs) (omega (arith, r .inputs-few)))
+  start-is c = ap (λ (x : ℕ). c * x) (one-fits (counts .inputs) (omega (arith, r .inputs-few, most-inputs)))
 
   pub start-fits : {c : ℕ} → c ≤ counts .faults → Fits w64 (startOf counts c)
-  unfolding maxInputs maxFaults
   start-fits {c} h =
-      let few : c ≤ 63 = omega (arith, r .faults-few) in
-      let most : 2 ^ (counts .inputs) ≤ 2 ^ 8 = pow-mono {i = counts .inputs} {j = 8} (r .inputs-few) in
-      let both : c * 2 ^ (counts .inputs) ≤ 63 * 2 ^ 8 = mul-le-mul few most in
-      record { fits = omega (arith, start-is c) }
+      let few : c ≤ maxFaults + 1 = omega (arith, r .faults-few) in
+      let most : 2 ^ (counts .inputs) ≤ 2 ^ maxInputs = pow-mono (r .inputs-few) in
+      record { fits = rw (start-is c) (lt-of-le-of-lt (mul-le-mul few most) most-places) }
 
   module _ (long : length (signature .entries) ≡ maxEntries) where
     pub signed-inside : signature .count ≤ length (signature .entries)
@@ -67,7 +63,7 @@ module _ {counts : Counts} {signature : Signature} {room : ℕ} (r : Readable co
     pub signed-counted : signature .count ≡ length (listOf signature)
     signed-counted = sym (length-take-le (signature .count) (signature .entries) signed-inside)
 
-    pub row-asked : {c : ℕ} → c ≤ counts .faults → Within (startOf counts c) (listOf signature) room × (length (listOf signature) ≤ 63)
+    pub row-asked : {c : ℕ} → c ≤ counts .faults → Within (startOf counts c) (listOf signature) room × (length (listOf signature) ≤ maxEntries)
     row-asked {c} h = (
       record {
         at = λ i l.
@@ -76,7 +72,7 @@ module _ {counts : Counts} {signature : Signature} {room : ℕ} (r : Readable co
             (subst (λ (x : ℕ). c * 2 ^ (counts .inputs) + x < room) (sym (getD-take (signature .count) (signature .entries) i 0 inside))
             (cell-within (omega arith) (r .inside i inside) (r .enough)));
       },
-      omega (arith, signed-counted, r .short, most-entries),
+      omega (arith, signed-counted, r .short),
     )
 
     module _ (c : ℕ) (work before : List ℕ) {readings : List ℕ}

@@ -1,6 +1,5 @@
 -- Choosing a signature and locating with it: what each verdict of choosing comes to (specs/Relocating.antt).
 --
---   faults-entries      a signature has room for as many entries as there can be faults: 63
 --   chose-gave          an answer of choosing that gives comes from one that fills
 --   choice-told         a choice that tells counts tells the job's, and its entries are the signature
 --   Signing             where choosing tells counts: the job, its counts and signature, and the work that holds its spectra
@@ -44,6 +43,7 @@ use Rattle.choosing.specs.declared.Purpose.the-variants.{Isolating}
 use Rattle.choosing.specs.declared.Verdict.{Verdict}
 use Rattle.choosing.specs.declared.Verdict.the-variants.{Done, Alike, Refused}
 use Rattle.choosing.proofs.Bounded.{signature-short, signature-below}
+use Rattle.choosing.proofs.Sizes.{faults-entries}
 use Rattle.locating.specs.Locating.{Location}
 use Rattle.locating.specs.Scanning.{numbersAt}
 use Rattle.locating.proofs.Indexed.{index-below, numbers-same}
@@ -51,10 +51,6 @@ use Rattle.isolating.specs.Demand.{ValidJob, ValidPolarity, ValidList, E
 use Rattle.isolating.specs.Relocating.{locatedFrom, relocatedBy, relocated, Relocated, NamedAlone, Readable}
 use Rattle.isolating.proofs.Opened.{indices-ok, chosen-opened}
 use Rattle.isolating.proofs.Theorem.{demand-3}
-
-pub faults-entries : (f : ℕ) → f ≤ maxFaults → f ≤ maxEntries
-unfolding maxFaults maxEntries
-faults-entries f h = h
 
 pub chose-gave : (x : Answer (Fills Choice)) (work : List ℕ) (f : Finding) → chose x work .answer ≡ gives f
     → (w : Fills Choice) × (x ≡ gives w) × (w .value .finding ≡ f)
@@ -131,7 +127,7 @@ module _ (s : List ℕ) (kind : Kind) (k : ℕ) (work : List ℕ) where
           inputs-few = v .few;
           faults-few = v .faults-few;
           enough = omega arith;
-          short = le-trans (signature-short Isolating kind k j) (faults-entries (j .«fault_count») (v .faults-few));
+          short = le-trans (signature-short Isolating kind k j) (le-trans (v .faults-few) faults-entries);
           inside = λ i h.
               subst (λ (x : ℕ). x < 2 ^ (j .inputs)) (sym (List·getD-append l _ 0 i h))
               (index-below (j .inputs) l i (indices-ok (j .inputs) l (signature-below Isolating kind k j)) h);

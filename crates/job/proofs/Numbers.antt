@@ -27,6 +27,7 @@ use Rattle.job.specs.declared.Gate.{Gate}
 use Rattle.job.specs.declared.Gate.the-variants.{Unary, Binary}
 use Rattle.job.specs.declared.Fault.{Fault}
 use Rattle.job.specs.declared.Fault.the-variants.{Stuck, Bridge}
+use Rattle.job.proofs.Sizes.{eight-kinds, four-kinds}
 
 pub gateOf-ok : (own k a b : ℕ) → ltb a own && ltb b own ≡ true → gateOk own (gateOf k a b) ≡ true
 gateOf-ok own zero a b e = e
@@ -37,15 +38,6 @@ gateOf-ok own (suc (suc (suc (suc zero)))) a b e = e
 gateOf-ok own (suc (suc (suc (suc (suc zero))))) a b e = e
 gateOf-ok own (suc (suc (suc (suc (suc (suc zero)))))) a b e = and-i (and-l (ltb a own) (ltb b own) e) (and-l (ltb a own) (ltb b own) e)
 gateOf-ok own (suc (suc (suc (suc (suc (suc (suc k))))))) a b e = and-i (and-l (ltb a own) (ltb b own) e) (and-l (ltb a own) (ltb b own) e)
-
--- the kinds are the numbers of their fields
-eight-kinds : 2 ^ gateKindBits ≡ 8
-unfolding gateKindBits
-eight-kinds = refl
-
-four-kinds : 2 ^ faultKindBits ≡ 4
-unfolding faultKindBits
-four-kinds = refl
 
 each-gate-kind : (P : ℕ → Type 0) → P 0 → P 1 → P 2 → P 3 → P 4 → P 5 → P 6 → P 7 → (k : ℕ) → k < 2 ^ gateKindBits → P k
 each-gate-kind P p0 p1 p2 p3 p4 p5 p6 p7 zero h = p0

@@ -26,8 +26,8 @@ use Rattle.tables.specs.declared.TablesAnswer.{TablesAnswer}
 use Rattle.tables.specs.declared.TablesAnswer.the-variants.{Filled, Refused}
 
 pub record Listed (counts : Counts) (room : ℕ) : Type 0 where
-  pub few : counts .inputs ≤ 8
-  pub faults-few : counts .faults ≤ 63
+  pub few : counts .inputs ≤ maxInputs
+  pub faults-few : counts .faults ≤ maxFaults
   pub fits : (counts .faults + 1) * tableBytes (counts .inputs) ≤ room
 
 answer-gives : {counts : Counts} (out : List ℕ) (a : Answer (Fills Counts)) → gives counts ≡ (leaves a out) .answer
@@ -36,7 +36,6 @@ answer-gives out (gives w) e = (w, refl, sym (gives-same e))
 answer-gives out (refused k) e = absurd (never-gives (sym e))
 
 job-listed : (s : List ℕ) (j : Job) (room : ℕ) → reading s ≡ gives j → (j .«fault_count» + 1) * tableBytes (j .inputs) ≤ room → Listed (countsOf j) room
-unfolding maxInputs maxFaults
 job-listed s j room e h = record { few = reading-valid s j e .few; faults-few = reading-valid s j e .faults-few; fits = h }
 
 tables-gave : (s : List ℕ) (room : ℕ) (w : Fills Counts) → tablesOf s room ≡ gives w → Listed (w .value) room

@@ -10,14 +10,14 @@ use mathlib.Core.Path.{_≡_, refl, sym, ap, _∙_}
 use mathlib.Core.Bool.{Bool, true, false, cond}
 use mathlib.Core.List.{List}
 use borrow.Author.Tests.{leb-true, ltb-true, le-ltb}
-use lib.Dec.{leb, ltb, eqb, lit≤}
+use lib.Dec.{leb, ltb, eqb}
 use lib.ListN.{length, getD}
 use lib.Seq.{length-sets}
 use Rattle.bits.specs.Answer.Answer.{gives}
 use Rattle.bits.specs.Bits.{stringOf}
 use Rattle.bits.proofs.Tests.{and-l, and-r}
 use Rattle.job.specs.Check.{Valid, checked, gateOk, faultLineOk, faultOrderOk}
-use Rattle.job.specs.Layout.{maxInputs, maxGates, maxFaults, faultCountBits}
+use Rattle.job.specs.Layout.{maxInputs, maxGates, maxFaults}
 use Rattle.job.specs.Record.{faultOf, lines, unusedGate, unusedFault, noGates, noFaults}
 use Rattle.job.specs.declared.FaultEntry.{FaultEntry}
 use Rattle.job.specs.declared.GateEntry.{GateEntry}
@@ -25,13 +25,9 @@ use Rattle.job.specs.declared.Job.{Job}
 use Rattle.job.proofs.Checked.{checked-valid}
 use Rattle.job.proofs.Unused.{length-noGates, length-noFaults}
 use Rattle.job.proofs.Numbers.{gateOf-ok}
+use Rattle.job.proofs.Sizes.{counts-of-faults}
 use Rattle.reading.specs.Reading.{reading, faultLinesOk}
 use Rattle.reading.proofs.Parts.{GateTaken, FaultTaken, EntriesTaken, chain-each, sets-at, Parts, reading-parts}
-
--- no fault count that fits its field is over the limit
-fault-counts-fit : 2 ^ faultCountBits ≤ suc maxFaults
-unfolding faultCountBits maxFaults
-fault-counts-fit = lit≤ tt
 
 -- an entry that was taken stands in the list that is left
 entry-left : {A : Type 0} (R : ℕ → List ℕ → A → List ℕ → Type 0) (Good : ℕ → A → Type 0)
@@ -66,7 +62,7 @@ fault-good n count i bits e rest t = (
 parts-valid : (bits : List ℕ) (j : Job) → Parts bits j → Valid j
 parts-valid bits j p =
     let gates-few : j .«gate_count» ≤ maxGates = leb-true (j .«gate_count») maxGates (p .gates-ok) in
-    let faults-few : j .«fault_count» ≤ maxFaults = let h = p .fault-count-fits in let l = fault-counts-fit in omega arith in
+    let faults-few : j .«fault_count» ≤ maxFaults = let h = p .fault-count-fits in let l = counts-of-faults in omega arith in
     let fault =
     entry-left (λ _. FaultTaken (j .inputs) (lines j)) (λ i x. (faultLineOk (j .inputs) (lines j) (x .fault) ≡ true) × (faultOrderOk (x .fault) ≡ true))
     (fault-good (j .inputs) (lines j)) (j .«fault_count») noFaults (p .before-faults) (j .faults) (p .spare-bits) (p .faults)

@@ -1,4 +1,5 @@
 pub mod Widths
+pub mod Sizes
 pub mod Longest
 pub mod Placed
 pub mod Decimals

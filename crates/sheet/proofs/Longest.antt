@@ -1,25 +1,26 @@
 -- No text of the report is longer than the longest (specs/Sheet.antt).
 --
 --   Small, sheet-width   a sheet of a small job fits in maxText bytes
---   Limits, job-limits   a valid job's counts, in numbers
+--   line-short           a line of counts, or of a pair, fits
+--   size-small           a job's indices have three digits
 --   job-small            a valid job is small: its signature, and its coefficients in the work
 --   decided-width        the text fits where nothing is refused: a sheet or a pair
 --   text-bounded         every text fits in maxText bytes
 use Prim.Native.Nat.{ℕ, _+_, _*_, _^_, _≤_, _<_}
-use native.Mathlib.Nat.{le-refl, mul-le-mul-right}
+use native.Mathlib.Nat.{le-refl, le-trans, lt-of-le-of-lt, add-le-add, mul-le-mul-right}
 use native.Mathlib.Omega.{arith}
 use mathlib.Core.Path.{_≡_, refl, sym, subst, _∙_}
 use mathlib.Core.Bool.{Bool, true, false, _&&_}
 use mathlib.Core.List.{List, _++_, List·Memᴰ, Memᴰ·of-map}
 use borrow.Author.Tests.{ltb-true}
-use lib.Dec.{leb, lit≤}
+use lib.Dec.{leb}
 use lib.ListN.{length, getD, drop, length-append, length-map, List·getD-append}
 use lib.Pow.{pow-mono}
 use lib.Seq.{take-at}
 use Rattle.bits.specs.Answer.{Answer, Fills, unless, onward}
 use Rattle.bits.specs.Answer.Answer.{gives, refused}
 use Rattle.job.specs.Check.{Valid}
-use Rattle.job.specs.Layout.{maxInputs, maxGates, maxFaults}
+use Rattle.job.specs.Layout.{maxFaults}
 use Rattle.job.specs.declared.Job.{Job}
 use Rattle.reading.specs.Reading.{reading}
 use Rattle.reading.proofs.Refusals.{reading-refused}
@@ -42,25 +43,26 @@ use Rattle.choosing.specs.declared.Purpose.the-variants.{Isolating}
 use Rattle.choosing.proofs.Bounded.{signature-short, signature-below}
 use Rattle.locating.specs.Scanning.{numbersAt}
 use Rattle.sheet.specs.Sheet.{circuitLines, countsLine, signatureLine, numbersText, sheet, sheetText, listOf, textOf, reportText, maxText}
+use Rattle.sheet.proofs.Sizes.{inputs-digit, gates-digits, faults-digits, places-digits}
 use Rattle.sheet.proofs.Widths.{numbers-width, counts-width, signature-width, circuits-width, refused-width, alike-width}
 
--- 28 + 262 + 64 × 255
-most-text : 16610 ≤ maxText
+-- a line by itself, of counts or of a pair
+line-short : 28 ≤ maxText
 unfolding maxText
-most-text = lit≤ tt
+line-short = omega arith
 
 -- ---- a sheet
 
 record Small (counts : Counts) (list work : List ℕ) : Type 0 where
   inputs-few : counts .inputs < 10
   gates-few : counts .gates < 100
-  faults-few : counts .faults ≤ 63
-  short : length list ≤ 63
+  faults-few : counts .faults ≤ maxFaults
+  short : length list ≤ maxFaults
   indices : (e : ℕ) → List·Memᴰ e list → e < 1000
   numbers : (c e : ℕ) → c < counts .faults + 1 → List·Memᴰ e list → getD work (c * 2 ^ (counts .inputs) + e) 0 < 1000
 
-row-width : (work : List ℕ) (start : ℕ) (list : List ℕ) → length list ≤ 63 → ((e : ℕ) → List·Memᴰ e list → getD work (start + e) 0 < 1000)
-    → length (numbersText (numbersAt work start list)) ≤ 252
+row-width : (work : List ℕ) (start : ℕ) (list : List ℕ) → length list ≤ maxFaults → ((e : ℕ) → List·Memᴰ e list → getD work (start + e) 0 < 1000)
+    → length (numbersText (numbersAt work start list)) ≤ 4 * maxFaults
 row-width work start list short below =
     let at : ℕ → ℕ = λ e. getD work (start + e) 0 in
     let wide = numbers-width (numbersAt work start list) (λ v m.
@@ -70,36 +72,24 @@ row-width work start list short below =
     omega arith
 
 sheet-width : (counts : Counts) (list work : List ℕ) → Small counts list work → length (sheet counts list work) ≤ maxText
+unfolding maxText
 sheet-width counts list work s =
     let rows : ℕ → List ℕ = λ c. numbersAt work (c * 2 ^ (counts .inputs)) list in
-    let first = counts-width counts (s .inputs-few) (s .gates-few) (omega (arith, s .faults-few)) in
+    let first = counts-width counts (s .inputs-few) (s .gates-few) (omega (arith, s .faults-few, faults-digits)) in
     let second = signature-width list (s .indices) in
-    let rest : length (circuitLines rows (counts .faults + 1)) ≤ (counts .faults + 1) * 255 =
-    circuits-width rows 252 (counts .faults + 1) (omega (arith, s .faults-few))
+    let rest = circuits-width rows (4 * maxFaults) (counts .faults + 1) (omega (arith, s .faults-few, faults-digits))
     (λ c h. row-width work (c * 2 ^ (counts .inputs)) list (s .short) (λ e m. s .numbers c e h m)) in
-    let many : (counts .faults + 1) * 255 ≤ 64 * 255 = mul-le-mul-right {n = 64} 255 (omega (arith, s .faults-few)) in
+    let many : (counts .faults + 1) * (3 + 4 * maxFaults) ≤ (maxFaults + 1) * (3 + 4 * maxFaults) =
+    mul-le-mul-right {n = maxFaults + 1} (3 + 4 * maxFaults) (omega (arith, s .faults-few)) in
     let whole = length-append (countsLine counts ++ signatureLine list) (circuitLines rows (counts .faults + 1)) in
     let front = length-append (countsLine counts) (signatureLine list) in
-    let most = most-text in
-    omega (arith, s .short)
+    let fore : length (countsLine counts ++ signatureLine list) ≤ 28 + (10 + 4 * maxFaults) = omega (arith, s .short) in
+    rw whole (add-le-add fore (le-trans rest many))
 
 -- ---- a job
 
-record Limits (j : Job) : Type 0 where
-  inputs-few : j .inputs < 10
-  gates-few : j .«gate_count» < 100
-  faults-few : j .«fault_count» ≤ 63
-  size-small : 2 ^ (j .inputs) ≤ 256
-
-job-limits : (j : Job) → Valid j → Limits j
-unfolding maxInputs maxGates maxFaults
-job-limits j v =
-    record {
-      inputs-few = omega (arith, v .few);
-      gates-few = omega (arith, v .gates-few);
-      faults-few = v .faults-few;
-      size-small = pow-mono {j = 8} (v .few);
-    }
+size-small : (j : Job) → Valid j → 2 ^ (j .inputs) < 1000
+size-small j v = lt-of-le-of-lt (pow-mono (v .few)) places-digits
 
 module _ (j : Job) (v : Valid j) (below : 0 < 2 ^ (j .inputs)) where
   abbrev signed : List ℕ
@@ -120,13 +110,12 @@ module _ (j : Job) (v : Valid j) (below : 0 < 2 ^ (j .inputs)) where
 
   job-small : (rest : List ℕ) → Small (countsOf j) signed (filled ++ rest)
   job-small rest =
-      let limits = job-limits j v in
-      let few = signature-short Isolating Mrm 0 j in
+      let size = size-small j v in
       record {
-        inputs-few = limits .inputs-few;
-        gates-few = limits .gates-few;
-        faults-few = limits .faults-few;
-        short = omega arith;
+        inputs-few = lt-of-le-of-lt (v .few) inputs-digit;
+        gates-few = lt-of-le-of-lt (v .gates-few) gates-digits;
+        faults-few = v .faults-few;
+        short = le-trans (signature-short Isolating Mrm 0 j) (v .faults-few);
         indices = λ e m. omega (arith, signature-below Isolating Mrm 0 j e m);
         numbers = λ c e h m. omega (arith, number-small rest c e h (signature-below Isolating Mrm 0 j e m));
       }
@@ -137,10 +126,9 @@ module _ (j : Job) (v : Valid j) (below : 0 < 2 ^ (j .inputs)) where
       let taken : listOf (signatureOf signed) ≡ signed = take-at signed _ (length signed) refl in
       rw taken (sheet-width (countsOf j) signed (filled ++ rest) (job-small rest))
   decided-width rest (pair a b) e =
-      let limits = job-limits j v in
       let found = firstPair-pair (j .«fault_count» + 1) (λ a b. needed Isolating a b && sameTables j a b) a b e in
-      let wide = alike-width a b (omega (arith, found .0, found .1)) (omega (arith, found .1)) in
-      let most = most-text in
+      let wide = alike-width a b (omega (arith, found .0, found .1, v .faults-few, faults-digits)) (omega (arith, found .1, v .faults-few, faults-digits)) in
+      let most = line-short in
       omega arith
 
 -- ---- an answer
@@ -155,7 +143,7 @@ by-unless P true k r not-held go = go refl
 by-unless P false k r not-held go = not-held
 
 refused-fits : (i : ℕ) → i ≤ 18 → (work : List ℕ) → length (textOf (chose (refused i) work)) ≤ maxText
-refused-fits i h work = let wide = refused-width i (omega arith) in let most = most-text in omega arith
+refused-fits i h work = let wide = refused-width i (omega arith) in let most = line-short in omega arith
 
 pub text-bounded : (s work : List ℕ) → length (reportText s work) ≤ maxText
 unfolding chosenOf

@@ -6,7 +6,7 @@
 --   reported-written, reported-short   what is written, with room and without
 use Prim.Native.Nat.{ℕ, _+_, _*_, _^_, _≤_, _<_}
 use native.Mathlib.Omega.{arith}
-use native.Mathlib.Nat.{zero-add}
+use native.Mathlib.Nat.{zero-add, le-trans}
 use mathlib.Core.Path.{_≡_, refl, sym, ap, subst, _∙_}
 use mathlib.Core.List.{List, _++_}
 use borrow.Author.Tests.{le-leb, lt-leb}
@@ -16,7 +16,7 @@ use lib.Seq.{take-at}
 use Rattle.bits.specs.Answer.{Answer}
 use Rattle.bits.specs.Answer.Answer.{gives, refused}
 use Rattle.job.specs.Check.{Valid}
-use Rattle.job.specs.Layout.{maxInputs, maxFaults}
+use Rattle.job.proofs.Sizes.{most-inputs}
 use Rattle.job.specs.declared.Job.{Job}
 use Rattle.reading.specs.Reading.{reading}
 use Rattle.reading.proofs.Valid.{reading-valid}
@@ -28,7 +28,7 @@ use Rattle.spectra.proofs.WorkPlaces.{length-circuitSpectra}
 use Rattle.method.specs.Method.{Pair}
 use Rattle.method.specs.Method.Pair.{nobody, pair}
 use Rattle.method.proofs.Pairs.{by-test}
-use Rattle.picking.specs.Matrix.{maxEntries, signatureOf}
+use Rattle.picking.specs.Matrix.{signatureOf}
 use Rattle.picking.specs.declared.Signature.{Signature}
 use Rattle.picking.proofs.Within.{members-below, entry-below}
 use Rattle.choosing.specs.Choosing.{Finding, Chose, signatureIn, alikePair, choiceBy, chosenOf, verdictTold}
@@ -37,6 +37,7 @@ use Rattle.choosing.specs.declared.Purpose.the-variants.{Isolating}
 use Rattle.choosing.specs.declared.Verdict.{Verdict}
 use Rattle.choosing.specs.declared.Verdict.the-variants.{Done, Alike, Refused}
 use Rattle.choosing.proofs.Bounded.{signature-short, signature-below}
+use Rattle.choosing.proofs.Sizes.{faults-entries}
 use Rattle.sheet.specs.Putting.{Puts, Room, Sheeted, Printable}
 use Rattle.sheet.specs.Sheet.{listOf, textOf, isolated, maxText, reported}
 use Rattle.sheet.specs.declared.Reported.the-variants.{Written, Short}
@@ -52,15 +53,6 @@ abbrev PrintsAll : Chose → Type 0
 PrintsAll c = Prints (c .answer) (c .signature) (length (c .memory))
 
 -- ---- a job
-
--- the sizes: 8 ≤ 15, 63 < 64, 63 entries
-few-inputs : (n : ℕ) → n ≤ maxInputs → n ≤ 15
-unfolding maxInputs
-few-inputs n h = omega arith
-
-few-faults : (f : ℕ) → f ≤ maxFaults → (f < 64) × (f ≤ maxEntries)
-unfolding maxFaults maxEntries
-few-faults f h = (omega arith, h)
 
 module _ (j : Job) (v : Valid j) (rest : List ℕ) where
   abbrev signed : List ℕ
@@ -82,11 +74,10 @@ module _ (j : Job) (v : Valid j) (rest : List ℕ) where
   job-prints : (p : Pair) → Prints (gives (choiceBy p (countsOf j) signed .finding)) (signatureOf (choiceBy p (countsOf j) signed .entries)) (length (filled ++ rest))
   job-prints nobody =
       let short = signature-short Isolating Mrm 0 j in
-      let few = few-faults (j .«fault_count») (v .faults-few) in
       let taken : listOf (signatureOf signed) ≡ signed = take-at signed _ (length signed) refl in (
-        few-inputs (j .inputs) (v .few),
-        few .0,
-        omega (arith, few .1),
+        le-trans (v .few) most-inputs,
+        v .faults-few,
+        le-trans short (le-trans (v .faults-few) faults-entries),
         subst (λ (l : List ℕ). Sheeted (2 ^ (j .inputs)) (j .«fault_count» + 1) l (length (filled ++ rest))) (sym taken) signed-sheeted,
       )
   job-prints (pair a b) = tt

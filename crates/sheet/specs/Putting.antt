@@ -9,6 +9,7 @@ use Prim.Native.Nat.{ℕ, _+_, _*_, _^_, _≤_, _<_}
 use mathlib.Core.Path.{_≡_}
 use mathlib.Core.List.{List}
 use lib.ListN.{length, getD}
+use Rattle.job.specs.Layout.{maxFaults}
 use Rattle.gates.specs.Rows.{splice}
 use Rattle.picking.specs.Matrix.{maxEntries}
 use Rattle.picking.specs.declared.Signature.{Signature}
@@ -33,6 +34,6 @@ pub record Sheeted (size circuits : ℕ) (list : List ℕ) (room : ℕ) : Type 0
 
 -- a sheet can be printed from the work: of a refusal or a pair there is nothing to know
 abbrev pub Printable : Verdict → Signature → ℕ → Type 0
-Printable (Done counts) signature room = (counts .inputs ≤ 15) × (counts .faults < 64) × (signature .count ≤ maxEntries) × Sheeted (2 ^ (counts .inputs)) (counts .faults + 1) (listOf signature) room
+Printable (Done counts) signature room = (counts .inputs ≤ 15) × (counts .faults ≤ maxFaults) × (signature .count ≤ maxEntries) × Sheeted (2 ^ (counts .inputs)) (counts .faults + 1) (listOf signature) room
 Printable (Alike a b) signature room = Unit {0}
 Printable (Refused e) signature room = Unit {0}

@@ -13,6 +13,7 @@ use mathlib.Core.Bool.{cond}
 use mathlib.Core.List.{List, [], _∷_, _++_}
 use lib.Dec.{leb, ltb}
 use lib.ListN.{length, take}
+use Rattle.job.specs.Layout.{maxFaults}
 use Rattle.bits.specs.Answer.{Answer}
 use Rattle.bits.specs.Answer.Answer.{gives, refused}
 use Rattle.gates.specs.Rows.{splice}
@@ -112,9 +113,10 @@ textOf c = sheetText (c .answer) (listOf (c .signature)) (c .memory)
 abbrev pub reportText : List ℕ → List ℕ → List ℕ
 reportText s work = textOf (isolated s work)
 
--- 28 characters of counts, 262 of a signature of 63 indices, 64 lines of 255 characters
+-- 28 characters of counts; 10 of a signature's line and 4 for each entry, which are no more than faults; a line for each circuit, of 3 and again 4 for each
+-- entry
 unfoldable pub maxText : ℕ
-maxText = 16610
+maxText = 28 + (10 + 4 * maxFaults) + (maxFaults + 1) * (3 + 4 * maxFaults)
 
 pub record Report : Type 0 where
   pub answer : Reported

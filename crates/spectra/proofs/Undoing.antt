@@ -6,8 +6,7 @@
 --   comparing-more         one number more
 --   comparing-all          all numbers: the lists are the same
 --   same-lengths           lists that are not of one length are not the same
---   most-inputs            a table of the most inputs can be transformed
---   most-entries           its entries fit a usize, with room for spare bits
+--   few-entries            the entries of a table fit a usize, with room for spare bits
 --   packs-numbers          a lent table has room for the parities of the numbers
 --   transforms-parities    and these can be transformed in lent memory
 --   packs-sums             the table has room for the parities of the sums
@@ -19,7 +18,7 @@
 --   undo-low, undo-high, undo-polarity, undo-count, undo-none, undo-memory, undo-done   undoing's ways out: 2 twice, 13, 14 twice, 10, success
 use Prim.Native.Nat.{ℕ, suc, _+_, _*_, _/_, _%_, _^_, _≤_, _<_}
 use native.Mathlib.Omega.{arith}
-use native.Mathlib.Nat.{lt-of-le-of-lt}
+use native.Mathlib.Nat.{le-trans, lt-of-le-of-lt}
 use native.Mathlib.Numerals.{add-one}
 use mathlib.Core.Path.{_≡_, refl, sym, ap, _∙_}
 use mathlib.Core.Bool.{Bool, true, false, _&&_}
@@ -36,6 +35,7 @@ use Rattle.bits.specs.Packed.{packed, entry}
 use Rattle.bits.proofs.Packed.{entry-packed, packed-ext, length-packed}
 use Rattle.bits.proofs.Tests.{and-i}
 use Rattle.job.specs.Check.{inputsOk}
+use Rattle.job.proofs.Sizes.{most-inputs}
 use Rattle.job.specs.Layout.{maxInputs}
 use Rattle.gates.specs.Form.{tableBytes}
 use Rattle.gates.specs.Rows.{splice}
@@ -96,16 +96,8 @@ module _ {a b : List ℕ} where
 
 -- ---- recovering
 
-most-inputs : maxInputs ≤ 15
-unfolding maxInputs
-most-inputs = omega arith
-
-most-entries : 2 ^ maxInputs < 2 ^ 63
-unfolding maxInputs
-most-entries = lit< tt
-
 few-entries : (n : ℕ) → n ≤ maxInputs → 2 ^ n < 2 ^ 63
-few-entries n h = lt-of-le-of-lt (pow-mono h) most-entries
+few-entries n h = lt-of-le-of-lt (pow-mono {j = 15} (le-trans h most-inputs)) (lit< tt)
 
 -- what the spectrum of one row asks for
 abbrev Transforms : ℕ → ℕ → List ℕ → List ℕ → Type 0

@@ -1,6 +1,5 @@
 -- What a valid record says of the widths of its fields (job's specs/Check.antt).
 --
---   all-lines, all-inputs, all-gates, all-faults   the widths are wide enough: the only facts that take the constants' values
 --   line-fits                             a line fits its field
 --   inputs-fit, gates-fit, faults-fit     the counts fit theirs
 --   gate-fits, fault-fits                 a gate's and a fault's kind and lines fit theirs
@@ -10,32 +9,17 @@ use mathlib.Core.Path.{_≡_}
 use mathlib.Core.Bool.{true}
 use native.Mathlib.Omega.{arith}
 use borrow.Author.Tests.{ltb-true}
-use lib.Dec.{ltb, lit<, lit≤}
+use lib.Dec.{ltb}
 use Rattle.bits.proofs.Tests.{and-l, and-r}
 use Rattle.job.specs.Check.{faultLineOk, Valid}
-use Rattle.job.specs.Layout.{maxInputs, maxGates, maxFaults, inputCountBits, gateCountBits, gateKindBits, lineBits, faultCountBits, faultKindBits}
+use Rattle.job.specs.Layout.{inputCountBits, gateCountBits, gateKindBits, lineBits, faultCountBits, faultKindBits}
 use Rattle.job.specs.Record.{gateKind, gateA, gateB, gateAt, faultKind, faultA, faultB, faultAt, lines}
 use Rattle.job.specs.declared.Fault.{Fault}
 use Rattle.job.specs.declared.Fault.the-variants.{Stuck, Bridge}
 use Rattle.job.specs.declared.Job.{Job}
 use Rattle.job.proofs.Numbers.{gateKind-lt, faultKind-lt}
+use Rattle.job.proofs.Sizes.{all-lines, all-inputs, all-gates, all-faults}
 use Rattle.writing.specs.Pen.{EntryFits}
-
-pub all-lines : maxInputs + maxGates ≤ 2 ^ lineBits
-unfolding maxInputs maxGates lineBits
-all-lines = lit≤ tt
-
-pub all-inputs : maxInputs < 2 ^ inputCountBits
-unfolding maxInputs inputCountBits
-all-inputs = lit< tt
-
-pub all-gates : maxGates < 2 ^ gateCountBits
-unfolding maxGates gateCountBits
-all-gates = lit< tt
-
-pub all-faults : maxFaults < 2 ^ faultCountBits
-unfolding maxFaults faultCountBits
-all-faults = lit< tt
 
 fault-lines : (n count : ℕ) (x : Fault) → n ≤ count → faultLineOk n count x ≡ true → (faultA x < count) × (faultB x < count)
 fault-lines n count (Stuck l level) h e = (ltb-true l count e, ltb-true l count e)

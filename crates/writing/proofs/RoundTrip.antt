@@ -38,6 +38,7 @@ use Rattle.job.specs.declared.Fault.the-variants.{Stuck, Bridge}
 use Rattle.job.specs.declared.FaultEntry.{FaultEntry}
 use Rattle.job.specs.declared.GateEntry.{GateEntry}
 use Rattle.job.specs.declared.Job.{Job}
+use Rattle.job.proofs.Sizes.{all-lines, all-inputs, all-gates, all-faults}
 use Rattle.job.proofs.Unused.{length-noGates, length-noFaults}
 use Rattle.job.proofs.Check.{valid}
 use Rattle.job.proofs.Numbers.{gateKind-of, gateA-of, gateB-of, faultKind-of, faultA-of, faultB-of, gateOf-parts, faultOf-parts, gateKind-lt, faultKind-lt}
@@ -45,7 +46,6 @@ use Rattle.reading.specs.Reading.{entryFields, unaryLinesOk, gate, faultLinesOk
 use Rattle.reading.specs.Reading.{fromEnd, fromFaults, fromFaultCount, fromOutput, fromGates, wholeJob, valueRead, reading}
 use Rattle.reading.proofs.Parts.{GateTaken, FaultTaken, Chain, EntriesTaken, sets-taken, Parts, reading-parts}
 use Rattle.reading.proofs.Valid.{reading-checked, reading-lengths, reading-valid}
-use Rattle.writing.proofs.Fitting.{all-lines, all-inputs, all-gates, all-faults}
 use Rattle.writing.specs.Writing.{entryBits, gateBits, faultBits, allBits, jobBits, written}
 
 -- ---- the string of a job

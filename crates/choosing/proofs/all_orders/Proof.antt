@@ -5,8 +5,10 @@ use Prim.Native.Nat.{_-_}
 use mathlib.Core.Path.{refl}
 use lib.Count.{ones}
 use borrow.Author.Count.{falls}
-use Rattle.choosing.proofs.Arrays.{order-fits, places-held}
-use Rattle.picking.proofs.Columns.{Filling, filling-start, filling-next}
+use Rattle.job.specs.Layout.{maxInputs}
+use Rattle.picking.proofs.Columns.{Filling, filling-start, filling-next, filling-all}
+use Rattle.choosing.specs.Looking.{maxPlaces}
+use Rattle.choosing.proofs.Arrays.{order-fits}
 use Rattle.choosing.proofs.all_orders.Statement.{statement}
 use Rattle.choosing.proofs.all_orders.Tie as tie
 
@@ -38,7 +40,8 @@ loop-again : tie.Need-loop-again Inv-loop μ-loop
 loop-again c = filling-next (c .before .loop .inv) (le-refl 256) (c .loop-test .taken) refl
 
 returns : tie.Need-returns Inv-loop μ-loop
-returns c = places-held (c .before .loop .inv) (c .loop-test .left)
+unfolding maxPlaces maxInputs
+returns c = filling-all (c .before .loop .inv) (c .loop-test .left)
 
 pub all-orders-spec : {M : Type 1} → statement M
 all-orders-spec =

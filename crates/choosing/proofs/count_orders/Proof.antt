@@ -4,7 +4,9 @@ use native.Mathlib.Omega.{arith}
 use Prim.Native.Nat.{_-_, _≤_}
 use mathlib.Core.Path.{refl}
 use borrow.Author.Count.{falls}
-use Rattle.choosing.proofs.Ordered.{order-few, index-fits, Raised, raised-next, counts-none, counts-few, counts-all}
+use Rattle.job.specs.Layout.{maxInputs}
+use Rattle.choosing.specs.Looking.{maxPlaces, maxOrders}
+use Rattle.choosing.proofs.Ordered.{order-within, index-fits, Raised, raised-next, counts-none, counts-few, counts-all}
 use Rattle.choosing.proofs.count_orders.Statement.{statement}
 use Rattle.choosing.proofs.count_orders.Tie as tie
 
@@ -15,6 +17,7 @@ abbrev μ-loop : tie.MeasureT-loop
 μ-loop orders size of₀ e₀ of e = size - e
 
 loop-holds : tie.Need-loop-holds Inv-loop μ-loop
+unfolding maxOrders maxInputs
 loop-holds c = (omega arith, counts-none)
 
 shared-slice-read-order : tie.Need-shared-slice-read-order Inv-loop μ-loop
@@ -24,19 +27,24 @@ cast-order : tie.Need-cast-order Inv-loop μ-loop
 cast-order c = omega (arith, c .shared-slice-known .given (c .before .before .loop .e))
 
 mul-of : tie.Need-mul-of Inv-loop μ-loop
-mul-of c = let p = c .before .before .before .pre in let h = lt-of-lt-of-le (c .before .loop-test .taken) (p .0) in omega (arith, order-few h (p .2 (c .before .before .loop .e) h))
+unfolding maxOrders maxInputs
+mul-of c = let p = c .before .before .before .pre in let h = lt-of-lt-of-le (c .before .loop-test .taken) (p .0) in omega (arith, order-within h (p .2 (c .before .before .loop .e) h))
 
 array-read-of : tie.Need-array-read-of Inv-loop μ-loop
-array-read-of c = let p = c .before .before .before .pre in let h = lt-of-lt-of-le (c .before .loop-test .taken) (p .0) in order-few h (p .2 (c .before .before .loop .e) h)
+unfolding maxOrders maxInputs
+array-read-of c = let p = c .before .before .before .pre in let h = lt-of-lt-of-le (c .before .loop-test .taken) (p .0) in order-within h (p .2 (c .before .before .loop .e) h)
 
 add-of : tie.Need-add-of Inv-loop μ-loop
+unfolding maxPlaces maxInputs
 add-of c = let p = c .before .before .before .pre in let h = lt-of-lt-of-le (c .before .loop-test .taken) (p .0) in omega (arith, counts-few (c .before .before .loop .inv .1) h (p .2 (c .before .before .loop .e) h))
 
 mul-of-2 : tie.Need-mul-of-2 Inv-loop μ-loop
-mul-of-2 c = let p = c .before .before .before .pre in let h = lt-of-lt-of-le (c .before .loop-test .taken) (p .0) in omega (arith, order-few h (p .2 (c .before .before .loop .e) h))
+unfolding maxOrders maxInputs
+mul-of-2 c = let p = c .before .before .before .pre in let h = lt-of-lt-of-le (c .before .loop-test .taken) (p .0) in omega (arith, order-within h (p .2 (c .before .before .loop .e) h))
 
 array-write-of : tie.Need-array-write-of Inv-loop μ-loop
-array-write-of c = let p = c .before .before .before .pre in let h = lt-of-lt-of-le (c .before .loop-test .taken) (p .0) in order-few h (p .2 (c .before .before .loop .e) h)
+unfolding maxOrders maxInputs
+array-write-of c = let p = c .before .before .before .pre in let h = lt-of-lt-of-le (c .before .loop-test .taken) (p .0) in order-within h (p .2 (c .before .before .loop .e) h)
 
 add-e : tie.Need-add-e Inv-loop μ-loop
 add-e c = let p = c .before .before .before .pre in let h = lt-of-lt-of-le (c .before .loop-test .taken) (p .0) in omega (arith, index-fits (c .before .before .loop .e) h)

@@ -3,7 +3,9 @@ use native.Mathlib.Omega.{arith}
 use Prim.Native.Nat.{_-_}
 use mathlib.Core.Path.{refl}
 use borrow.Author.Count.{falls}
-use Rattle.choosing.proofs.Ordered.{orders-within, Starting, starting-none, starting-fits, starting-next, starting-all}
+use Rattle.job.specs.Layout.{maxInputs}
+use Rattle.choosing.specs.Looking.{maxPlaces, maxOrders}
+use Rattle.choosing.proofs.Ordered.{Starting, starting-none, starting-fits, starting-next, starting-all}
 use Rattle.choosing.proofs.first_places.Statement.{statement}
 use Rattle.choosing.proofs.first_places.Tie as tie
 
@@ -17,6 +19,7 @@ count-orders-requires : tie.Need-count-orders-requires Inv-loop μ-loop
 count-orders-requires c κs = c .before .pre
 
 loop-holds : tie.Need-loop-holds Inv-loop μ-loop
+unfolding maxOrders maxInputs
 loop-holds c = starting-none (c .before .before .args .size) _ refl
 
 mul-of : tie.Need-mul-of Inv-loop μ-loop
@@ -32,7 +35,8 @@ element-copy-out-place : tie.Need-element-copy-out-place Inv-loop μ-loop
 element-copy-out-place c = c .loop-test .taken
 
 add-place : tie.Need-add-place Inv-loop μ-loop
-add-place c = omega (arith, starting-fits (c .before .before .loop .inv) (c .before .before .before .count-orders .ensures (c .before .before .loop .order) (orders-within (c .before .loop-test .taken))) (c .before .before .before .before .before .pre .0))
+unfolding maxPlaces maxOrders maxInputs
+add-place c = omega (arith, starting-fits (c .before .before .loop .inv) (c .before .before .before .count-orders .ensures (c .before .before .loop .order) (c .before .loop-test .taken)) (c .before .before .before .before .before .pre .0))
 
 add-order : tie.Need-add-order Inv-loop μ-loop
 add-order c = omega (arith, c .before .loop-test .taken)
@@ -41,9 +45,11 @@ loop-less : tie.Need-loop-less Inv-loop μ-loop
 loop-less c = falls _ _ (c .before .loop-test .taken)
 
 loop-again : tie.Need-loop-again Inv-loop μ-loop
-loop-again c = starting-next (c .before .before .loop .inv) (c .before .before .before .count-orders .ensures (c .before .before .loop .order) (orders-within (c .before .loop-test .taken))) (c .before .loop-test .taken)
+unfolding maxOrders maxInputs
+loop-again c = starting-next (c .before .before .loop .inv) (c .before .before .before .count-orders .ensures (c .before .before .loop .order) (c .before .loop-test .taken)) (c .before .loop-test .taken)
 
 returns : tie.Need-returns Inv-loop μ-loop
+unfolding maxOrders maxInputs
 returns c = starting-all (c .before .loop .inv) (c .loop-test .left)
 
 pub first-places-spec : {M : Type 1} → statement M

@@ -5,8 +5,8 @@ use Prim.Native.Nat.{_-_}
 use mathlib.Core.Path.{refl}
 use borrow.Author.Count.{falls}
 use Rattle.choosing.specs.Choosing.{mark}
-use Rattle.choosing.proofs.Arrays.{rows-within, rows-held}
-use Rattle.picking.proofs.Columns.{Filling, filling-start, filling-next}
+use Rattle.picking.proofs.Columns.{Filling, filling-start, filling-next, filling-all}
+use Rattle.picking.specs.Matrix.{maxRows}
 use Rattle.choosing.proofs.marks_of.Statement.{statement}
 use Rattle.choosing.proofs.marks_of.Tie as tie
 
@@ -20,7 +20,8 @@ loop-holds : tie.Need-loop-holds Inv-loop μ-loop
 loop-holds c = filling-start 64 (mark (c .args .purpose)) _ refl
 
 mark-of-requires : tie.Need-mark-of-requires Inv-loop μ-loop
-mark-of-requires c κs = rows-within (c .loop-test .taken)
+unfolding maxRows
+mark-of-requires c κs = c .loop-test .taken
 
 array-write-of : tie.Need-array-write-of Inv-loop μ-loop
 array-write-of c = c .before .loop-test .taken
@@ -35,7 +36,8 @@ loop-again : tie.Need-loop-again Inv-loop μ-loop
 loop-again c = filling-next (c .before .before .loop .inv) (le-refl 64) (c .before .loop-test .taken) (c .mark-of .ensures)
 
 returns : tie.Need-returns Inv-loop μ-loop
-returns c = rows-held (c .before .loop .inv) (c .loop-test .left)
+unfolding maxRows
+returns c = filling-all (c .before .loop .inv) (c .loop-test .left)
 
 pub marks-of-spec : {M : Type 1} → statement M
 marks-of-spec =

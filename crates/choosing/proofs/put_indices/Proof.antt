@@ -5,7 +5,9 @@ use Prim.Native.Nat.{_-_}
 use mathlib.Core.Path.{refl}
 use borrow.Author.Count.{falls}
 use borrow.Author.Needs.{length-unmapped}
-use Rattle.choosing.proofs.Ordered.{order-few, index-fits, Placing, placing-none, placing-inside, placing-next, placing-all}
+use Rattle.job.specs.Layout.{maxInputs}
+use Rattle.choosing.specs.Looking.{maxPlaces, maxOrders}
+use Rattle.choosing.proofs.Ordered.{order-within, index-fits, Placing, placing-none, placing-inside, placing-next, placing-all}
 use Rattle.choosing.proofs.put_indices.Statement.{statement}
 use Rattle.choosing.proofs.put_indices.Tie as tie
 
@@ -16,6 +18,7 @@ abbrev μ-loop : tie.MeasureT-loop
 μ-loop orders size next₀ of₀ e₀ next of e = size - e
 
 loop-holds : tie.Need-loop-holds Inv-loop μ-loop
+unfolding maxPlaces maxOrders maxInputs
 loop-holds c = placing-none (c .before .args .size) _ _ (length-unmapped _ (c .before .args .firsts .of) _ (c .before .good .1 .0 .1 .1 .0 .1 .0 .1)) refl (c .before .pre .3)
 
 shared-slice-read-order : tie.Need-shared-slice-read-order Inv-loop μ-loop
@@ -25,28 +28,35 @@ cast-order : tie.Need-cast-order Inv-loop μ-loop
 cast-order c = omega (arith, c .shared-slice-known .given (c .before .before .loop .e))
 
 mul-place : tie.Need-mul-place Inv-loop μ-loop
-mul-place c = let p = c .before .before .before .before .pre in let h = lt-of-lt-of-le (c .before .loop-test .taken) (p .0) in omega (arith, order-few h (p .2 (c .before .before .loop .e) h))
+unfolding maxOrders maxInputs
+mul-place c = let p = c .before .before .before .before .pre in let h = lt-of-lt-of-le (c .before .loop-test .taken) (p .0) in omega (arith, order-within h (p .2 (c .before .before .loop .e) h))
 
 array-read-place : tie.Need-array-read-place Inv-loop μ-loop
-array-read-place c = let p = c .before .before .before .before .pre in let h = lt-of-lt-of-le (c .before .loop-test .taken) (p .0) in order-few h (p .2 (c .before .before .loop .e) h)
+unfolding maxOrders maxInputs
+array-read-place c = let p = c .before .before .before .before .pre in let h = lt-of-lt-of-le (c .before .loop-test .taken) (p .0) in order-within h (p .2 (c .before .before .loop .e) h)
 
 cast-of : tie.Need-cast-of Inv-loop μ-loop
 cast-of c = let p = c .before .before .before .before .pre in let h = lt-of-lt-of-le (c .before .loop-test .taken) (p .0) in index-fits (c .before .before .loop .e) h
 
 mul-of : tie.Need-mul-of Inv-loop μ-loop
+unfolding maxPlaces maxInputs
 mul-of c = let p = c .before .before .before .before .pre in let h = lt-of-lt-of-le (c .before .loop-test .taken) (p .0) in omega (arith, placing-inside (c .before .before .loop .inv) (p .0) (c .before .loop-test .taken) (p .2 (c .before .before .loop .e) h))
 
 array-write-of : tie.Need-array-write-of Inv-loop μ-loop
+unfolding maxPlaces maxInputs
 array-write-of c = let p = c .before .before .before .before .pre in let h = lt-of-lt-of-le (c .before .loop-test .taken) (p .0) in placing-inside (c .before .before .loop .inv) (p .0) (c .before .loop-test .taken) (p .2 (c .before .before .loop .e) h)
 
 add-next : tie.Need-add-next Inv-loop μ-loop
+unfolding maxPlaces maxInputs
 add-next c = let p = c .before .before .before .before .pre in let h = lt-of-lt-of-le (c .before .loop-test .taken) (p .0) in omega (arith, placing-inside (c .before .before .loop .inv) (p .0) (c .before .loop-test .taken) (p .2 (c .before .before .loop .e) h))
 
 mul-next : tie.Need-mul-next Inv-loop μ-loop
-mul-next c = let p = c .before .before .before .before .pre in let h = lt-of-lt-of-le (c .before .loop-test .taken) (p .0) in omega (arith, order-few h (p .2 (c .before .before .loop .e) h))
+unfolding maxOrders maxInputs
+mul-next c = let p = c .before .before .before .before .pre in let h = lt-of-lt-of-le (c .before .loop-test .taken) (p .0) in omega (arith, order-within h (p .2 (c .before .before .loop .e) h))
 
 array-write-next : tie.Need-array-write-next Inv-loop μ-loop
-array-write-next c = let p = c .before .before .before .before .pre in let h = lt-of-lt-of-le (c .before .loop-test .taken) (p .0) in order-few h (p .2 (c .before .before .loop .e) h)
+unfolding maxOrders maxInputs
+array-write-next c = let p = c .before .before .before .before .pre in let h = lt-of-lt-of-le (c .before .loop-test .taken) (p .0) in order-within h (p .2 (c .before .before .loop .e) h)
 
 add-e : tie.Need-add-e Inv-loop μ-loop
 add-e c = let p = c .before .before .before .before .pre in let h = lt-of-lt-of-le (c .before .loop-test .taken) (p .0) in omega (arith, index-fits (c .before .before .loop .e) h)

@@ -2,7 +2,8 @@
 use native.Mathlib.Omega.{arith}
 use borrow.Author.Needs.{length-unmapped}
 use Rattle.job.specs.Layout.{maxInputs}
-use Rattle.choosing.proofs.Ordered.{most-places, shifted-few, placed-listed}
+use Rattle.choosing.specs.Looking.{maxPlaces}
+use Rattle.choosing.proofs.Ordered.{shifted-few, placed-listed}
 use Rattle.choosing.proofs.scan_order.Statement.{statement}
 use Rattle.choosing.proofs.scan_order.Tie as tie
 
@@ -14,12 +15,15 @@ all-orders-requires : tie.Need-all-orders-requires
 all-orders-requires c κs = tt
 
 first-places-requires : tie.Need-first-places-requires
-first-places-requires c κs = (shifted-few (c .before .before .before .before .pre), most-places (c .first-places-arg2 .given .0), c .before .before .before .all-orders .ensures)
+unfolding maxPlaces maxInputs
+first-places-requires c κs = (shifted-few (c .before .before .before .before .pre), c .first-places-arg2 .given .0, c .before .before .before .all-orders .ensures)
 
 put-indices-requires : tie.Need-put-indices-requires
-put-indices-requires c κs = (shifted-few (c .before .before .before .before .before .before .before .before .pre), most-places (c .before .before .before .before .first-places-arg2 .given .0), c .before .before .before .before .before .before .before .all-orders .ensures, c .before .before .before .first-places .ensures)
+unfolding maxPlaces maxInputs
+put-indices-requires c κs = (shifted-few (c .before .before .before .before .before .before .before .before .pre), c .before .before .before .before .first-places-arg2 .given .0, c .before .before .before .before .before .before .before .all-orders .ensures, c .before .before .before .first-places .ensures)
 
 returns : tie.Need-returns
+unfolding maxPlaces maxInputs
 returns c = placed-listed (c .before .before .before .before .before .before .before .before .before .pre) (length-unmapped _ (c .put-indices .result .of) _ (c .put-indices .ok .1 .1 .1 .0 .1 .0 .1)) (c .put-indices .ensures)
 
 pub scan-order-spec : {M : Type 1} → statement M

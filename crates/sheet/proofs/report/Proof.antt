@@ -1,5 +1,6 @@
 -- `sheet::report` meets its contract.
 use denote.Ref.{now}
+use Rattle.job.specs.Layout.{maxFaults}
 use Rattle.sheet.specs.Sheet.{maxText}
 use Rattle.sheet.proofs.Printing.{verdict-printable, verdict-room, reported-written, reported-short}
 use borrow.Author.Needs.{needs}
@@ -7,14 +8,14 @@ use Rattle.sheet.proofs.report.Statement.{statement}
 use Rattle.sheet.proofs.report.Tie as tie
 
 returns : tie.Need-returns
-unfolding maxText
+unfolding maxText maxFaults
 returns c = reported-short (now (c .before .before .before .before .args .bytes)) (now (c .before .before .before .before .args .work)) (now (c .before .before .before .before .args .out)) (c .if1 .taken)
 
 choose-requires : tie.Need-choose-requires
 choose-requires c κs = search needs
 
 put-verdict-requires : tie.Need-put-verdict-requires
-unfolding maxText
+unfolding maxText maxFaults
 put-verdict-requires c κs = (verdict-printable (now (c .before .before .before .before .before .before .before .before .before .before .args .bytes)) (now (c .before .before .before .before .before .before .before .before .before .before .args .work)) (c .before .before .before .before .choose .result .verdict) (c .before .before .before .before .choose .result .signature) (c .before .before .before .before .choose .last .1 .1 .1 .1 .0) (c .before .before .before .before .choose .ensures), verdict-room (now (c .before .before .before .before .before .before .before .before .before .before .args .bytes)) (now (c .before .before .before .before .before .before .before .before .before .before .args .work)) (c .before .before .before .before .choose .result .verdict) (c .before .before .before .before .choose .result .signature) (c .before .before .before .before .choose .last .1 .1 .1 .1 .0) (c .before .before .before .before .choose .ensures) (now (c .before .before .before .before .before .before .before .before .before .before .args .out)) (c .before .before .before .before .before .before .if1 .left))
 
 same-length : tie.Need-same-length
@@ -24,7 +25,7 @@ same-length-2 : tie.Need-same-length-2
 same-length-2 c = search needs
 
 returns-2 : tie.Need-returns-2
-unfolding maxText
+unfolding maxText maxFaults
 returns-2 c = reported-written (now (c .before .before .before .before .before .before .before .before .before .before .before .before .before .args .bytes)) (now (c .before .before .before .before .before .before .before .before .before .before .before .before .before .args .work)) (c .before .before .before .before .before .before .before .choose .result .verdict) (c .before .before .before .before .before .before .before .choose .result .signature) (c .before .before .before .before .before .before .before .choose .last .1 .1 .1 .1 .0) (c .before .before .before .before .before .before .before .choose .ensures) (now (c .before .before .before .before .before .before .before .before .before .before .before .before .before .args .out)) (c .before .before .before .before .before .before .before .before .before .if1 .left) (c .before .before .put-verdict .ensures)
 
 pub report-spec : {M : Type 1} → statement M
