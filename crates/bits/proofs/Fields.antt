@@ -7,7 +7,7 @@
 --   fieldAt-value   where it has room, its value stands there
 --   fieldAt-late, fieldAt-short, fieldAt-window   the same for the tests and the arithmetic of the code
 --   room-near       where four bytes are left, a field has room
---   shift-exact     a one shifted by at most `maxWidth` is a power of two
+--   shift-exact     a one shifted within a word is a power of two
 --   spare-none, spare-more, spare-last   which bits are spare bits alone, for the tests and the arithmetic of the code
 --   field-found     what a field that was read says of the string
 --   field-value     what is read at a place is what the parser takes
@@ -70,8 +70,8 @@ fieldAt-value s c w p q h =
     fieldAt-test s c w true
     (ap₂ (λ (b d : Bool). b && d && leb w (length (from s c))) (le-leb 1 w p) (le-leb w maxWidth q) ∙ le-leb w (length (from s c)) h)
 
-pub shift-exact : (w : ℕ) → w ≤ maxWidth → (1 * 2 ^ w) % 18446744073709551616 ≡ 2 ^ w
-shift-exact w h = shl-exact 1 w 64 (lit< tt) (omega arith) ∙ one-mul (2 ^ w)
+pub shift-exact : (n : ℕ) → n < 64 → 1 * 2 ^ n % 2 ^ 64 ≡ 2 ^ n
+shift-exact n h = shl-exact 1 n 64 (lit< tt) (omega arith) ∙ one-mul (2 ^ n)
 
 -- The code's tests and arithmetic: the byte and the bit at which a field starts, and the number of four bytes.
 module _ (s : List ℕ) (c : Cursor) (w : ℕ) where

@@ -31,7 +31,7 @@ use lib.Pow.{pow-mono}
 use lib.Seq.{take-suc, getD-set-same, getD-set-other}
 use Rattle.job.specs.Layout.{maxInputs}
 use Rattle.job.proofs.Sizes.{most-inputs}
-use Rattle.spectra.proofs.Transforming.{one-fits}
+use Rattle.bits.proofs.Fields.{shift-exact}
 use Rattle.bits.proofs.Below.{lt-or-ge}
 use Rattle.bits.specs.Passing.{passing}
 use Rattle.method.proofs.Pairs.{by-test}
@@ -279,7 +279,7 @@ shifted n = 1 * 2 ^ n % 2 ^ 64
 
 module _ {n : ℕ} (few : n ≤ maxInputs) where
   shifted-is : shifted n ≡ 2 ^ n
-  shifted-is = one-fits n (omega (arith, most-inputs))
+  shifted-is = shift-exact n (omega (arith, most-inputs))
 
   pub shifted-few : shifted n ≤ maxPlaces
   unfolding maxPlaces

@@ -1,6 +1,5 @@
 -- Laws of a table's shape (specs/Form.antt).
 --
---   shl-one           2 ^ n as the machine works it out
 --   size-fits         a table's size fits, with what rounding adds
 --   at-least-three    a number that is not 0, 1 or 2
 --   keep-rest         from three inputs on the mask has every bit
@@ -9,7 +8,6 @@
 --   keep-full         from three inputs on every bit of the mask is 1
 --   keep-digit        a bit of the mask is 1 where an entry stands, and 0 at a spare bit
 use Prim.Native.Nat.{ℕ, _+_, _-_, _*_, _/_, _%_, _^_, _≤_, _<_}
-use native.Mathlib.Nat.{one-mul}
 use native.Mathlib.Omega.{arith}
 use mathlib.Core.Path.{_≡_, ap, _∙_}
 use mathlib.Core.Bool.{Bool, cond}
@@ -18,17 +16,15 @@ use mathlib.Core.Logic.{⊎-elim}
 use borrow.Author.Tests.{lt-ltb}
 use lib.Dec.{ltb, eqb, ltb→lt, eqb→eq}
 use lib.ListN.{List·getD-eq-default}
-use lib.Pow.{pow-mono, pow-add, shl-exact}
+use lib.Pow.{pow-mono, pow-add}
 use mir.Syntax.{w64}
 use mir.Val.{Fits}
 use Rattle.bits.proofs.Below.{lt-or-ge, allBelow, all-below, equal-below}
+use Rattle.bits.proofs.Fields.{shift-exact}
 use Rattle.gates.specs.Form.{tableBytes, keepOf}
 
-pub shl-one : (n : ℕ) → n < 64 → 1 * 2 ^ n % 2 ^ 64 ≡ 2 ^ n
-shl-one n h = shl-exact {a = 1} 1 n 64 (omega arith) (omega arith) ∙ one-mul (2 ^ n)
-
 pub size-fits : (n : ℕ) → n < 64 → Fits w64 (1 * 2 ^ n % 2 ^ 64 + 7)
-size-fits n h = rw shl-one (omega (arith, pow-mono {i = n} {j = 63} (omega arith)))
+size-fits n h = rw shift-exact (omega (arith, pow-mono {i = n} {j = 63} (omega arith)))
 
 pub at-least-three : {n : ℕ} → (n ≡ 0 → ⊥) → (n ≡ 1 → ⊥) → (n ≡ 2 → ⊥) → 3 ≤ n
 at-least-three h0 h1 h2 = omega arith

@@ -2,11 +2,11 @@
 // should, and else does nothing.
 ghost use mathlib.Core.Path.{_≡_};
 ghost use mathlib.Core.Bool.{cond};
-ghost use Prim.Native.Nat.{_+_, _≤_, _<_};
+ghost use Prim.Native.Nat.{_+_, _^_, _≤_, _<_};
 ghost use lib.ListN.{length};
 ghost use Rattle.bits.specs.Packed.{tabulate};
 ghost use Rattle.job.specs.Record.{gateKind};
-ghost use Rattle.gates.specs.Form.{alternating, combined, kindForm};
+ghost use Rattle.gates.specs.Form.{alternating, combined, kindForm, tableBytes};
 ghost use Rattle.gates.specs.Rows.{splice, hasRoom, stepFits, alternateFits};
 use job::Gate;
 
@@ -45,6 +45,22 @@ pub fn form_of(gate: Gate, keep: u8) -> Form
         second: (255 * (none ^ second)) & keep,
         both: (255 * ((none ^ second) ^ (first ^ both))) & keep,
     }
+}
+
+// The entries of a table of n inputs, which are as many as its coefficients.
+pub fn places(n: usize) -> usize
+    requires { ⌜ n < 64 ⌝ }
+    ensures { λ r. ⌜ r ≡ 2 ^ n ⌝ }
+{
+    1 << n
+}
+
+// The bytes of a packed table of n inputs.
+pub fn table_bytes(n: usize) -> usize
+    requires { ⌜ n < 64 ⌝ }
+    ensures { λ r. ⌜ r ≡ tableBytes n ⌝ }
+{
+    (places(n) + 7) / 8
 }
 
 // Whether `count` bytes from `at` on end within `length` bytes.

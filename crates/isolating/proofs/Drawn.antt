@@ -27,7 +27,7 @@ use Rattle.job.specs.Layout.{maxInputs, maxFaults}
 use Rattle.job.proofs.Sizes.{most-inputs, most-places}
 use Rattle.tables.specs.declared.Counts.{Counts}
 use Rattle.spectra.specs.declared.Kind.{Kind}
-use Rattle.spectra.proofs.Transforming.{one-fits}
+use Rattle.bits.proofs.Fields.{shift-exact}
 use Rattle.picking.specs.Matrix.{maxEntries}
 use Rattle.picking.specs.declared.Signature.{Signature}
 use Rattle.picking.proofs.Columns.{cell-within}
@@ -48,7 +48,7 @@ module _ {counts : Counts} {signature : Signature} {room : ℕ} (r : Readable co
   inputs-shift = omega (arith, r .inputs-few, most-inputs)
 
   start-is : (c : ℕ) → startOf counts c ≡ c * 2 ^ (counts .inputs)
-  start-is c = ap (λ (x : ℕ). c * x) (one-fits (counts .inputs) (omega (arith, r .inputs-few, most-inputs)))
+  start-is c = ap (λ (x : ℕ). c * x) (shift-exact (counts .inputs) (omega (arith, r .inputs-few, most-inputs)))
 
   pub start-fits : {c : ℕ} → c ≤ counts .faults → Fits w64 (startOf counts c)
   start-fits {c} h =

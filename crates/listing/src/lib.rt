@@ -4,7 +4,6 @@
 ghost use mathlib.Core.Path.{_≡_};
 ghost use Prim.Native.Nat.{_+_, _*_, _<_, _≤_};
 ghost use lib.ListN.{length};
-ghost use Rattle.gates.specs.Form.{tableBytes};
 use bits::Refusal;
 use libc::STDOUT_FILENO;
 use spectra::Kind;
@@ -25,7 +24,11 @@ pub fn list_tables(job: &[u8]) {
     match answer {
         TablesAnswer::Filled(counts) => {
             list_counts(counts);
-            list_circuits(&packed, counts.faults + 1, table_bytes(counts.inputs));
+            list_circuits(
+                &packed,
+                counts.faults + 1,
+                gates::table_bytes(counts.inputs),
+            );
         }
         TablesAnswer::Refused(cause) => list_refusal(cause),
     }
@@ -47,14 +50,6 @@ fn list_counts(counts: Counts) {
     io::write_all(STDOUT_FILENO, b" faults ");
     io::print_decimal(STDOUT_FILENO, counts.faults as u64);
     io::write_all(STDOUT_FILENO, b"\n");
-}
-
-// The bytes of a packed table.
-fn table_bytes(inputs: usize) -> usize
-    requires { ⌜ inputs ≤ 8 ⌝ }
-    ensures { λ r. ⌜ r ≡ tableBytes inputs ⌝ }
-{
-    ((1 << inputs) + 7) / 8
 }
 
 // "1 to 8 inputs".

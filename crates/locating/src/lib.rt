@@ -29,28 +29,12 @@ pub enum Located {
 // (63 + 1) circuits of at most 32 bytes.
 const ALL_TABLES_BYTES: usize = 64 * 32;
 
-// The number of coefficients of n inputs.
-fn places(n: usize) -> usize
-    requires { ⌜ n ≤ 15 ⌝ }
-    ensures { λ r. ⌜ r ≡ 2 ^ n ⌝ }
-{
-    1 << n
-}
-
-// The bytes of a packed table of n inputs.
-fn table_bytes(n: usize) -> usize
-    requires { ⌜ n ≤ 15 ⌝ }
-    ensures { λ r. ⌜ r ≡ tableBytes n ⌝ }
-{
-    (places(n) + 7) / 8
-}
-
 // Whether all indices are below the number of coefficients of n inputs.
 fn indices_ok(indices: &[u16], n: usize) -> bool
     requires { ⌜ n ≤ 15 ⌝ }
     ensures { λ r. ⌜ r ≡ indicesOk n (now (indices .entry)) ⌝ }
 {
-    let size = places(n);
+    let size = gates::places(n);
     let mut i = 0;
     while i < indices.len() {
         if size <= indices[i] as usize {
@@ -118,7 +102,7 @@ fn scan(work: &[u16], indices: &[u16], readings: &[u16], n: usize, rows: usize) 
     requires { ⌜ (n ≤ 15) × Readable n (now indices) (now readings) × (rows * 2 ^ n ≤ length (now work)) ⌝ }
     ensures { λ r. ⌜ locatedTold r ≡ gives (location (agreeing (workAgrees (now (work .entry)) n (now (indices .entry)) (now (readings .entry))) rows)) ⌝ }
 {
-    let size = places(n);
+    let size = gates::places(n);
     let mut lowest = 0;
     let mut count = 0;
     let mut c = 0;
@@ -145,7 +129,7 @@ fn locate_rows(
     requires { ⌜ n ≤ 15 ⌝ }
     ensures { λ r. ⌜ record { answer = locatedTold r; memory = now (work .exit) } ≡ leaves (rowsLocated n rows (now (tables .entry)) kind polarity (now (indices .entry)) (now (readings .entry)) (length (now (work .entry)))) (now (work .entry)) ⌝ }
 {
-    if places(n) <= polarity {
+    if gates::places(n) <= polarity {
         return Located::Refused(Refusal::Polarity);
     }
     if !indices_ok(indices, n) {
@@ -175,7 +159,7 @@ fn locate_counted(
     ensures { λ r. ⌜ record { answer = locatedTold r; memory = now (work .exit) } ≡ leaves (rowsLocated (counts .inputs) (counts .faults + 1) (take ((counts .faults + 1) * tableBytes (counts .inputs)) (now (packed .entry))) kind polarity (now (indices .entry)) (now (readings .entry)) (length (now (work .entry)))) (now (work .entry)) ⌝ }
 {
     let rows = counts.faults + 1;
-    let end = rows * table_bytes(counts.inputs);
+    let end = rows * gates::table_bytes(counts.inputs);
     locate_rows(
         counts.inputs,
         rows,

@@ -1,7 +1,6 @@
 -- The transform of a table by its halves (specs/Transform.antt). Half h = 2 ^ (n − 1) of the memory is lent on for each half of the table;
 -- the top bit of the polarity, k / h, says which half of the table comes first.
 --
---   one-fits              the shift of a 1 by at most 15 is a power of two
 --   Parted                what is known where the transform parts the memory
 --   parted                it is known there
 --   top-le                the top bit of the polarity is 0 or 1
@@ -30,8 +29,7 @@ use mathlib.Core.Path.{_≡_, refl, sym, ap, ap₂, subst, _∙_}
 use mathlib.Core.List.{List, [], _∷_, _++_, append-nil}
 use mathlib.Core.Logic.{⊎-elim}
 use lib.ListN.{length, getD, take, drop, set, length-append, length-take, length-drop, drop-of-length-le, List·getD-append, List·getD-eq-default}
-use lib.Dec.{lit<}
-use lib.Pow.{pow-pos, pow-mono, pow-add, mod-mod-pow, shl-exact}
+use lib.Pow.{pow-pos, pow-mono, pow-add, mod-mod-pow}
 use lib.Seq.{getD-append-add, take-at, drop-at, length-front}
 use mir.Syntax.{w64}
 use mir.Val.{Fits}
@@ -45,9 +43,6 @@ use Rattle.spectra.specs.declared.Kind.{Kind}
 use Rattle.spectra.proofs.Bounds.{coefficient-le, length-spectrum, spectrum-at, spectrum-ext}
 use Rattle.spectra.proofs.Halves.{spectrum-halves, spectrum-one}
 use Rattle.spectra.proofs.Sums.{pow-double}
-
-pub one-fits : (n : ℕ) → n ≤ 15 → (1 * 2 ^ n) % 2 ^ 64 ≡ 2 ^ n
-one-fits n h = shl-exact {a = 1} 1 n 64 (lit< tt) (omega arith) ∙ one-mul (2 ^ n)
 
 -- ---- the two halves
 

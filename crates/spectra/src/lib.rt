@@ -165,14 +165,6 @@ fn wide_leaf(out: &mut [u16], words: &[u64], table: &[u8], at: usize, k: usize, 
     put_lanes(out, &sums, 32, kind);
 }
 
-// The number of coefficients of n inputs.
-fn places(n: usize) -> usize
-    requires { ⌜ n ≤ 15 ⌝ }
-    ensures { λ r. ⌜ r ≡ 2 ^ n ⌝ }
-{
-    1 << n
-}
-
 // The spectrum of the 2 to the power n entries from `at` on. "The spectrum of n inputs is combined from those of its two halves; the
 // halves change places where the top bit of k is 1."
 fn transform(
@@ -199,7 +191,7 @@ fn transform(
         wide_leaf(out, words, table, at, k, kind);
         return;
     }
-    let half = places(n - 1);
+    let half = gates::places(n - 1);
     let top = k / half;
     let rest = k % half;
     transform(
@@ -223,14 +215,6 @@ fn transform(
     combine(out, half, kind);
 }
 
-// The bytes of a packed table of n inputs.
-fn table_bytes(n: usize) -> usize
-    requires { ⌜ n ≤ 15 ⌝ }
-    ensures { λ r. ⌜ r ≡ tableBytes n ⌝ }
-{
-    (places(n) + 7) / 8
-}
-
 // The spectra of tables that stand row after row, with the words of the polarity.
 fn transform_rows(
     work: &mut [u16],
@@ -244,8 +228,8 @@ fn transform_rows(
     requires { ⌜ (n ≤ 15) × (k < 2 ^ n) × (rows * 2 ^ n ≤ length (now work)) × (rows * tableBytes n ≤ length (now tables)) × (now words ≡ nibbleWords (k % 4)) ⌝ }
     ensures { λ r. ⌜ now (work .exit) ≡ rowsFilled kind n k (now (tables .entry)) rows (now (work .entry)) ⌝ }
 {
-    let size = places(n);
-    let bytes = table_bytes(n);
+    let size = gates::places(n);
+    let bytes = gates::table_bytes(n);
     let mut r = 0;
     while r < rows {
         transform(
@@ -297,7 +281,7 @@ fn fill_job(
     requires { ⌜ Counted counts (length (now packed)) ⌝ }
     ensures { λ r. ⌜ record { answer = tablesTold r; memory = now (work .exit) } ≡ leaves (spectraFilled counts (counts .inputs) (counts .faults + 1) (now (packed .entry)) kind polarity (length (now (work .entry)))) (now (work .entry)) ⌝ }
 {
-    let size = places(counts.inputs);
+    let size = gates::places(counts.inputs);
     let rows = counts.faults + 1;
     if size <= polarity {
         return TablesAnswer::Refused(Refusal::Polarity);
@@ -314,7 +298,7 @@ fn table_ok(table: &[u8], n: usize) -> bool
     requires { ⌜ (1 ≤ n) × (n ≤ 15) ⌝ }
     ensures { λ r. ⌜ r ≡ tableOk n (now (table .entry)) ⌝ }
 {
-    if table.len() != table_bytes(n) {
+    if table.len() != gates::table_bytes(n) {
         return false;
     }
     if n == 1 {
@@ -331,7 +315,7 @@ fn rows_ok(tables: &[u8], n: usize, rows: usize) -> bool
     requires { ⌜ (1 ≤ n) × (n ≤ 15) ⌝ }
     ensures { λ r. ⌜ r ≡ rowsFit n (now (tables .entry)) rows ⌝ }
 {
-    let bytes = table_bytes(n);
+    let bytes = gates::table_bytes(n);
     if tables.len() % bytes != 0 {
         return false;
     }
@@ -368,7 +352,7 @@ pub fn row_spectra(
     if !rows_ok(tables, n, rows) {
         return Outcome::Refused(Refusal::TableShape);
     }
-    let size = places(n);
+    let size = gates::places(n);
     if size <= polarity {
         return Outcome::Refused(Refusal::Polarity);
     }
@@ -503,7 +487,7 @@ pub fn undo(n: usize, numbers: &[u16], kind: Kind, polarity: usize, out: &mut [u
     if job::MAX_INPUTS < n {
         return Outcome::Refused(Refusal::InputCount);
     }
-    let size = places(n);
+    let size = gates::places(n);
     if size <= polarity {
         return Outcome::Refused(Refusal::Polarity);
     }

@@ -2,7 +2,7 @@
 use native.Mathlib.Omega.{arith}
 use mathlib.Core.Path.{_∙_}
 use Rattle.job.specs.Layout.{maxInputs, maxFaults}
-use Rattle.spectra.proofs.Transforming.{one-fits}
+use Rattle.bits.proofs.Fields.{shift-exact}
 use Rattle.picking.specs.Matrix.{maxRows}
 use Rattle.choosing.proofs.Decided.{filled-answer}
 use Rattle.choosing.proofs.Ordered.{listed-within, listed-length}
@@ -40,7 +40,7 @@ unfolding maxInputs maxRows
 returns c =
     c .concluded .ensures
     ∙ filled-answer (c .before .before .before .before .before .before .before .before .before .before .before .before .args .counts) (c .before .before .before .before .before .before .before .before .before .before .before .before .args .work .now) (c .before .before .before .before .before .before .before .before .before .before .marks-of .result .of) (c .before .before .before .before .before .before .before .before .before .before .before .before .pre) (c .before .before .before .choose-arg2 .given .0) (c .before .before .before .before .before .before .before .before .before .before .before .before .args .purpose) (c .before .before .before .before .before .before .before .before .before .before .marks-of .ensures)
-    (c .before .choose .result) _ _ (one-fits (c .before .before .before .before .before .before .before .before .before .before .before .before .args .counts .inputs) (omega (arith, c .before .before .before .before .before .before .before .before .before .before .before .before .pre .inputs-few))) (c .before .before .before .before .before .before .before .before .before .scan-order .ensures .held) (c .before .choose .ensures)
+    (c .before .choose .result) _ _ (shift-exact (c .before .before .before .before .before .before .before .before .before .before .before .before .args .counts .inputs) (omega (arith, c .before .before .before .before .before .before .before .before .before .before .before .before .pre .inputs-few))) (c .before .before .before .before .before .before .before .before .before .scan-order .ensures .held) (c .before .choose .ensures)
 
 pub choose-filled-spec : {M : Type 1} → statement M
 choose-filled-spec =

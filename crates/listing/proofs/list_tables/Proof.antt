@@ -30,7 +30,7 @@ add-list-circuits c = omega (arith, (tables-listed (now (c .before .before .befo
 
 table-bytes-requires : tie.Need-table-bytes-requires
 unfolding maxInputs
-table-bytes-requires c κs = (tables-listed (now (c .before .before .before .before .before .before .before .before .before .before .args .job)) (replicate 2048 0) _ (c .before .before .before .before .before .before .before .tables .result) (c .before .before .before .before .answer .given .0 .0) (length-replicate {A = ℕ} 2048 0) (c .before .before .before .before .before .before .before .tables .ensures) (c .before .before .before .before .answer .given .1)) .few
+table-bytes-requires c κs = omega (arith, (tables-listed (now (c .before .before .before .before .before .before .before .before .before .before .args .job)) (replicate 2048 0) _ (c .before .before .before .before .before .before .before .tables .result) (c .before .before .before .before .answer .given .0 .0) (length-replicate {A = ℕ} 2048 0) (c .before .before .before .before .before .before .before .tables .ensures) (c .before .before .before .before .answer .given .1)) .few)
 
 list-circuits-requires : tie.Need-list-circuits-requires
 list-circuits-requires c κs = all-inside (tables-listed (now (c .before .before .before .before .before .before .before .before .before .before .before .args .job)) (replicate 2048 0) _ (c .before .before .before .before .before .before .before .before .tables .result) (c .before .before .before .before .before .answer .given .0 .0) (length-replicate {A = ℕ} 2048 0) (c .before .before .before .before .before .before .before .before .tables .ensures) (c .before .before .before .before .before .answer .given .1)) (c .table-bytes .ensures) (c .before .before .before .before .before .before .before .packed2 .given)

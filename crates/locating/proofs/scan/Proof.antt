@@ -17,7 +17,7 @@ abbrev μ-loop : tie.MeasureT-loop
 μ-loop work indices readings n rows size lowest₀ count₀ c₀ lowest count c = rows - c
 
 places-requires : tie.Need-places-requires Inv-loop μ-loop
-places-requires c κs = c .before .before .before .pre .0
+places-requires c κs = omega (arith, c .before .before .before .pre .0)
 
 loop-holds : tie.Need-loop-holds Inv-loop μ-loop
 loop-holds c = let a = c .before .before .before .before .args in scanned-none (workAgrees (now (a .work)) (a .n) (now (a .indices)) (now (a .readings))) (a .rows)

@@ -2,7 +2,7 @@
 use native.Mathlib.Omega.{arith}
 use Prim.Native.Nat.{_+_, _*_, _^_, _%_}
 use denote.Ref.{now}
-use Rattle.spectra.proofs.Transforming.{one-fits}
+use Rattle.bits.proofs.Fields.{shift-exact}
 use Rattle.locating.specs.Scanning.{numbersAt}
 use Rattle.sheet.specs.Sheet.{countsLine, signatureLine, circuitLines}
 use Rattle.sheet.proofs.Lines.{first-room, second-room, third-room, three-puts}
@@ -24,13 +24,13 @@ add-put-circuits : tie.Need-add-put-circuits
 add-put-circuits c = omega (arith, circuits-few (c .before .before .before .before .before .before .before .before .before .before .before .before .before .before .args .counts .inputs) (c .before .before .before .before .before .before .before .before .before .before .before .before .before .before .pre .1))
 
 put-circuits-requires : tie.Need-put-circuits-requires
-put-circuits-requires c κs = (sized (c .before .before .before .before .before .before .before .before .before .before .before .before .before .before .args .counts .inputs) ((1 * 2 ^ (c .before .before .before .before .before .before .before .before .before .before .before .before .before .before .args .counts .inputs)) % 2 ^ 64) (one-fits (c .before .before .before .before .before .before .before .before .before .before .before .before .before .before .args .counts .inputs) (c .before .before .before .before .before .before .before .before .before .before .before .before .before .before .pre .0)) (now (c .before .before .before .before .before .before .before .before .before .before .before .before .before .before .args .work)) (now (c .before .before .before .before .before .before .before .before .before .before .before .before .before .before .args .list)) (c .before .before .before .before .before .before .before .before .before .before .before .before .before .before .args .counts .faults + 1) (c .before .before .before .before .before .before .before .before .before .before .before .before .before .before .pre .1), sized-room (c .before .before .before .before .before .before .before .before .before .before .before .before .before .before .args .counts .inputs) ((1 * 2 ^ (c .before .before .before .before .before .before .before .before .before .before .before .before .before .before .args .counts .inputs)) % 2 ^ 64) (one-fits (c .before .before .before .before .before .before .before .before .before .before .before .before .before .before .args .counts .inputs) (c .before .before .before .before .before .before .before .before .before .before .before .before .before .before .pre .0)) (now (c .before .before .before .before .before .before .before .before .before .before .before .before .before .before .args .work)) (now (c .before .before .before .before .before .before .before .before .before .before .before .before .before .before .args .list)) (c .before .before .before .before .before .before .before .before .before .before .before .before .before .before .args .counts .faults + 1) (c .before .before .before .before .before .put-signature .result) (c .before .before .before .before .before .put-signature .last .0) (third-room (countsLine (c .before .before .before .before .before .before .before .before .before .before .before .before .before .before .args .counts)) (signatureLine (now (c .before .before .before .before .before .before .before .before .before .before .before .before .before .before .args .list))) (circuitLines (λ c'. numbersAt (now (c .before .before .before .before .before .before .before .before .before .before .before .before .before .before .args .work)) (c' * 2 ^ (c .before .before .before .before .before .before .before .before .before .before .before .before .before .before .args .counts .inputs)) (now (c .before .before .before .before .before .before .before .before .before .before .before .before .before .before .args .list))) (c .before .before .before .before .before .before .before .before .before .before .before .before .before .before .args .counts .faults + 1)) 0 (now (c .before .before .before .before .before .before .before .before .before .before .before .before .before .before .args .out)) (c .before .before .before .before .before .before .before .before .before .before .before .before .before .before .pre .2) (c .before .before .before .before .before .before .before .before .before .put-counts .ensures) (c .before .before .before .before .before .put-signature .ensures)))
+put-circuits-requires c κs = (sized (c .before .before .before .before .before .before .before .before .before .before .before .before .before .before .args .counts .inputs) ((1 * 2 ^ (c .before .before .before .before .before .before .before .before .before .before .before .before .before .before .args .counts .inputs)) % 2 ^ 64) (shift-exact (c .before .before .before .before .before .before .before .before .before .before .before .before .before .before .args .counts .inputs) (omega (arith, c .before .before .before .before .before .before .before .before .before .before .before .before .before .before .pre .0))) (now (c .before .before .before .before .before .before .before .before .before .before .before .before .before .before .args .work)) (now (c .before .before .before .before .before .before .before .before .before .before .before .before .before .before .args .list)) (c .before .before .before .before .before .before .before .before .before .before .before .before .before .before .args .counts .faults + 1) (c .before .before .before .before .before .before .before .before .before .before .before .before .before .before .pre .1), sized-room (c .before .before .before .before .before .before .before .before .before .before .before .before .before .before .args .counts .inputs) ((1 * 2 ^ (c .before .before .before .before .before .before .before .before .before .before .before .before .before .before .args .counts .inputs)) % 2 ^ 64) (shift-exact (c .before .before .before .before .before .before .before .before .before .before .before .before .before .before .args .counts .inputs) (omega (arith, c .before .before .before .before .before .before .before .before .before .before .before .before .before .before .pre .0))) (now (c .before .before .before .before .before .before .before .before .before .before .before .before .before .before .args .work)) (now (c .before .before .before .before .before .before .before .before .before .before .before .before .before .before .args .list)) (c .before .before .before .before .before .before .before .before .before .before .before .before .before .before .args .counts .faults + 1) (c .before .before .before .before .before .put-signature .result) (c .before .before .before .before .before .put-signature .last .0) (third-room (countsLine (c .before .before .before .before .before .before .before .before .before .before .before .before .before .before .args .counts)) (signatureLine (now (c .before .before .before .before .before .before .before .before .before .before .before .before .before .before .args .list))) (circuitLines (λ c'. numbersAt (now (c .before .before .before .before .before .before .before .before .before .before .before .before .before .before .args .work)) (c' * 2 ^ (c .before .before .before .before .before .before .before .before .before .before .before .before .before .before .args .counts .inputs)) (now (c .before .before .before .before .before .before .before .before .before .before .before .before .before .before .args .list))) (c .before .before .before .before .before .before .before .before .before .before .before .before .before .before .args .counts .faults + 1)) 0 (now (c .before .before .before .before .before .before .before .before .before .before .before .before .before .before .args .out)) (c .before .before .before .before .before .before .before .before .before .before .before .before .before .before .pre .2) (c .before .before .before .before .before .before .before .before .before .put-counts .ensures) (c .before .before .before .before .before .put-signature .ensures)))
 
 same-length : tie.Need-same-length
 same-length c = search needs
 
 returns : tie.Need-returns
-returns c = three-puts (countsLine (c .before .before .before .before .before .before .before .before .before .before .before .before .before .before .before .before .before .args .counts)) (signatureLine (now (c .before .before .before .before .before .before .before .before .before .before .before .before .before .before .before .before .before .args .list))) (circuitLines (λ c'. numbersAt (now (c .before .before .before .before .before .before .before .before .before .before .before .before .before .before .before .before .before .args .work)) (c' * 2 ^ (c .before .before .before .before .before .before .before .before .before .before .before .before .before .before .before .before .before .args .counts .inputs)) (now (c .before .before .before .before .before .before .before .before .before .before .before .before .before .before .before .before .before .args .list))) (c .before .before .before .before .before .before .before .before .before .before .before .before .before .before .before .before .before .args .counts .faults + 1)) 0 (now (c .before .before .before .before .before .before .before .before .before .before .before .before .before .before .before .before .before .args .out)) (c .before .before .before .before .before .before .before .before .before .before .before .before .before .before .before .before .before .pre .2) (c .before .before .before .before .before .before .before .before .before .before .before .before .put-counts .ensures) (c .before .before .before .before .before .before .before .before .put-signature .ensures) (sized-puts (c .before .before .before .before .before .before .before .before .before .before .before .before .before .before .before .before .before .args .counts .inputs) ((1 * 2 ^ (c .before .before .before .before .before .before .before .before .before .before .before .before .before .before .before .before .before .args .counts .inputs)) % 2 ^ 64) (one-fits (c .before .before .before .before .before .before .before .before .before .before .before .before .before .before .before .before .before .args .counts .inputs) (c .before .before .before .before .before .before .before .before .before .before .before .before .before .before .before .before .before .pre .0)) (now (c .before .before .before .before .before .before .before .before .before .before .before .before .before .before .before .before .before .args .work)) (now (c .before .before .before .before .before .before .before .before .before .before .before .before .before .before .before .before .before .args .list)) (c .before .before .before .before .before .before .before .before .before .before .before .before .before .before .before .before .before .args .counts .faults + 1) (c .before .before .put-circuits .ensures))
+returns c = three-puts (countsLine (c .before .before .before .before .before .before .before .before .before .before .before .before .before .before .before .before .before .args .counts)) (signatureLine (now (c .before .before .before .before .before .before .before .before .before .before .before .before .before .before .before .before .before .args .list))) (circuitLines (λ c'. numbersAt (now (c .before .before .before .before .before .before .before .before .before .before .before .before .before .before .before .before .before .args .work)) (c' * 2 ^ (c .before .before .before .before .before .before .before .before .before .before .before .before .before .before .before .before .before .args .counts .inputs)) (now (c .before .before .before .before .before .before .before .before .before .before .before .before .before .before .before .before .before .args .list))) (c .before .before .before .before .before .before .before .before .before .before .before .before .before .before .before .before .before .args .counts .faults + 1)) 0 (now (c .before .before .before .before .before .before .before .before .before .before .before .before .before .before .before .before .before .args .out)) (c .before .before .before .before .before .before .before .before .before .before .before .before .before .before .before .before .before .pre .2) (c .before .before .before .before .before .before .before .before .before .before .before .before .put-counts .ensures) (c .before .before .before .before .before .before .before .before .put-signature .ensures) (sized-puts (c .before .before .before .before .before .before .before .before .before .before .before .before .before .before .before .before .before .args .counts .inputs) ((1 * 2 ^ (c .before .before .before .before .before .before .before .before .before .before .before .before .before .before .before .before .before .args .counts .inputs)) % 2 ^ 64) (shift-exact (c .before .before .before .before .before .before .before .before .before .before .before .before .before .before .before .before .before .args .counts .inputs) (omega (arith, c .before .before .before .before .before .before .before .before .before .before .before .before .before .before .before .before .before .pre .0))) (now (c .before .before .before .before .before .before .before .before .before .before .before .before .before .before .before .before .before .args .work)) (now (c .before .before .before .before .before .before .before .before .before .before .before .before .before .before .before .before .before .args .list)) (c .before .before .before .before .before .before .before .before .before .before .before .before .before .before .before .before .before .args .counts .faults + 1) (c .before .before .put-circuits .ensures))
 
 pub put-sheet-spec : {M : Type 1} → statement M
 put-sheet-spec =

@@ -15,7 +15,7 @@ use Rattle.spectra.proofs.+transform.Lts-transform as transform-lts
 use Rattle.spectra.proofs.combine.Reads as combine-reads
 use Rattle.spectra.proofs.entry_at.Reads as entry-at-reads
 use Rattle.spectra.proofs.leaf.Reads as leaf-reads
-use Rattle.spectra.proofs.places.Reads as places-reads
+use Rattle.gates.proofs.places.Reads as places-reads
 use Rattle.spectra.proofs.wide_leaf.Reads as wide-leaf-reads
 use Rattle.spectra.proofs.+transform.{statement}
 use Rattle.spectra.proofs.+transform.Tie.{close}

@@ -15,7 +15,7 @@ abbrev μ-loop : tie.MeasureT-loop
 μ-loop tables n rows bytes r₀ r = rows - r
 
 table-bytes-requires : tie.Need-table-bytes-requires Inv-loop μ-loop
-table-bytes-requires c κs = c .before .pre .1
+table-bytes-requires c κs = omega (arith, c .before .pre .1)
 
 rem-if1 : tie.Need-rem-if1 Inv-loop μ-loop
 rem-if1 c = bytes-some (c .before .before .args .n) (c .table-bytes .ensures)

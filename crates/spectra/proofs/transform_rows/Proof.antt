@@ -15,10 +15,10 @@ abbrev μ-loop : tie.MeasureT-loop
 μ-loop work₀ words tables n rows k kind size bytes r₀ work r = rows - r
 
 places-requires : tie.Need-places-requires Inv-loop μ-loop
-places-requires c κs = c .before .before .before .pre .0
+places-requires c κs = omega (arith, c .before .before .before .pre .0)
 
 table-bytes-requires : tie.Need-table-bytes-requires Inv-loop μ-loop
-table-bytes-requires c κs = c .before .before .before .before .pre .0
+table-bytes-requires c κs = omega (arith, c .before .before .before .before .pre .0)
 
 loop-holds : tie.Need-loop-holds Inv-loop μ-loop
 loop-holds c = let a = c .before .before .before .before .before .args in filling-start (a .kind) (a .n) (a .k) (now (a .tables)) (now (a .work)) (a .rows) (c .before .before .before .before .before .pre .2)

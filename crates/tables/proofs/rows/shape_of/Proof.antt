@@ -4,7 +4,8 @@ use mathlib.Core.Path.{_≡_, sym, ap, _∙_}
 use mathlib.Core.Logic.{⊎-elim}
 use borrow.Author.Needs.{needs}
 use Rattle.gates.specs.Form.{keepOf}
-use Rattle.gates.proofs.Kept.{at-least-three, keep-rest, shl-one, size-fits}
+use Rattle.bits.proofs.Fields.{shift-exact}
+use Rattle.gates.proofs.Kept.{at-least-three, keep-rest, size-fits}
 use Rattle.tables.proofs.rows.shape_of.Statement.{statement}
 use Rattle.tables.proofs.rows.shape_of.Tie as tie
 
@@ -25,7 +26,7 @@ kept c =
 returns : tie.Need-returns
 returns c =
     let n = c .before .args .inputs in
-    let p = shl-one n (c .before .pre) in
+    let p = shift-exact n (c .before .pre) in
     let q = kept c in
     λ i. record { inputs = n; bytes = (p i + 7) / 8; keep = q i }
 

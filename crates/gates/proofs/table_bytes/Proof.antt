@@ -1,16 +1,16 @@
--- `table_bytes` meets its contract.
+-- `gates::table_bytes` meets its contract.
 use native.Mathlib.Omega.{arith}
 use Prim.Native.Nat.{_^_, _≤_}
 use lib.Pow.{pow-mono}
 use borrow.Author.Needs.{needs}
-use Rattle.spectra.proofs.table_bytes.Statement.{statement}
-use Rattle.spectra.proofs.table_bytes.Tie as tie
+use Rattle.gates.proofs.table_bytes.Statement.{statement}
+use Rattle.gates.proofs.table_bytes.Tie as tie
 
 places-requires : tie.Need-places-requires
 places-requires c κs = search needs
 
 add-result : tie.Need-add-result
-add-result c = let p : 2 ^ (c .before .args .n) ≤ 2 ^ 15 = pow-mono (c .before .pre) in omega (arith, c .places .ensures)
+add-result c = let p : 2 ^ (c .before .args .n) ≤ 2 ^ 63 = pow-mono {j = 63} (omega arith) in omega (arith, c .places .ensures)
 
 returns : tie.Need-returns
 returns c = search needs
