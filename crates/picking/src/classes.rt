@@ -116,7 +116,7 @@ fn partner(rows: usize, marks: &[u8], labels: &[u16], a: usize) -> usize
 }
 
 // The first two rows of one class whose marks differ, by the lower, then by the higher.
-pub(crate) fn first_pair(rows: usize, marks: &[u8], labels: &[u16]) -> Two
+fn search_pairs(rows: usize, marks: &[u8], labels: &[u16]) -> Two
     requires { ⌜ (rows ≤ length (now marks)) × (rows ≤ length (now labels)) ⌝ }
     ensures { λ r. ⌜ pairTold r ≡ firstPair rows (alikeMarked (now (labels .entry)) (now (marks .entry))) ⌝ }
 {
@@ -129,4 +129,15 @@ pub(crate) fn first_pair(rows: usize, marks: &[u8], labels: &[u16]) -> Two
         a += 1;
     }
     Two::Nobody
+}
+
+// The same. Mostly there are no such rows: then every row has the mark of its label, which is seen without comparing each with each.
+pub(crate) fn first_pair(rows: usize, marks: &[u8], labels: &[u16]) -> Two
+    requires { ⌜ (rows ≤ length (now marks)) × (rows ≤ length (now labels)) × Low rows (now labels) ⌝ }
+    ensures { λ r. ⌜ pairTold r ≡ firstPair rows (alikeMarked (now (labels .entry)) (now (marks .entry))) ⌝ }
+{
+    if all_told(rows, marks, labels, labels) {
+        return Two::Nobody;
+    }
+    search_pairs(rows, marks, labels)
 }
