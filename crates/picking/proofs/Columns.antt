@@ -4,15 +4,19 @@
 --   Filling         what a loop knows that has filled c rows of an array
 --   filling-start, filling-none, filling-next, filling-all   its start, in any array and in a column, its step and its end
 --   filling-room    there is room for another row
+--   row-fits        the number of a row fits an entry of a column
 --   cell-within     a row's number at an entry lies within the work
 use Prim.Native.Nat.{ℕ, suc, _+_, _*_, _≤_, _<_}
-use native.Mathlib.Nat.{mul-le-mul-right, suc-mul}
+use native.Mathlib.Nat.{le-of-lt, mul-le-mul-right, suc-mul}
 use native.Mathlib.Omega.{arith}
 use mathlib.Core.Path.{_≡_, refl, _∙_}
 use mathlib.Core.List.{List}
 use borrow.Author.Count.{below-none, below-more}
 use lib.ListN.{length, getD, set, replicate, length-set, getD-replicate}
 use lib.Seq.{getD-set-same, getD-set-other}
+use mir.Syntax.{w16}
+use mir.Val.{Fits}
+use mir.Facts.{fits-below}
 use Rattle.picking.specs.Matrix.{maxRows}
 use Rattle.picking.specs.Labels.{Holds}
 
@@ -35,6 +39,9 @@ filling-none rows f = filling-start rows f (replicate 64 0) refl
 pub filling-room : {rows c : ℕ} → rows ≤ maxRows → c < rows → c < 64
 unfolding maxRows
 filling-room h l = omega arith
+
+pub row-fits : {rows c : ℕ} → rows ≤ maxRows → c < rows → Fits w16 c
+row-fits h l = fits-below {n = 64} tt (le-of-lt (filling-room h l))
 
 module _ {room rows : ℕ} {f : ℕ → ℕ} {of : List ℕ} {c : ℕ} (w : Filling room rows f of c) where
   pub filling-next : {v : ℕ} → rows ≤ room → c < rows → v ≡ f c → Filling room rows f (set of c v) (c + 1)

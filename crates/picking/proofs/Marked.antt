@@ -11,7 +11,7 @@ use mathlib.Core.Path.{_≡_, refl, sym, ap, ap₂, _∙_}
 use mathlib.Core.Bool.{Bool, true, false, not, cond, _&&_, _||_, and-true, and-assoc, Bool·not-not}
 use mathlib.Core.Logic.{⊎-elim}
 use mathlib.Core.List.{List, [], _∷_, _++_}
-use borrow.Author.Tests.{ltb-true, ltb-false, eqb-true, eqb-false, eq-eqb, ne-eqb, not-true, not-false}
+use borrow.Author.Tests.{ltb-true, ltb-false, eqb-true, eqb-false, eq-eqb, ne-eqb, not-true}
 use lib.Dec.{ltb, eqb}
 use lib.ListN.{getD}
 use Rattle.bits.proofs.Tests.{and-l, and-r, and-i, clash}
@@ -19,7 +19,8 @@ use Rattle.method.specs.Method.{someBelow, agree, useful, full}
 use Rattle.picking.specs.Matrix.{apart}
 use Rattle.bits.specs.Passing.{passing}
 use Rattle.picking.specs.Labels.{Labels, stray, split, isOpen, clear}
-use Rattle.method.proofs.Pairs.{by-test, someBelow-some, some-someBelow, someBelow-none, somePair-some, some-somePair, all-full, some-full}
+use Rattle.method.proofs.Pairs.{by-test, someBelow-some, some-someBelow, somePair-some, some-somePair, all-full, some-full}
+use Rattle.picking.proofs.Strays.{one-mark}
 
 -- numbers that a test tells apart differ, and the other way
 differ : (a b : ℕ) → not (eqb a b) ≡ true → a ≡ b → ⊥
@@ -74,19 +75,11 @@ module _ (coef : ℕ → ℕ → ℕ) (rows : ℕ) (marks l L : List ℕ) (label
       (label-agrees c h))
       (eq-or-lt-of-le (labels .low c h))
 
-  no-stray : (c : ℕ) → stray L marks c ≡ false → getD marks c 0 ≡ getD marks (getD L c 0) 0
-  no-stray c e = eqb-true (getD marks c 0) (getD marks (getD L c 0) 0) (not-false (eqb (getD marks c 0) (getD marks (getD L c 0) 0)) e)
-
-  -- rows of one class with no stray row have one mark
-  no-strays : ((c : ℕ) → c < rows → stray L marks c ≡ false) → full coef rows (apart marks) l ≡ true
-  no-strays all =
+  no-strays : someBelow rows (stray L marks) ≡ false → full coef rows (apart marks) l ≡ true
+  no-strays none =
       all-full coef rows (apart marks) l
       (λ a b h k n. by-test (agree coef l a b)
-      (λ t.
-      let low : a < rows = omega arith in
-      absurd
-      (differ (getD marks a 0) (getD marks b 0) n
-      (no-stray a (all a low) ∙ ap (λ (x : ℕ). getD marks x 0) (same-label a b low k t) ∙ sym (no-stray b (all b k)))))
+      (λ t. absurd (differ (getD marks a 0) (getD marks b 0) n (one-mark labels marks none a b (omega arith) k t)))
       (λ f. f))
 
   pub labels-full : full coef rows (apart marks) l ≡ not (someBelow rows (stray L marks))
@@ -95,7 +88,7 @@ module _ (coef : ℕ → ℕ → ℕ) (rows : ℕ) (marks l L : List ℕ) (label
       (λ t.
       let r : (c : ℕ) × (c < rows) × (stray L marks c ≡ true) = someBelow-some (stray L marks) rows t in
       stray-told (r .0) (r .1) (r .2) ∙ ap not (sym t))
-      (λ f. no-strays (someBelow-none (stray L marks) rows f) ∙ ap not (sym f))
+      (λ f. no-strays f ∙ ap not (sym f))
 
   abbrev moved : ℕ → ℕ → Bool
   moved e c = isOpen rows L marks c && not (eqb (coef c e) (coef (getD L c 0) e))

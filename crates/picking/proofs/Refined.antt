@@ -4,6 +4,7 @@
 --   matching-none, matching-found, matching-next, matching-all   its start, its ways out and its step
 --   matching-later  it may start later
 --   both-found, both-labels, both-values                         whether two rows have the same label and value, by comparing
+--   refined-le      the lowest row that has both is not above
 --   refined         the lowest rows that have both are labels
 --   met-labels      so are those by two columns of labels
 --   met-from, met-at, met-le   one such label, sought from the larger of the two on
@@ -152,10 +153,13 @@ module _ (rows : ℕ) (labels values : List ℕ) (low : Low rows labels) where
       (sym (same-label labels values (lowestOf a) a p) ∙ ap (λ (x : ℕ). getD labels x 0) e ∙ same-label labels values (lowestOf b) b q)
       (sym (same-value labels values (lowestOf a) a p) ∙ ap (λ (x : ℕ). getD values x 0) e ∙ same-value labels values (lowestOf b) b q)
 
+  pub refined-le : (c : ℕ) → c < rows → {r : ℕ} → r ≡ lowestOf c → r ≤ c
+  refined-le c h e = subst (λ (x : ℕ). x ≤ c) (sym e) (own-low c h)
+
   pub refined : {R : List ℕ} → Holds rows lowestOf R → Labels rows (both labels values) R
   refined {R} holds =
       record {
-        low = λ c h. subst (λ (x : ℕ). x ≤ c) (sym (holds c h)) (own-low c h);
+        low = λ c h. refined-le c h (holds c h);
         own =
             λ c h.
             let m : lowestOf c < rows = omega (arith, own-low c h) in

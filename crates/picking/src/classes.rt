@@ -12,7 +12,7 @@ use crate::MAX_ROWS;
 
 // A number for each row: its coefficient at an entry, or its label.
 pub(crate) struct Column {
-    pub(crate) of: [usize; MAX_ROWS],
+    pub(crate) of: [u16; MAX_ROWS],
 }
 
 // Two rows of one class whose marks differ, or no such rows.
@@ -26,7 +26,7 @@ pub(crate) fn one_class() -> Column
     ensures { λ r. ⌜ Holds maxRows (λ c. 0) (r .of) ⌝ }
 {
     Column {
-        of: [0usize; MAX_ROWS],
+        of: [0u16; MAX_ROWS],
     }
 }
 
@@ -35,17 +35,17 @@ pub(crate) fn coefficients(work: &[u16], width: usize, rows: usize, entry: usize
     requires { ⌜ (rows ≤ maxRows) × (rows * width ≤ length (now work)) × (entry < width) ⌝ }
     ensures { λ r. ⌜ Holds rows (λ c. cell (now (work .entry)) width c entry) (r .of) ⌝ }
 {
-    let mut of = [0usize; MAX_ROWS];
+    let mut of = [0u16; MAX_ROWS];
     let mut c = 0;
     while c < rows {
-        of[c] = work[c * width + entry] as usize;
+        of[c] = work[c * width + entry];
         c += 1;
     }
     Column { of }
 }
 
 // The lowest row, from a row on, that has the label and the value of row c.
-fn lowest(labels: &[usize], values: &[usize], from: usize, c: usize) -> usize
+fn lowest(labels: &[u16], values: &[u16], from: usize, c: usize) -> usize
     requires { ⌜ (c < length (now labels)) × (c < length (now values)) × (from ≤ c) ⌝ }
     ensures { λ r. ⌜ r ≡ lowestFrom (λ k. both (now (labels .entry)) (now (values .entry)) k c) (c - from) from ⌝ }
 {
@@ -66,11 +66,11 @@ pub(crate) fn refine(rows: usize, labels: Column, values: Column) -> Column
     requires { ⌜ (rows ≤ maxRows) × Low rows (labels .of) ⌝ }
     ensures { λ r. ⌜ Labels rows (both (labels .of) (values .of)) (r .of) ⌝ }
 {
-    let mut of = [0usize; MAX_ROWS];
+    let mut of = [0u16; MAX_ROWS];
     let mut c = 0;
     while c < rows {
-        let from = labels.of[c];
-        of[c] = lowest(&labels.of, &values.of, from, c);
+        let from = labels.of[c] as usize;
+        of[c] = lowest(&labels.of, &values.of, from, c) as u16;
         c += 1;
     }
     Column { of }
@@ -83,13 +83,13 @@ fn larger(a: usize, b: usize) -> usize
 }
 
 // Whether every row has the mark of the lowest row that has its label in both columns: no row before its labels has them.
-pub(crate) fn all_told(rows: usize, marks: &[u8], labels: &[usize], others: &[usize]) -> bool
+pub(crate) fn all_told(rows: usize, marks: &[u8], labels: &[u16], others: &[u16]) -> bool
     requires { ⌜ (rows ≤ length (now marks)) × (rows ≤ length (now labels)) × (rows ≤ length (now others)) × Low rows (now labels) × Low rows (now others) ⌝ }
     ensures { λ r. ⌜ r ≡ not (someBelow rows (stray (met rows (now (labels .entry)) (now (others .entry))) (now (marks .entry)))) ⌝ }
 {
     let mut c = 0;
     while c < rows {
-        let from = larger(labels[c], others[c]);
+        let from = larger(labels[c] as usize, others[c] as usize);
         if marks[c] != marks[lowest(labels, others, from, c)] {
             return false;
         }
@@ -99,7 +99,7 @@ pub(crate) fn all_told(rows: usize, marks: &[u8], labels: &[usize], others: &[us
 }
 
 // The lowest row after row a that has its label and not its mark, or `rows`.
-fn partner(rows: usize, marks: &[u8], labels: &[usize], a: usize) -> usize
+fn partner(rows: usize, marks: &[u8], labels: &[u16], a: usize) -> usize
     requires { ⌜ (rows ≤ length (now marks)) × (rows ≤ length (now labels)) × (a < rows) ⌝ }
     ensures { λ r. ⌜ (r ≤ rows) × ((other : Pair) → pairWith a (alikeMarked (now (labels .entry)) (now (marks .entry)) a) (rows - (a + 1)) (a + 1) other ≡ cond (ltb r rows) (pair a r) other) ⌝ }
 {
@@ -116,7 +116,7 @@ fn partner(rows: usize, marks: &[u8], labels: &[usize], a: usize) -> usize
 }
 
 // The first two rows of one class whose marks differ, by the lower, then by the higher.
-pub(crate) fn first_pair(rows: usize, marks: &[u8], labels: &[usize]) -> Two
+fn search_pairs(rows: usize, marks: &[u8], labels: &[u16]) -> Two
     requires { ⌜ (rows ≤ length (now marks)) × (rows ≤ length (now labels)) ⌝ }
     ensures { λ r. ⌜ pairTold r ≡ firstPair rows (alikeMarked (now (labels .entry)) (now (marks .entry))) ⌝ }
 {
@@ -129,4 +129,15 @@ pub(crate) fn first_pair(rows: usize, marks: &[u8], labels: &[usize]) -> Two
         a += 1;
     }
     Two::Nobody
+}
+
+// The same. Mostly there are no such rows: then every row has the mark of its label, which is seen without comparing each with each.
+pub(crate) fn first_pair(rows: usize, marks: &[u8], labels: &[u16]) -> Two
+    requires { ⌜ (rows ≤ length (now marks)) × (rows ≤ length (now labels)) × Low rows (now labels) ⌝ }
+    ensures { λ r. ⌜ pairTold r ≡ firstPair rows (alikeMarked (now (labels .entry)) (now (marks .entry))) ⌝ }
+{
+    if all_told(rows, marks, labels, labels) {
+        return Two::Nobody;
+    }
+    search_pairs(rows, marks, labels)
 }

@@ -28,7 +28,7 @@ struct Flags {
 // The rows, past the lowest, of the classes that hold two marks: an entry is useful if one of them does not have its label's number there.
 struct Open {
     count: usize,
-    of: [usize; MAX_ROWS],
+    of: [u16; MAX_ROWS],
 }
 
 fn either(a: bool, b: bool) -> bool
@@ -40,14 +40,14 @@ fn either(a: bool, b: bool) -> bool
     b
 }
 
-fn split_classes(rows: usize, marks: &[u8], labels: &[usize]) -> Flags
+fn split_classes(rows: usize, marks: &[u8], labels: &[u16]) -> Flags
     requires { ⌜ (rows ≤ maxRows) × (rows ≤ length (now marks)) × (rows ≤ length (now labels)) × Low rows (now labels) ⌝ }
     ensures { λ r. ⌜ Flagged rows (now (labels .entry)) (now (marks .entry)) (r .of) ⌝ }
 {
     let mut of = [false; MAX_ROWS];
     let mut c = 0;
     while c < rows {
-        let label = labels[c];
+        let label = labels[c] as usize;
         of[label] = either(of[label], marks[c] != marks[label]);
         c += 1;
     }
@@ -67,17 +67,17 @@ fn opened(c: usize, label: usize, split: bool) -> usize
     0
 }
 
-fn open_rows(rows: usize, marks: &[u8], labels: &[usize]) -> Open
+fn open_rows(rows: usize, marks: &[u8], labels: &[u16]) -> Open
     requires { ⌜ (rows ≤ maxRows) × (rows ≤ length (now marks)) × (rows ≤ length (now labels)) × Low rows (now labels) ⌝ }
     ensures { λ r. ⌜ (r .count ≤ rows) × (take (r .count) (r .of) ≡ passing (isOpen rows (now (labels .entry)) (now (marks .entry))) rows) ⌝ }
 {
     let flags = split_classes(rows, marks, labels);
-    let mut of = [0usize; MAX_ROWS];
+    let mut of = [0u16; MAX_ROWS];
     let mut count = 0;
     let mut c = 0;
     while c < rows {
-        let label = labels[c];
-        of[count] = c;
+        let label = labels[c] as usize;
+        of[count] = c as u16;
         count += opened(c, label, flags.of[label]);
         c += 1;
     }
@@ -85,14 +85,14 @@ fn open_rows(rows: usize, marks: &[u8], labels: &[usize]) -> Open
 }
 
 // Whether all open rows have their labels' numbers at an entry.
-fn is_clear(work: &[u16], width: usize, labels: &[usize], pending: &[usize], entry: usize) -> bool
+fn is_clear(work: &[u16], width: usize, labels: &[u16], pending: &[u16], entry: usize) -> bool
     requires { ⌜ OpenFit (now work) width (now labels) (now pending) × (entry < width) ⌝ }
     ensures { λ r. ⌜ r ≡ clear (cell (now (work .entry)) width) (now (labels .entry)) (now (pending .entry)) entry ⌝ }
 {
     let mut i = 0;
     while i < pending.len() {
-        let c = pending[i];
-        if work[c * width + entry] != work[labels[c] * width + entry] {
+        let c = pending[i] as usize;
+        if work[c * width + entry] != work[labels[c] as usize * width + entry] {
             return false;
         }
         i += 1;
@@ -104,8 +104,8 @@ fn is_clear(work: &[u16], width: usize, labels: &[usize], pending: &[usize], ent
 fn next(
     work: &[u16],
     width: usize,
-    labels: &[usize],
-    pending: &[usize],
+    labels: &[u16],
+    pending: &[u16],
     scan: &[u16],
     from: usize,
 ) -> usize
@@ -157,7 +157,7 @@ fn next_useful(
     width: usize,
     rows: usize,
     marks: &[u8],
-    labels: &[usize],
+    labels: &[u16],
     scan: &[u16],
     from: usize,
 ) -> usize

@@ -3,7 +3,8 @@ use native.Mathlib.Nat.{lt-of-lt-of-le, lt-of-le-of-lt}
 use native.Mathlib.Numerals.{add-one-le}
 use lib.ListN.{length, getD}
 use borrow.Author.Needs.{scaled-fits}
-use mir.Facts.{fits-le}
+use mir.Syntax.{w16}
+use mir.Facts.{fits-le, fits-widen}
 use Prim.Native.Nat.{ℕ, _-_}
 use mathlib.Core.Path.{_≡_, ap, sym, _∙_}
 use denote.Ref.{now}
@@ -24,16 +25,22 @@ loop-holds : tie.Need-loop-holds Inv-loop μ-loop
 loop-holds c = let a = c .before .before .before .args in passed-none (stray (met (a .rows) (now (a .labels)) (now (a .others))) (now (a .marks))) (a .rows)
 
 mul-larger : tie.Need-mul-larger Inv-loop μ-loop
-mul-larger c = scaled-fits _ (length (now (c .before .before .before .before .before .args .labels))) 8 (lt-of-lt-of-le (c .loop-test .taken) (c .before .before .before .before .before .pre .1)) (c .before .before .before .before .before .good .1 .1 .0 .1)
+mul-larger c = scaled-fits _ (length (now (c .before .before .before .before .before .args .labels))) 2 (lt-of-lt-of-le (c .loop-test .taken) (c .before .before .before .before .before .pre .1)) (c .before .before .before .before .before .good .1 .1 .0 .1)
 
 shared-slice-read-larger : tie.Need-shared-slice-read-larger Inv-loop μ-loop
 shared-slice-read-larger c = lt-of-lt-of-le (c .before .loop-test .taken) (c .before .before .before .before .before .before .pre .1)
 
+cast-larger : tie.Need-cast-larger Inv-loop μ-loop
+cast-larger c = fits-widen {w = w16} tt (c .shared-slice-known4 .given (c .before .before .loop .c))
+
 mul-larger-2 : tie.Need-mul-larger-2 Inv-loop μ-loop
-mul-larger-2 c = scaled-fits _ (length (now (c .before .before .before .before .before .before .args .others))) 8 (lt-of-lt-of-le (c .before .loop-test .taken) (c .before .before .before .before .before .before .pre .2)) (c .before .before .before .before .before .before .good .1 .1 .1 .0 .1)
+mul-larger-2 c = scaled-fits _ (length (now (c .before .before .before .before .before .before .args .others))) 2 (lt-of-lt-of-le (c .before .loop-test .taken) (c .before .before .before .before .before .before .pre .2)) (c .before .before .before .before .before .before .good .1 .1 .1 .0 .1)
 
 shared-slice-read-larger-2 : tie.Need-shared-slice-read-larger-2 Inv-loop μ-loop
 shared-slice-read-larger-2 c = lt-of-lt-of-le (c .before .before .loop-test .taken) (c .before .before .before .before .before .before .before .pre .2)
+
+cast-larger-2 : tie.Need-cast-larger-2 Inv-loop μ-loop
+cast-larger-2 c = fits-widen {w = w16} tt (c .shared-slice-known5 .given (c .before .before .before .loop .c))
 
 larger-requires : tie.Need-larger-requires Inv-loop μ-loop
 larger-requires c κs = tt
@@ -71,8 +78,10 @@ all-told-spec =
     loop-holds
     mul-larger
     shared-slice-read-larger
+    cast-larger
     mul-larger-2
     shared-slice-read-larger-2
+    cast-larger-2
     larger-requires
     shared-slice-read-if1
     lowest-requires

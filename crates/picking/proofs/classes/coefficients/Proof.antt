@@ -5,8 +5,7 @@ use lib.Dec.{lit<}
 use lib.ListN.{length}
 use borrow.Author.Needs.{scaled-fits}
 use denote.Ref.{now}
-use mir.Syntax.{w16}
-use mir.Facts.{fits-le, fits-widen}
+use mir.Facts.{fits-le}
 use Rattle.picking.proofs.Sizes.{place-fits, start-fits}
 use Prim.Native.Nat.{_+_, _-_, _*_}
 use mathlib.Core.Path.{refl}
@@ -37,11 +36,8 @@ mul-of-2 c = scaled-fits _ (length (now (c .before .before .args .work))) 2 (cel
 shared-slice-read-of : tie.Need-shared-slice-read-of Inv-loop μ-loop
 shared-slice-read-of c = cell-within (c .before .loop-test .taken) (c .before .before .before .pre .2) (c .before .before .before .pre .1)
 
-cast-of : tie.Need-cast-of Inv-loop μ-loop
-cast-of c = fits-widen {w = w16} tt (c .shared-slice-known .given (c .before .before .loop .c * (c .before .before .before .args .width) + (c .before .before .before .args .entry)))
-
 mul-of-3 : tie.Need-mul-of-3 Inv-loop μ-loop
-mul-of-3 c = scaled-fits _ 64 8 (filling-room (c .before .before .before .pre .0) (c .before .loop-test .taken)) (lit< tt)
+mul-of-3 c = scaled-fits _ 64 2 (filling-room (c .before .before .before .pre .0) (c .before .loop-test .taken)) (lit< tt)
 
 array-write-of : tie.Need-array-write-of Inv-loop μ-loop
 array-write-of c = filling-room (c .before .before .before .pre .0) (c .before .loop-test .taken)
@@ -69,7 +65,6 @@ coefficients-spec =
     add-of
     mul-of-2
     shared-slice-read-of
-    cast-of
     mul-of-3
     array-write-of
     add-c

@@ -1,51 +1,20 @@
 -- `picking::classes::first_pair` meets its contract.
-use native.Mathlib.Numerals.{add-one-le}
-use mir.Facts.{fits-le}
-use Prim.Native.Nat.{_-_}
 use denote.Ref.{now}
-use borrow.Author.Count.{falls}
-use Rattle.picking.specs.Labels.{alikeMarked}
-use Rattle.picking.proofs.Partners.{Unpaired, unpaired-none, unpaired-found, unpaired-next, unpaired-all}
+use Rattle.picking.proofs.Partners.{told-unpaired}
 use Rattle.picking.proofs.classes.first_pair.Statement.{statement}
 use Rattle.picking.proofs.classes.first_pair.Tie as tie
 
-abbrev Inv-loop : tie.InvT-loop
-Inv-loop rows marks labels a₀ a = Unpaired rows (alikeMarked labels marks) a
+all-told-requires : tie.Need-all-told-requires
+all-told-requires c κs = let p = c .before .before .pre in (p .0, p .1, p .1, p .2, p .2)
 
-abbrev μ-loop : tie.MeasureT-loop
-μ-loop rows marks labels a₀ a = rows - a
+returns : tie.Need-returns
+returns c = let a = c .before .before .before .before .args in told-unpaired (a .rows) (now (a .labels)) (now (a .marks)) (c .before .before .before .before .pre .2) (c .before .all-told .ensures) (c .if1 .taken)
 
-loop-holds : tie.Need-loop-holds Inv-loop μ-loop
-loop-holds c = let a = c .before .before .args in unpaired-none (a .rows) (alikeMarked (now (a .labels)) (now (a .marks)))
+search-pairs-requires : tie.Need-search-pairs-requires
+search-pairs-requires c κs = let p = c .before .before .before .before .pre in (p .0, p .1)
 
-partner-requires : tie.Need-partner-requires Inv-loop μ-loop
-partner-requires c κs = (c .before .before .before .before .pre .0, c .before .before .before .before .pre .1, c .loop-test .taken)
-
-returns : tie.Need-returns Inv-loop μ-loop
-returns c = let a = c .before .before .before .before .before .before .args in unpaired-found (a .rows) (alikeMarked (now (a .labels)) (now (a .marks))) (c .before .before .before .loop .inv) (c .before .before .loop-test .taken) (c .before .partner .ensures) (c .if1 .taken)
-
-add-a : tie.Need-add-a Inv-loop μ-loop
-add-a c = fits-le (add-one-le (c .before .before .loop-test .taken)) (c .before .before .before .before .before .before .fits .rows)
-
-loop-less : tie.Need-loop-less Inv-loop μ-loop
-loop-less c = falls _ _ (c .before .before .loop-test .taken)
-
-loop-again : tie.Need-loop-again Inv-loop μ-loop
-loop-again c = let a = c .before .before .before .before .before .before .args in unpaired-next (a .rows) (alikeMarked (now (a .labels)) (now (a .marks))) (c .before .before .before .loop .inv) (c .before .before .loop-test .taken) (c .before .partner .ensures) (c .if1 .left)
-
-returns-2 : tie.Need-returns-2 Inv-loop μ-loop
-returns-2 c = let a = c .before .before .before .before .args in unpaired-all (a .rows) (alikeMarked (now (a .labels)) (now (a .marks))) (c .before .loop .inv) (c .loop-test .left)
+returns-2 : tie.Need-returns-2
+returns-2 c = c .search-pairs .ensures
 
 pub first-pair-spec : {M : Type 1} → statement M
-first-pair-spec =
-    tie.close
-    (tie.spec
-    Inv-loop
-    μ-loop
-    loop-holds
-    partner-requires
-    returns
-    add-a
-    loop-less
-    loop-again
-    returns-2)
+first-pair-spec = tie.close (tie.spec all-told-requires returns search-pairs-requires returns-2)

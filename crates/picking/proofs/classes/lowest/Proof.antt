@@ -25,25 +25,25 @@ loop-holds : tie.Need-loop-holds Inv-loop μ-loop
 loop-holds c = let a = c .args in matching-none (λ j. both (now (a .labels)) (now (a .values)) j (a .c)) (c .pre .2)
 
 mul-if1 : tie.Need-mul-if1 Inv-loop μ-loop
-mul-if1 c = scaled-fits _ (length (now (c .before .before .args .labels))) 8 (lt-trans (c .loop-test .taken) (c .before .before .pre .0)) (c .before .before .good .0 .1)
+mul-if1 c = scaled-fits _ (length (now (c .before .before .args .labels))) 2 (lt-trans (c .loop-test .taken) (c .before .before .pre .0)) (c .before .before .good .0 .1)
 
 shared-slice-read-if1 : tie.Need-shared-slice-read-if1 Inv-loop μ-loop
 shared-slice-read-if1 c = lt-trans (c .before .loop-test .taken) (c .before .before .before .pre .0)
 
 mul-if1-2 : tie.Need-mul-if1-2 Inv-loop μ-loop
-mul-if1-2 c = scaled-fits (c .before .before .before .args .c) (length (now (c .before .before .before .args .labels))) 8 (c .before .before .before .pre .0) (c .before .before .before .good .0 .1)
+mul-if1-2 c = scaled-fits (c .before .before .before .args .c) (length (now (c .before .before .before .args .labels))) 2 (c .before .before .before .pre .0) (c .before .before .before .good .0 .1)
 
 shared-slice-read-if1-2 : tie.Need-shared-slice-read-if1-2 Inv-loop μ-loop
 shared-slice-read-if1-2 c = c .before .before .before .before .pre .0
 
 mul-if2 : tie.Need-mul-if2 Inv-loop μ-loop
-mul-if2 c = scaled-fits _ (length (now (c .before .before .before .before .before .args .values))) 8 (lt-trans (c .before .before .before .loop-test .taken) (c .before .before .before .before .before .pre .1)) (c .before .before .before .before .before .good .1 .0 .1)
+mul-if2 c = scaled-fits _ (length (now (c .before .before .before .before .before .args .values))) 2 (lt-trans (c .before .before .before .loop-test .taken) (c .before .before .before .before .before .pre .1)) (c .before .before .before .before .before .good .1 .0 .1)
 
 shared-slice-read-if2 : tie.Need-shared-slice-read-if2 Inv-loop μ-loop
 shared-slice-read-if2 c = lt-trans (c .before .before .before .before .loop-test .taken) (c .before .before .before .before .before .before .pre .1)
 
 mul-if2-2 : tie.Need-mul-if2-2 Inv-loop μ-loop
-mul-if2-2 c = scaled-fits (c .before .before .before .before .before .before .args .c) (length (now (c .before .before .before .before .before .before .args .values))) 8 (c .before .before .before .before .before .before .pre .1) (c .before .before .before .before .before .before .good .1 .0 .1)
+mul-if2-2 c = scaled-fits (c .before .before .before .before .before .before .args .c) (length (now (c .before .before .before .before .before .before .args .values))) 2 (c .before .before .before .before .before .before .pre .1) (c .before .before .before .before .before .before .good .1 .0 .1)
 
 shared-slice-read-if2-2 : tie.Need-shared-slice-read-if2-2 Inv-loop μ-loop
 shared-slice-read-if2-2 c = c .before .before .before .before .before .before .before .pre .1

@@ -28,13 +28,13 @@ loop-holds : tie.Need-loop-holds Inv-loop μ-loop
 loop-holds c = let a = c .args in paired-none (a .rows) (a .a) (alikeMarked (now (a .labels)) (now (a .marks)) (a .a)) (c .pre .2)
 
 mul-if1 : tie.Need-mul-if1 Inv-loop μ-loop
-mul-if1 c = scaled-fits _ (length (now (c .before .before .args .labels))) 8 (lt-of-lt-of-le (c .loop-test .taken) (c .before .before .pre .1)) (c .before .before .good .1 .1 .0 .1)
+mul-if1 c = scaled-fits _ (length (now (c .before .before .args .labels))) 2 (lt-of-lt-of-le (c .loop-test .taken) (c .before .before .pre .1)) (c .before .before .good .1 .1 .0 .1)
 
 shared-slice-read-if1 : tie.Need-shared-slice-read-if1 Inv-loop μ-loop
 shared-slice-read-if1 c = lt-of-lt-of-le (c .before .loop-test .taken) (c .before .before .before .pre .1)
 
 mul-if1-2 : tie.Need-mul-if1-2 Inv-loop μ-loop
-mul-if1-2 c = scaled-fits _ (length (now (c .before .before .before .args .labels))) 8 (lt-of-lt-of-le (c .before .before .before .pre .2) (c .before .before .before .pre .1)) (c .before .before .before .good .1 .1 .0 .1)
+mul-if1-2 c = scaled-fits _ (length (now (c .before .before .before .args .labels))) 2 (lt-of-lt-of-le (c .before .before .before .pre .2) (c .before .before .before .pre .1)) (c .before .before .before .good .1 .1 .0 .1)
 
 shared-slice-read-if1-2 : tie.Need-shared-slice-read-if1-2 Inv-loop μ-loop
 shared-slice-read-if1-2 c = lt-of-lt-of-le (c .before .before .before .before .pre .2) (c .before .before .before .before .pre .1)

@@ -2,15 +2,15 @@
 use native.Mathlib.Numerals.{add-one-le}
 use lib.Dec.{lit<}
 use borrow.Author.Needs.{scaled-fits}
-use mir.Facts.{fits-le}
+use mir.Facts.{fits-le, fits-lt}
 use Rattle.picking.proofs.Sizes.{count-within}
 use Prim.Native.Nat.{_-_}
 use lib.ListN.{getD}
 use borrow.Author.Count.{falls}
 use Rattle.picking.specs.Matrix.{maxRows}
 use Rattle.picking.specs.Labels.{both, lowestFrom}
-use Rattle.picking.proofs.Columns.{Filling, filling-none, filling-room, filling-next, filling-all}
-use Rattle.picking.proofs.Refined.{refined}
+use Rattle.picking.proofs.Columns.{Filling, filling-none, filling-room, row-fits, filling-next, filling-all}
+use Rattle.picking.proofs.Refined.{refined-le, refined}
 use Rattle.picking.proofs.classes.refine.Statement.{statement}
 use Rattle.picking.proofs.classes.refine.Tie as tie
 
@@ -24,16 +24,22 @@ loop-holds : tie.Need-loop-holds Inv-loop μ-loop
 loop-holds c = filling-none _ _
 
 mul-from : tie.Need-mul-from Inv-loop μ-loop
-mul-from c = scaled-fits _ 64 8 (filling-room (c .before .before .pre .0) (c .loop-test .taken)) (lit< tt)
+mul-from c = scaled-fits _ 64 2 (filling-room (c .before .before .pre .0) (c .loop-test .taken)) (lit< tt)
 
 element-copy-out-from : tie.Need-element-copy-out-from Inv-loop μ-loop
 element-copy-out-from c = filling-room (c .before .before .pre .0) (c .loop-test .taken)
 
+cast-from : tie.Need-cast-from Inv-loop μ-loop
+cast-from c = let h = c .before .loop-test .taken in fits-le (c .before .before .before .pre .1 (c .before .before .loop .c) h) (fits-lt h (c .before .before .before .fits .rows))
+
 lowest-requires : tie.Need-lowest-requires Inv-loop μ-loop
 lowest-requires c κs = let h = filling-room (c .before .before .before .before .before .before .before .before .before .pre .0) (c .before .before .before .before .before .before .before .loop-test .taken) in (count-within (c .before .before .before .lowest-arg2 .given .0) h, count-within (c .lowest-arg4 .given .0) h, c .before .before .before .before .before .before .before .before .before .pre .1 (c .before .before .before .before .before .before .before .before .loop .c) (c .before .before .before .before .before .before .before .loop-test .taken))
 
+cast-of : tie.Need-cast-of Inv-loop μ-loop
+cast-of c = let a = c .before .before .before .before .before .before .before .before .before .before .args in let h = c .before .before .before .before .before .before .before .before .loop-test .taken in fits-le (refined-le (a .rows) (a .t2 .of) (a .t3 .of) (c .before .before .before .before .before .before .before .before .before .before .pre .1) (c .before .before .before .before .before .before .before .before .before .loop .c) h (c .lowest .ensures)) (row-fits (c .before .before .before .before .before .before .before .before .before .before .pre .0) h)
+
 mul-of : tie.Need-mul-of Inv-loop μ-loop
-mul-of c = scaled-fits _ 64 8 (filling-room (c .before .before .before .before .before .before .before .before .before .before .pre .0) (c .before .before .before .before .before .before .before .before .loop-test .taken)) (lit< tt)
+mul-of c = scaled-fits _ 64 2 (filling-room (c .before .before .before .before .before .before .before .before .before .before .pre .0) (c .before .before .before .before .before .before .before .before .loop-test .taken)) (lit< tt)
 
 array-write-of : tie.Need-array-write-of Inv-loop μ-loop
 array-write-of c = filling-room (c .before .before .before .before .before .before .before .before .before .before .pre .0) (c .before .before .before .before .before .before .before .before .loop-test .taken)
@@ -59,7 +65,9 @@ refine-spec =
     loop-holds
     mul-from
     element-copy-out-from
+    cast-from
     lowest-requires
+    cast-of
     mul-of
     array-write-of
     add-c

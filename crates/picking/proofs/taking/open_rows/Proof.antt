@@ -4,11 +4,13 @@ use native.Mathlib.Numerals.{add-one-le}
 use lib.Dec.{lit<}
 use lib.ListN.{length}
 use borrow.Author.Needs.{scaled-fits}
-use mir.Facts.{fits-le}
+use mir.Syntax.{w16}
+use mir.Facts.{fits-le, fits-widen}
 use Prim.Native.Nat.{_-_}
 use denote.Ref.{now}
 use borrow.Author.Count.{falls}
 use Rattle.picking.specs.Matrix.{maxRows}
+use Rattle.picking.proofs.Columns.{row-fits}
 use Rattle.picking.proofs.Flagging.{Opening, opening-none, opening-next, opening-all, label-below}
 use Rattle.picking.proofs.taking.open_rows.Statement.{statement}
 use Rattle.picking.proofs.taking.open_rows.Tie as tie
@@ -27,14 +29,20 @@ unfolding maxRows
 loop-holds c = opening-none (c .before .before .before .args .rows) (now (c .before .before .before .args .labels)) (now (c .before .before .before .args .marks))
 
 mul-label : tie.Need-mul-label Inv-loop μ-loop
-mul-label c = scaled-fits _ (length (now (c .before .before .before .before .before .args .labels))) 8 (lt-of-lt-of-le (c .loop-test .taken) (c .before .before .before .before .before .pre .2)) (c .before .before .before .before .before .good .1 .1 .0 .1)
+mul-label c = scaled-fits _ (length (now (c .before .before .before .before .before .args .labels))) 2 (lt-of-lt-of-le (c .loop-test .taken) (c .before .before .before .before .before .pre .2)) (c .before .before .before .before .before .good .1 .1 .0 .1)
 
 shared-slice-read-label : tie.Need-shared-slice-read-label Inv-loop μ-loop
 shared-slice-read-label c = lt-of-lt-of-le (c .before .loop-test .taken) (c .before .before .before .before .before .before .pre .2)
 
+cast-label : tie.Need-cast-label Inv-loop μ-loop
+cast-label c = fits-widen {w = w16} tt (c .shared-slice-known3 .given (c .before .before .loop .c))
+
+cast-of : tie.Need-cast-of Inv-loop μ-loop
+cast-of c = row-fits (c .before .before .before .before .before .before .pre .0) (c .before .loop-test .taken)
+
 mul-of : tie.Need-mul-of Inv-loop μ-loop
 unfolding maxRows
-mul-of c = scaled-fits _ 64 8 (lt-of-le-of-lt (c .before .before .loop .inv .few) (lt-of-lt-of-le (c .before .loop-test .taken) (c .before .before .before .before .before .before .pre .0))) (lit< tt)
+mul-of c = scaled-fits _ 64 2 (lt-of-le-of-lt (c .before .before .loop .inv .few) (lt-of-lt-of-le (c .before .loop-test .taken) (c .before .before .before .before .before .before .pre .0))) (lit< tt)
 
 array-write-of : tie.Need-array-write-of Inv-loop μ-loop
 unfolding maxRows
@@ -72,6 +80,8 @@ open-rows-spec =
     loop-holds
     mul-label
     shared-slice-read-label
+    cast-label
+    cast-of
     mul-of
     array-write-of
     element-copy-out-opened

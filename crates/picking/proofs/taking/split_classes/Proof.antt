@@ -3,7 +3,8 @@ use native.Mathlib.Nat.{lt-of-lt-of-le}
 use native.Mathlib.Numerals.{add-one-le}
 use lib.ListN.{length}
 use borrow.Author.Needs.{scaled-fits}
-use mir.Facts.{fits-le}
+use mir.Syntax.{w16}
+use mir.Facts.{fits-le, fits-widen}
 use Prim.Native.Nat.{_-_}
 use denote.Ref.{now}
 use borrow.Author.Count.{falls}
@@ -23,10 +24,13 @@ unfolding maxRows
 loop-holds c = flagging-none (c .before .before .args .rows) (now (c .before .before .args .labels)) (now (c .before .before .args .marks))
 
 mul-label : tie.Need-mul-label Inv-loop μ-loop
-mul-label c = scaled-fits _ (length (now (c .before .before .before .before .args .labels))) 8 (lt-of-lt-of-le (c .loop-test .taken) (c .before .before .before .before .pre .2)) (c .before .before .before .before .good .1 .1 .0 .1)
+mul-label c = scaled-fits _ (length (now (c .before .before .before .before .args .labels))) 2 (lt-of-lt-of-le (c .loop-test .taken) (c .before .before .before .before .pre .2)) (c .before .before .before .before .good .1 .1 .0 .1)
 
 shared-slice-read-label : tie.Need-shared-slice-read-label Inv-loop μ-loop
 shared-slice-read-label c = lt-of-lt-of-le (c .before .loop-test .taken) (c .before .before .before .before .before .pre .2)
+
+cast-label : tie.Need-cast-label Inv-loop μ-loop
+cast-label c = fits-widen {w = w16} tt (c .shared-slice-known3 .given (c .before .before .loop .c))
 
 array-read-either : tie.Need-array-read-either Inv-loop μ-loop
 unfolding maxRows
@@ -66,6 +70,7 @@ split-classes-spec =
     loop-holds
     mul-label
     shared-slice-read-label
+    cast-label
     array-read-either
     shared-slice-read-either
     shared-slice-read-either-2
