@@ -10,9 +10,9 @@ use mir.Syntax.{w8}
 use mir.Val.{Fits}
 use lib.Count.{ones, ones-le}
 use Rattle.picking.specs.Matrix.{maxRows}
+use Rattle.picking.proofs.Sizes.{rows-fit}
 use Rattle.choosing.specs.Choosing.{mark}
 use Rattle.choosing.specs.declared.Purpose.the-variants.{Detecting}
-use Rattle.choosing.proofs.Sizes.{rows-fit}
 
 pub faulty-mark : (c : ℕ) → (c ≡ 0 → ⊥) → 1 ≡ mark Detecting c
 faulty-mark zero d = absurd (d refl)

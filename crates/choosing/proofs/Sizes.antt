@@ -2,7 +2,6 @@
 --
 --   faults-rows      the method has a row for each circuit of a job
 --   faults-entries   a signature has room for as many entries as a job has faults
---   rows-fit         a row's number fits in a byte
 --   places-fit       an index fits in two bytes
 use Prim.Native.Nat.{_+_, _^_, _≤_}
 use lib.Dec.{lit≤}
@@ -17,10 +16,6 @@ faults-rows = lit≤ tt
 pub faults-entries : maxFaults ≤ maxEntries
 unfolding maxFaults maxEntries
 faults-entries = lit≤ tt
-
-pub rows-fit : maxRows ≤ 2 ^ 8
-unfolding maxRows
-rows-fit = lit≤ tt
 
 pub places-fit : maxPlaces ≤ 2 ^ 16
 unfolding maxPlaces maxInputs

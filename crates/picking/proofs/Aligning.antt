@@ -7,9 +7,9 @@
 use Prim.Native.Nat.{ℕ, suc, _+_, _-_, _≤_, _<_}
 use native.Mathlib.Numerals.{add-one}
 use native.Mathlib.Omega.{arith}
-use mathlib.Core.Path.{_≡_, refl, sym, ap, ap₂, _∙_}
+use mathlib.Core.Path.{_≡_, sym, ap, ap₂, _∙_}
 use mathlib.Core.List.{List, _∷_, _++_}
-use lib.ListN.{length, take, drop, getD, set, replicate, length-drop}
+use lib.ListN.{length, take, drop, getD, set, length-drop}
 use lib.Seq.{length-take-le, take-all, set-at, getD-drop}
 use Rattle.picking.specs.Matrix.{maxEntries, zeros, signatureOf}
 use Rattle.picking.specs.declared.Signature.{Signature}
@@ -19,9 +19,9 @@ pub record Aligning (start : ℕ) (kept entries : List ℕ) (i : ℕ) : Type 0 w
   pub within : i ≤ length kept - start
   pub so-far : entries ≡ take i (drop start kept) ++ zeros (maxEntries - i)
 
-pub aligning-none : (start : ℕ) (kept : List ℕ) → Aligning start kept (replicate 63 0) 0
-unfolding maxEntries zeros
-aligning-none start kept = record { within = omega arith; so-far = refl }
+pub aligning-none : (start : ℕ) (kept : List ℕ) → Aligning start kept (zeros maxEntries) 0
+aligning-none start kept =
+    record { within = omega arith; so-far = let e : maxEntries ≡ maxEntries - 0 = omega arith in ap zeros e }
 
 zeros-next : {i : ℕ} → i < maxEntries → zeros (maxEntries - i) ≡ 0 ∷ zeros (maxEntries - suc i)
 unfolding zeros
@@ -31,8 +31,7 @@ module _ {start : ℕ} {kept entries : List ℕ} {i : ℕ} (w : Aligning start k
   pub aligning-from : i < length kept - start → start + i < length kept
   aligning-from h = omega arith
 
-  pub aligning-to : i < length kept - start → i < 63
-  unfolding maxEntries
+  pub aligning-to : i < length kept - start → i < maxEntries
   aligning-to h = omega arith
 
   pub aligning-next : i < length kept - start → Aligning start kept (set entries i (getD kept (start + i) 0)) (i + 1)

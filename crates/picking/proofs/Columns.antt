@@ -12,17 +12,16 @@ use native.Mathlib.Omega.{arith}
 use mathlib.Core.Path.{_≡_, refl, _∙_}
 use mathlib.Core.List.{List}
 use borrow.Author.Count.{below-none, below-more}
-use lib.ListN.{length, getD, set, replicate, length-set, getD-replicate}
+use lib.ListN.{length, getD, set, replicate, length-set, length-replicate, getD-replicate}
 use lib.Seq.{getD-set-same, getD-set-other}
 use mir.Syntax.{w16}
 use mir.Val.{Fits}
-use mir.Facts.{fits-below}
 use Rattle.picking.specs.Matrix.{maxRows}
 use Rattle.picking.specs.Labels.{Holds}
+use Rattle.picking.proofs.Sizes.{rows-fit}
 
-pub column-start : Holds maxRows (λ c. 0) (replicate 64 0)
-unfolding maxRows
-column-start c h = getD-replicate 64 c 0 0 h
+pub column-start : Holds maxRows (λ c. 0) (replicate maxRows 0)
+column-start c h = getD-replicate maxRows c 0 0 h
 
 pub record Filling (room rows : ℕ) (f : ℕ → ℕ) (of : List ℕ) (c : ℕ) : Type 0 where
   pub within : c ≤ rows
@@ -32,16 +31,14 @@ pub record Filling (room rows : ℕ) (f : ℕ → ℕ) (of : List ℕ) (c : ℕ)
 pub filling-start : {room : ℕ} (rows : ℕ) (f : ℕ → ℕ) (of : List ℕ) → length of ≡ room → Filling room rows f of 0
 filling-start rows f of e = record { within = omega arith; whole = e; done = below-none (λ (k : ℕ). getD of k 0 ≡ f k) }
 
-pub filling-none : (rows : ℕ) (f : ℕ → ℕ) → Filling maxRows rows f (replicate 64 0) 0
-unfolding maxRows
-filling-none rows f = filling-start rows f (replicate 64 0) refl
+pub filling-none : (rows : ℕ) (f : ℕ → ℕ) → Filling maxRows rows f (replicate maxRows 0) 0
+filling-none rows f = filling-start rows f (replicate maxRows 0) (length-replicate maxRows 0)
 
-pub filling-room : {rows c : ℕ} → rows ≤ maxRows → c < rows → c < 64
-unfolding maxRows
+pub filling-room : {rows c : ℕ} → rows ≤ maxRows → c < rows → c < maxRows
 filling-room h l = omega arith
 
 pub row-fits : {rows c : ℕ} → rows ≤ maxRows → c < rows → Fits w16 c
-row-fits h l = fits-below {n = 64} tt (le-of-lt (filling-room h l))
+row-fits h l = omega (arith, rows-fit)
 
 module _ {room rows : ℕ} {f : ℕ → ℕ} {of : List ℕ} {c : ℕ} (w : Filling room rows f of c) where
   pub filling-next : {v : ℕ} → rows ≤ room → c < rows → v ≡ f c → Filling room rows f (set of c v) (c + 1)

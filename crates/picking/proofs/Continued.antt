@@ -24,6 +24,7 @@ use Rattle.method.proofs.Takes.{takes-keeps, takes-useful}
 use Rattle.method.proofs.Bounded.{takes-bounded}
 use Rattle.picking.proofs.Labelled.{labels-start, labels-entry}
 use Rattle.picking.proofs.Marked.{labels-useful}
+use Rattle.picking.proofs.Sizes.{rows-entries}
 use Rattle.picking.proofs.Seeking.{seek-rises, seek-within, seek-fails, seek-goes}
 
 no-entries : (count : ℕ) (entries : List ℕ) → count ≡ 0 → take count entries ≡ []
@@ -108,7 +109,6 @@ module _ (work : List ℕ) (width rows : ℕ) (marks scan : List ℕ) (t : Taken
         ∙ ap (λ (k : ℕ). takes (cell work width) rows (apart marks) (entriesOf t ++ (getD scan at 0 ∷ [])) (drop k scan)) (sym (add-one at))
 
     pub continued-room : Fit work width rows marks → at < length scan → t .count < maxEntries
-    unfolding maxRows maxEntries
     continued-room f h =
         let r : (tail : List ℕ) × (takes (cell work width) rows (apart marks) (entriesOf t ++ (getD scan at 0 ∷ [])) (drop (at + 1) scan)
         ≡ entriesOf t ++ (getD scan at 0 ∷ []) ++ tail) =
@@ -118,7 +118,7 @@ module _ (work : List ℕ) (width rows : ℕ) (marks scan : List ℕ) (t : Taken
         let most : length (takes (cell work width) rows (apart marks) [] scan) + 1 ≤ rows = takes-bounded (cell work width) rows (apart marks) (f .some) scan in
         let held : length (entriesOf t) ≡ t .count = length-take-le (t .count) (t .entries) (omega (arith, w .sized, w .sound .room)) in
         omega
-        (arith, f .most, length-append (entriesOf t ++ (getD scan at 0 ∷ [])) (r .0), length-append (entriesOf t) (getD scan at 0 ∷ []))
+        (arith, f .most, rows-entries, length-append (entriesOf t ++ (getD scan at 0 ∷ [])) (r .0), length-append (entriesOf t) (getD scan at 0 ∷ []))
 
     pub continued-all : length scan ≤ at → Sound work width rows t × (entriesOf t ≡ takes (cell work width) rows (apart marks) [] scan)
     unfolding takes

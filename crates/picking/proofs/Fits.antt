@@ -52,9 +52,9 @@ module _ (work : List ℕ) (width rows : ℕ) (marks scan : List ℕ) where
   unfolding fits
   unfit-none h = simp (lt-leb 1 rows h)
 
-  pub unfit-many : 64 < rows → false ≡ fits work width rows marks scan
-  unfolding fits maxRows
-  unfit-many h = simp (lt-leb rows 64 h, and-false)
+  pub unfit-many : maxRows < rows → false ≡ fits work width rows marks scan
+  unfolding fits
+  unfit-many h = simp (lt-leb rows maxRows h, and-false)
 
   pub unfit-marks : length marks < rows → false ≡ fits work width rows marks scan
   unfolding fits
@@ -68,11 +68,11 @@ module _ (work : List ℕ) (width rows : ℕ) (marks scan : List ℕ) where
   unfolding fits
   unfit-work h l = simp (lt-leb (rows * width) (length work) (div-lt-iff-lt-mul h .0 l), and-false)
 
-  pub fit-entries : 1 ≤ rows → rows ≤ 64 → rows ≤ length marks → 1 ≤ width → rows ≤ length work / width
+  pub fit-entries : 1 ≤ rows → rows ≤ maxRows → rows ≤ length marks → 1 ≤ width → rows ≤ length work / width
       → allBelow width scan ≡ fits work width rows marks scan
-  unfolding fits maxRows
+  unfolding fits
   fit-entries h k l m n =
-      simp (le-leb 1 rows h, le-leb rows 64 k, le-leb rows (length marks) l, le-leb 1 width m, le-leb (rows * width) (length work) (le-div-iff-mul-le m .0 n))
+      simp (le-leb 1 rows h, le-leb rows maxRows k, le-leb rows (length marks) l, le-leb 1 width m, le-leb (rows * width) (length work) (le-div-iff-mul-le m .0 n))
 
   pub fits-told : {t : Bool} → t ≡ fits work width rows marks scan → not t ≡ false → fits work width rows marks scan ≡ true
   fits-told {t} e n = sym e ∙ not-false t n

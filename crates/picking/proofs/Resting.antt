@@ -1,6 +1,5 @@
 -- Dropping by recursion: what is kept of the entries from a place on (specs/Labels.antt, `Rest`).
 --
---   most-entries     a signature has at most 63 entries
 --   place-inside     a place that isn't past the last is that of an entry
 --   place-falls      fewer entries are left after it
 --   start-some       there is room before those kept
@@ -36,10 +35,6 @@ use Rattle.picking.specs.declared.dropping.Kept.{Kept}
 use Rattle.picking.proofs.Labelled.{labels-start, labels-entry, labels-front, labels-join}
 use Rattle.picking.proofs.Marked.{labels-full}
 
-pub most-entries : 63 ≡ maxEntries
-unfolding maxEntries
-most-entries = refl
-
 pub place-inside : {i n : ℕ} → i ≤ n → (i ≡ n → ⊥) → i < n
 place-inside h other = ⊎-elim (λ e. absurd (other e)) (λ l. l) (eq-or-lt-of-le h)
 
@@ -49,8 +44,7 @@ place-falls {i} {n} l e = subst (λ (x : ℕ). n - (i + 1) < x) e (falls n i l)
 pub start-some : (i : ℕ) {n start : ℕ} → n ≤ maxEntries → maxEntries + (i + 1) ≤ start + n → 1 ≤ start
 start-some i h l = omega arith
 
-pub start-place : {start : ℕ} → 1 ≤ start → start ≤ maxEntries → start - 1 < 63
-unfolding maxEntries
+pub start-place : {start : ℕ} → 1 ≤ start → start ≤ maxEntries → start - 1 < maxEntries
 start-place some h = omega arith
 
 pub start-back : {start : ℕ} → 1 ≤ start → start - 1 + 1 ≡ start

@@ -4,15 +4,18 @@
 --   prefix-length    the first entries of an array are as many as asked for
 --   place-fits       a place within lent memory fits a machine word
 --   start-fits       and so does the start of the row that it lies in
+--   rows-entries, rows-fit   one entry fewer than rows, and a row's number fits in a byte: the only facts that take the limits' values
 use Prim.Native.Nat.{ℕ, suc, _+_, _*_, _^_, _≤_, _<_}
 use native.Mathlib.Nat.{mul-suc}
 use native.Mathlib.Omega.{arith}
-use mathlib.Core.Path.{_≡_, sym}
+use mathlib.Core.Path.{_≡_, refl, sym}
 use mathlib.Core.List.{List}
 use lib.ListN.{length, take}
 use lib.Seq.{length-take-le}
+use lib.Dec.{lit≤}
 use mir.Syntax.{w64}
 use mir.Val.{Fits}
+use Rattle.picking.specs.Matrix.{maxRows, maxEntries}
 
 pub count-within : {count places n : ℕ} → places ≡ n → count ≤ n → count ≤ places
 count-within e h = omega arith
@@ -27,3 +30,11 @@ module _ {n : ℕ} (bytes : ℕ) (room : n * suc bytes < 2 ^ 63) where
 
   pub start-fits : {start : ℕ} (entry : ℕ) → start + entry < n → Fits w64 start
   start-fits entry h = let s : n * suc bytes ≡ n * bytes + n = mul-suc n bytes in omega arith
+
+pub rows-entries : maxRows ≡ suc maxEntries
+unfolding maxRows maxEntries
+rows-entries = refl
+
+pub rows-fit : maxRows ≤ 2 ^ 8
+unfolding maxRows
+rows-fit = lit≤ tt

@@ -1,6 +1,7 @@
 -- `picking::fitting` meets its contract.
 use mathlib.Core.Path.{_∙_}
 use denote.Ref.{now}
+use Rattle.picking.specs.Matrix.{maxRows}
 use Rattle.picking.proofs.Fits.{unfit-none, unfit-many, unfit-marks, unfit-width, unfit-work, fit-entries}
 use Rattle.picking.proofs.fitting.Statement.{statement}
 use Rattle.picking.proofs.fitting.Tie as tie
@@ -9,6 +10,7 @@ returns : tie.Need-returns
 returns c = let a = c .before .before .before .before .args in unfit-none (now (a .work)) (a .width) (a .rows) (now (a .marks)) (now (a .scan)) (c .if1 .taken)
 
 returns-2 : tie.Need-returns-2
+unfolding maxRows
 returns-2 c = let a = c .before .before .before .before .before .args in unfit-many (now (a .work)) (a .width) (a .rows) (now (a .marks)) (now (a .scan)) (c .if2 .taken)
 
 returns-3 : tie.Need-returns-3
@@ -27,6 +29,7 @@ all-below-requires : tie.Need-all-below-requires
 all-below-requires c κs = tt
 
 returns-6 : tie.Need-returns-6
+unfolding maxRows
 returns-6 c = let a = c .before .before .before .before .before .before .before .before .before .args in c .all-below .ensures ∙ fit-entries (now (a .work)) (a .width) (a .rows) (now (a .marks)) (now (a .scan)) (c .before .before .before .before .before .if1 .left) (c .before .before .before .before .if2 .left) (c .before .before .before .if3 .left) (c .before .before .if4 .left) (c .before .if5 .left)
 
 pub fitting-spec : {M : Type 1} → statement M

@@ -22,6 +22,7 @@ abbrev μ-loop : tie.MeasureT-loop
 μ-loop work width rows entry of₀ c₀ of c = rows - c
 
 loop-holds : tie.Need-loop-holds Inv-loop μ-loop
+unfolding maxRows
 loop-holds c = filling-none _ _
 
 mul-of : tie.Need-mul-of Inv-loop μ-loop
@@ -37,9 +38,11 @@ shared-slice-read-of : tie.Need-shared-slice-read-of Inv-loop μ-loop
 shared-slice-read-of c = cell-within (c .before .loop-test .taken) (c .before .before .before .pre .2) (c .before .before .before .pre .1)
 
 mul-of-3 : tie.Need-mul-of-3 Inv-loop μ-loop
+unfolding maxRows
 mul-of-3 c = scaled-fits _ 64 2 (filling-room (c .before .before .before .pre .0) (c .before .loop-test .taken)) (lit< tt)
 
 array-write-of : tie.Need-array-write-of Inv-loop μ-loop
+unfolding maxRows
 array-write-of c = filling-room (c .before .before .before .pre .0) (c .before .loop-test .taken)
 
 add-c : tie.Need-add-c Inv-loop μ-loop

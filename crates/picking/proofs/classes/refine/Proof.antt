@@ -21,27 +21,33 @@ abbrev μ-loop : tie.MeasureT-loop
 μ-loop rows labels values of₀ c₀ of c = rows - c
 
 loop-holds : tie.Need-loop-holds Inv-loop μ-loop
+unfolding maxRows
 loop-holds c = filling-none _ _
 
 mul-from : tie.Need-mul-from Inv-loop μ-loop
+unfolding maxRows
 mul-from c = scaled-fits _ 64 2 (filling-room (c .before .before .pre .0) (c .loop-test .taken)) (lit< tt)
 
 element-copy-out-from : tie.Need-element-copy-out-from Inv-loop μ-loop
+unfolding maxRows
 element-copy-out-from c = filling-room (c .before .before .pre .0) (c .loop-test .taken)
 
 cast-from : tie.Need-cast-from Inv-loop μ-loop
 cast-from c = let h = c .before .loop-test .taken in fits-le (c .before .before .before .pre .1 (c .before .before .loop .c) h) (fits-lt h (c .before .before .before .fits .rows))
 
 lowest-requires : tie.Need-lowest-requires Inv-loop μ-loop
+unfolding maxRows
 lowest-requires c κs = let h = filling-room (c .before .before .before .before .before .before .before .before .before .pre .0) (c .before .before .before .before .before .before .before .loop-test .taken) in (count-within (c .before .before .before .lowest-arg2 .given .0) h, count-within (c .lowest-arg4 .given .0) h, c .before .before .before .before .before .before .before .before .before .pre .1 (c .before .before .before .before .before .before .before .before .loop .c) (c .before .before .before .before .before .before .before .loop-test .taken))
 
 cast-of : tie.Need-cast-of Inv-loop μ-loop
 cast-of c = let a = c .before .before .before .before .before .before .before .before .before .before .args in let h = c .before .before .before .before .before .before .before .before .loop-test .taken in fits-le (refined-le (a .rows) (a .t2 .of) (a .t3 .of) (c .before .before .before .before .before .before .before .before .before .before .pre .1) (c .before .before .before .before .before .before .before .before .before .loop .c) h (c .lowest .ensures)) (row-fits (c .before .before .before .before .before .before .before .before .before .before .pre .0) h)
 
 mul-of : tie.Need-mul-of Inv-loop μ-loop
+unfolding maxRows
 mul-of c = scaled-fits _ 64 2 (filling-room (c .before .before .before .before .before .before .before .before .before .before .pre .0) (c .before .before .before .before .before .before .before .before .loop-test .taken)) (lit< tt)
 
 array-write-of : tie.Need-array-write-of Inv-loop μ-loop
+unfolding maxRows
 array-write-of c = filling-room (c .before .before .before .before .before .before .before .before .before .before .pre .0) (c .before .before .before .before .before .before .before .before .loop-test .taken)
 
 add-c : tie.Need-add-c Inv-loop μ-loop

@@ -3,6 +3,7 @@ use native.Mathlib.Numerals.{add-one-le}
 use mir.Facts.{fits-le, fits-lit}
 use native.Mathlib.Nat.{le-of-lt}
 use lib.Dec.{lit<}
+use Rattle.picking.specs.Matrix.{maxEntries, zeros}
 use Rattle.picking.proofs.Sizes.{count-within, place-fits}
 use Prim.Native.Nat.{_-_}
 use lib.ListN.{length}
@@ -23,6 +24,7 @@ sub-count : tie.Need-sub-count Inv-loop μ-loop
 sub-count c = count-within (c .pre .1) (c .pre .0)
 
 loop-holds : tie.Need-loop-holds Inv-loop μ-loop
+unfolding maxEntries zeros
 loop-holds c = aligning-none (c .args .start) (now (c .args .kept))
 
 add-entries : tie.Need-add-entries Inv-loop μ-loop
@@ -35,12 +37,15 @@ shared-slice-read-entries : tie.Need-shared-slice-read-entries Inv-loop μ-loop
 shared-slice-read-entries c = aligning-from (c .before .before .loop .inv) (c .before .before .before .pre .0) (c .before .before .before .pre .1) (c .before .loop-test .taken)
 
 mul-entries-2 : tie.Need-mul-entries-2 Inv-loop μ-loop
+unfolding maxEntries
 mul-entries-2 c = scaled-fits _ 63 2 (aligning-to (c .before .before .loop .inv) (c .before .before .before .pre .0) (c .before .before .before .pre .1) (c .before .loop-test .taken)) (lit< tt)
 
 array-write-entries : tie.Need-array-write-entries Inv-loop μ-loop
+unfolding maxEntries
 array-write-entries c = aligning-to (c .before .before .loop .inv) (c .before .before .before .pre .0) (c .before .before .before .pre .1) (c .before .loop-test .taken)
 
 add-i : tie.Need-add-i Inv-loop μ-loop
+unfolding maxEntries
 add-i c = fits-le (add-one-le (aligning-to (c .before .before .loop .inv) (c .before .before .before .pre .0) (c .before .before .before .pre .1) (c .before .loop-test .taken))) (fits-lit {n = 63} tt)
 
 loop-less : tie.Need-loop-less Inv-loop μ-loop

@@ -11,9 +11,11 @@ sub-start : tie.Need-sub-start
 sub-start c = c .before .pre .1
 
 mul-entries : tie.Need-mul-entries
+unfolding maxEntries
 mul-entries c = scaled-fits _ 63 2 (start-place (c .before .before .pre .1) (c .before .before .pre .2)) (lit< tt)
 
 array-write-entries : tie.Need-array-write-entries
+unfolding maxEntries
 array-write-entries c = start-place (c .before .before .pre .1) (c .before .before .pre .2)
 
 refine-requires : tie.Need-refine-requires

@@ -2,8 +2,8 @@
 use Prim.Native.Nat.{zero-le}
 use mathlib.Core.Path.{_∙_}
 use denote.Ref.{now}
-use Rattle.picking.specs.Matrix.{cell}
-use Rattle.picking.proofs.Resting.{most-entries, no-labels, rest-whole}
+use Rattle.picking.specs.Matrix.{cell, maxEntries}
+use Rattle.picking.proofs.Resting.{no-labels, rest-whole}
 use Rattle.picking.proofs.dropping.signature_of.Statement.{statement}
 use Rattle.picking.proofs.dropping.signature_of.Tie as tie
 
@@ -14,7 +14,8 @@ drop-from-requires : tie.Need-drop-from-requires
 drop-from-requires c κs = let a = c .before .before .before .before .args in (c .before .before .before .before .pre .0, c .before .before .before .before .pre .1, c .before .before .before .before .pre .2, zero-le, no-labels (cell (now (a .work)) (a .width)) (a .rows) (now (a .taken)) (c .one-class .result .of) (c .before .before .before .before .pre .0 .most) (c .one-class .ensures))
 
 aligned-requires : tie.Need-aligned-requires
-aligned-requires c κs = (c .before .before .before .drop-from .ensures .within, c .aligned-arg2 .given .0 ∙ most-entries)
+unfolding maxEntries
+aligned-requires c κs = (c .before .before .before .drop-from .ensures .within, c .aligned-arg2 .given .0)
 
 returns : tie.Need-returns
 returns c = let a = c .before .before .before .before .before .before .before .before .before .args in rest-whole (now (a .work)) (a .width) (a .rows) (now (a .marks)) (now (a .taken)) (c .before .before .before .before .drop-from .result) (c .before .before .before .before .drop-from .ensures) (c .aligned .ensures)
