@@ -12,7 +12,7 @@
 --   tables-more         the tables put so far, and one more
 use Prim.Native.Nat.{ℕ, zero, suc, _+_, _-_, _*_, _^_, _≤_, _<_}
 use native.Mathlib.Omega.{arith}
-use native.Mathlib.Nat.{lt-of-le-of-lt, zero-add, mul-le-mul, zero-mul, suc-mul, mul-le-mul-right, le-trans}
+use native.Mathlib.Nat.{lt-of-le-of-lt, zero-add, mul-le-mul, zero-mul, suc-mul}
 use native.Mathlib.Numerals.{add-one}
 use mathlib.Core.Path.{_≡_, refl, sym, ap, ap₂, subst, _∙_}
 use mathlib.Core.Bool.{true}

@@ -129,7 +129,7 @@ module _ (j : Job) (shape : Shape) (rows : List ℕ) (sound : Sound j shape rows
           let put : after ≡ splice rows ((lines j + line) * tableBytes (j .inputs)) (lineTable (faultFix j (Stuck line level)) j line) = stuck-put line level (fixes .high) e in
           let h : lines j + line < 2 * lines j = omega (arith, fixes .high) in
           let row : rowAt j (lines j + line) after ≡ lineTable (faultFix j (Stuck line level)) j line
-                = row-put (faultFix j (Stuck line level)) j line (lines j + line) rows after (row-inside j shape rows sound (lines j + line) h) put in
+          = row-put (faultFix j (Stuck line level)) j line (lines j + line) rows after (row-inside j shape rows sound (lines j + line) h) put in
           record {
             fixes = fixes;
             good = good-kept j shape rows sound (faultFix j (Stuck line level)) line (lines j + line) (omega arith) h after put good;

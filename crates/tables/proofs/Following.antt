@@ -4,12 +4,12 @@
 --   follow-next    the step over one gate
 --   Follows        what the loop over the gates has done
 --   follows-start, follows-next, follows-end   before the first gate, over one, and behind the last, where all lines are placed
-use Prim.Native.Nat.{ℕ, suc, _+_, _-_, _*_, _^_, _≤_, _<_}
+use Prim.Native.Nat.{ℕ, _+_, _-_, _*_, _^_, _≤_, _<_}
 use native.Mathlib.Nat.{mul-le-mul-right, suc-mul, add-mul}
 use native.Mathlib.Omega.{arith}
 use native.Mathlib.Decide.{decLt}
 use mathlib.Core.Path.{_≡_, refl, sym, ap, subst, _∙_}
-use mathlib.Core.Bool.{Bool, true, false, cond}
+use mathlib.Core.Bool.{Bool, true, false}
 use mathlib.Core.Logic.{_⊎_, inl, inr}
 use mathlib.Core.List.{List}
 use borrow.Author.Count.{below-more}
@@ -24,7 +24,7 @@ use Rattle.job.specs.declared.Job.{Job}
 use Rattle.gates.specs.Form.{kindForm, tableBytes}
 use Rattle.gates.specs.Rows.{part, splice}
 use Rattle.gates.specs.declared.Form.{Form}
-use Rattle.tables.specs.Circuit.{Fixing, free, valuesTo}
+use Rattle.tables.specs.Circuit.{free, valuesTo}
 use Rattle.tables.specs.Lines.{maxLines, placeOf, Moved, FixedStep, SharedStep, WorkedStep, GateStep}
 use Rattle.tables.specs.Work.{lineValue, lineTable, rowAt, goodFix, faultFix, firstLine, Sound, Good, Fixed, Shared, Owned, Followed, Placed}
 use Rattle.tables.specs.declared.rows.Shape.{Shape}

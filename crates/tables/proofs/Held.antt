@@ -27,7 +27,7 @@ use Rattle.gates.specs.declared.Form.{Form}
 use Rattle.gates.proofs.Answers.{kind-lt}
 use Rattle.gates.proofs.Rows.{part-same, part-other}
 use Rattle.tables.specs.Circuit.{Fixing}
-use Rattle.tables.specs.Work.{lineValue, lineTable, rowAt, goodFix, Sound}
+use Rattle.tables.specs.Work.{lineValue, lineTable, rowAt, Sound}
 use Rattle.tables.specs.declared.rows.Shape.{Shape}
 use Rattle.tables.proofs.Shaped.{Below, gate-spliced}
 use Rattle.tables.proofs.Space.{shape-bytes}

@@ -19,7 +19,7 @@
 --   gate-fits        the place of a gate's row fits a word
 --   first-fits, second-fits   so do those of the lines that the gate reads
 --   own-inside       a gate's own row behind the good circuit's lies within the rows
-use Prim.Native.Nat.{ℕ, suc, _+_, _*_, _^_, _≤_, _<_}
+use Prim.Native.Nat.{ℕ, _+_, _*_, _^_, _≤_, _<_}
 use native.Mathlib.Nat.{mul-le-mul-right, suc-mul, add-mul}
 use native.Mathlib.Omega.{arith}
 use mathlib.Core.Path.{_≡_, sym, ap, subst, _∙_}

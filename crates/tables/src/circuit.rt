@@ -69,9 +69,7 @@ pub(crate) fn good_places(bytes: usize) -> Places
     requires { ⌜ bytes ≤ maxTableBytes ⌝ }
     ensures { λ r. ⌜ Spaced bytes maxLines (r .of) ⌝ }
 {
-    let mut places = Places {
-        of: [0; MAX_LINES],
-    };
+    let mut places = Places { of: [0; MAX_LINES] };
     let mut line = 0;
     while line < MAX_LINES {
         places.of[line] = line * bytes;

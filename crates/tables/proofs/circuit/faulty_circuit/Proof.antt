@@ -1,5 +1,4 @@
 -- `tables::circuit::faulty_circuit` meets its contract: the fixed lines are placed, and then the gates that follow them.
-use native.Mathlib.Omega.{arith}
 use mathlib.Core.Path.{_∙_}
 use borrow.Author.Needs.{needs}
 use Rattle.tables.proofs.Faults.{first-line, second-line}

@@ -1,7 +1,6 @@
 -- `tables::circuit::fix_rows` meets its contract: the stuck line's row is filled with its level, and the rows of bridged lines, one after
 -- the other, from the good circuit's rows, which stand before them.
 use mathlib.Core.Path.{_∙_}
-use native.Mathlib.Omega.{arith}
 use borrow.Author.Needs.{needs}
 use Rattle.tables.proofs.Faults.{stuck-line, low-line, high-line, fixed-stuck, fixed-bridge}
 use Rattle.tables.proofs.Space.{row-room, row-fits, own-row, good-row}

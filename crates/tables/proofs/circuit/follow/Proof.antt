@@ -3,7 +3,6 @@
 use Prim.Native.Nat.{_-_}
 use native.Mathlib.Omega.{arith}
 use mathlib.Core.Logic.{⊎-elim}
-use mathlib.Core.Path.{_≡_, _∙_}
 use borrow.Author.Count.{falls}
 use borrow.Author.Needs.{needs}
 use Rattle.tables.proofs.Following.{Follows, follows-start, follows-next, follows-end}

@@ -2,7 +2,6 @@
 use native.Mathlib.Omega.{arith}
 use mathlib.Core.Logic.{inl, inr}
 use mathlib.Core.Path.{refl}
-use borrow.Author.Needs.{needs}
 use Rattle.tables.proofs.circuit.gate_place.Statement.{statement}
 use Rattle.tables.proofs.circuit.gate_place.Tie as tie
 

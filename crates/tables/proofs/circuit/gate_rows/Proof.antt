@@ -1,11 +1,10 @@
 -- `tables::circuit::gate_rows` meets its contract: each turn fills the row of one gate.
-use Prim.Native.Nat.{ℕ, _+_, _-_}
+use Prim.Native.Nat.{_+_, _-_}
 use native.Mathlib.Omega.{arith}
-use mathlib.Core.Path.{_≡_, refl, sym, subst, _∙_}
+use mathlib.Core.Path.{_≡_, refl, _∙_}
 use borrow.Author.Count.{falls}
 use borrow.Author.Needs.{needs}
 use lib.ListN.{length}
-use Rattle.job.specs.Record.{gateA, gateB, gateAt}
 use Rattle.tables.specs.Work.{Filled}
 use Rattle.tables.proofs.Filling.{filled-gate, filled-fewer}
 use Rattle.tables.proofs.Space.{gate-index, sound-kept, gate-fits, first-fits, second-fits}

@@ -2,7 +2,6 @@
 use Prim.Native.Nat.{_-_}
 use native.Mathlib.Omega.{arith}
 use borrow.Author.Count.{falls}
-use Rattle.job.specs.Layout.{maxInputs, maxGates}
 use Rattle.tables.specs.Lines.{Spaced}
 use Rattle.tables.proofs.Placing.{spaced-none, spaced-next, spaced-all, place-fits, index-few}
 use Rattle.tables.proofs.circuit.good_places.Statement.{statement}
