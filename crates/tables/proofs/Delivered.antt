@@ -3,19 +3,16 @@
 --   tabulate-part       bytes copied one by one are a part of the rows
 --   length-table        a circuit's table has tableBytes bytes
 --   length-tablesTo     the tables of c circuits have c times as many
---   tableBytes-most     no table has more bytes than that of the most inputs
 --   sound, sound-of     a valid job and rows for the largest circuit are sound
 --   table-count-fits    the bytes of all tables of a valid job fit a usize
 --   fixes               a valid fault fixes lines of the circuit
---   good-table          the good circuit's output row is its table
---   faulty-table        a faulty circuit's row is its table
---   row-inside          the row of a line lies within the rows
---   table-good, table-faulty   the row of any circuit holds its table
+--   placed-good, placed-faulty   the lines of any circuit have places that hold their tables
+--   output-table        that of the output is the circuit's table
 --   splice-start        new bytes at the start, then the rest as it was
 --   tables-more         the tables put so far, and one more
 use Prim.Native.Nat.{ℕ, zero, suc, _+_, _-_, _*_, _^_, _≤_, _<_}
 use native.Mathlib.Omega.{arith}
-use native.Mathlib.Nat.{lt-of-le-of-lt, zero-add, mul-le-mul, zero-mul, suc-mul, mul-le-mul-right, le-trans}
+use native.Mathlib.Nat.{lt-of-le-of-lt, zero-add, mul-le-mul, zero-mul, suc-mul}
 use native.Mathlib.Numerals.{add-one}
 use mathlib.Core.Path.{_≡_, refl, sym, ap, ap₂, subst, _∙_}
 use mathlib.Core.Bool.{true}
@@ -25,7 +22,6 @@ use lib.Dec.{ltb, lit<}
 use mir.Syntax.{w64}
 use mir.Val.{Fits}
 use lib.ListN.{length, getD, take, drop, length-append, length-drop}
-use lib.Pow.{pow-mono}
 use lib.Seq.{take-suc, getD-drop, take-at, drop-drop, drop-append-add}
 use Rattle.bits.specs.Packed.{tabulate}
 use Rattle.bits.proofs.Packed.{length-packed}
@@ -41,8 +37,10 @@ use Rattle.tables.specs.Sizes.{shapeOf}
 use Rattle.gates.specs.Rows.{part, splice}
 use Rattle.tables.specs.declared.rows.Shape.{Shape}
 use Rattle.tables.specs.Circuit.{circuitEntry, circuitTable, fixingOf}
-use Rattle.tables.specs.Work.{maxTableBytes, rowBytes, lineValue, Fixes, Sound, Good, Faulty, Table}
+use Rattle.tables.specs.Lines.{maxLines, placeOf, Spaced}
+use Rattle.tables.specs.Work.{maxTableBytes, rowBytes, lineValue, faultFix, Fixes, Sound, Good, Placed}
 use Rattle.tables.specs.Operations.{tablesTo}
+use Rattle.tables.proofs.Space.{tableBytes-most, shape-bytes, line-below, row-inside}
 
 pub tabulate-part : (rows : List ℕ) (at count : ℕ) → at + count ≤ length rows → tabulate count (λ i. getD rows (at + i) 0) ≡ part at count rows
 unfolding tabulate
@@ -61,10 +59,6 @@ unfolding tablesTo
 length-tablesTo j zero = sym (zero-mul (tableBytes (j .inputs)))
 length-tablesTo j (suc c) =
     length-append (tablesTo j c) (circuitTable j c) ∙ ap₂ _+_ (length-tablesTo j c) (length-table j c) ∙ sym (suc-mul c (tableBytes (j .inputs)))
-
-pub tableBytes-most : (n : ℕ) → n ≤ maxInputs → tableBytes n ≤ maxTableBytes
-unfolding maxInputs maxTableBytes
-tableBytes-most n h = let p : 2 ^ n ≤ 256 = pow-mono h in omega arith
 
 pub sound : (j : Job) (rows : List ℕ) → Valid j → length rows ≡ rowBytes → Sound j (shapeOf (j .inputs)) rows
 unfolding rowBytes
@@ -99,32 +93,31 @@ fixes-of j (Bridge a b is-and) p q =
 pub fixes : (j : Job) (i : ℕ) → Valid j → i < j .«fault_count» → Fixes j (faultAt j i)
 fixes j i v h = fixes-of j (faultAt j i) (v .fault-line i h) (v .fault-order i h)
 
-pub good-table : (j : Job) (rows : List ℕ) → Valid j → Good j rows → part (j .output * tableBytes (j .inputs)) (tableBytes (j .inputs)) rows ≡ circuitTable j 0
-unfolding circuitTable circuitEntry fixingOf lineValue
-good-table j rows v g = g .line (j .output) (v .output)
+pub placed-good : (j : Job) (shape : Shape) (places rows : List ℕ) (c : ℕ) → Sound j shape rows → Good j rows → c ≡ 0 → Spaced (shape .bytes) maxLines places
+    → Placed (fixingOf j c) j places rows
+unfolding fixingOf
+placed-good j shape places rows c sound good is spaced =
+    subst (λ (k : ℕ). Placed (fixingOf j k) j places rows) (sym is)
+    (record {
+      good = good;
+      inside = λ l h. subst (λ (k : ℕ). k + tableBytes (j .inputs) ≤ length rows) (sym (at l h)) (row-inside j shape rows sound l (omega arith));
+      line = λ l h. ap (λ (k : ℕ). part k (tableBytes (j .inputs)) rows) (at l h) ∙ good .line l h;
+    })
+  where
+    at : (l : ℕ) → l < lines j → placeOf places l ≡ l * tableBytes (j .inputs)
+    at l h = spaced .good l (line-below j (sound .valid) l h) ∙ ap (λ (k : ℕ). l * k) (shape-bytes j shape rows sound)
 
-pub faulty-table : (j : Job) (i at : ℕ) (rows : List ℕ) → Faulty j (faultAt j i) at rows → part at (tableBytes (j .inputs)) rows ≡ circuitTable j (suc i)
-unfolding circuitTable circuitEntry fixingOf lineValue
-faulty-table j i at rows f = f .table
-
-pub row-inside : (j : Job) (shape : Shape) (rows : List ℕ) (l : ℕ) → Sound j shape rows → l < lines j → l * shape .bytes + shape .bytes ≤ length rows
-row-inside j shape rows l s h =
-    subst (λ (w : ℕ). l * w + w ≤ length rows) (sym (ap (λ (x : Shape). x .bytes) (s .shaped)))
-    (le-trans (subst (λ (k : ℕ). k ≤ 2 * lines j * tableBytes (j .inputs)) (suc-mul l (tableBytes (j .inputs))) (mul-le-mul-right (tableBytes (j .inputs)) (omega arith))) (s .room))
-
-pub table-good : (j : Job) (shape : Shape) (rows : List ℕ) {c : ℕ} → Sound j shape rows → Good j rows → c ≡ 0 → Table j c (j .output * shape .bytes) rows
-table-good j shape rows {c} s g e =
-    let w : shape .bytes ≡ tableBytes (j .inputs) = ap (λ (x : Shape). x .bytes) (s .shaped) in
-    record {
-      good = g;
-      inside = subst (λ (k : ℕ). j .output * shape .bytes + k ≤ length rows) w (row-inside j shape rows (j .output) s (s .valid .output));
-      table = ap (λ (k : ℕ). part (j .output * k) (tableBytes (j .inputs)) rows) w ∙ good-table j rows (s .valid) g ∙ ap (circuitTable j) (sym e);
-    }
-
-pub table-faulty : (j : Job) (rows : List ℕ) (at c : ℕ) → (c ≡ 0 → ⊥) → Faulty j (faultAt j (c - 1)) at rows → Table j c at rows
-table-faulty j rows at c ne f =
+pub placed-faulty : (j : Job) (places rows : List ℕ) (c : ℕ) → (c ≡ 0 → ⊥) → Placed (faultFix j (faultAt j (c - 1))) j places rows
+    → Placed (fixingOf j c) j places rows
+unfolding fixingOf
+placed-faulty j places rows c ne placed =
     let e : suc (c - 1) ≡ c = omega arith in
-    record { good = f .good; inside = f .inside; table = faulty-table j (c - 1) at rows f ∙ ap (circuitTable j) e }
+    subst (λ (k : ℕ). Placed (fixingOf j k) j places rows) e placed
+
+pub output-table : (j : Job) (c : ℕ) (places rows : List ℕ) → Valid j → Placed (fixingOf j c) j places rows
+    → part (placeOf places (j .output)) (tableBytes (j .inputs)) rows ≡ circuitTable j c
+unfolding circuitTable circuitEntry lineValue
+output-table j c places rows valid placed = placed .line (j .output) (valid .output)
 
 pub splice-start : (out new : List ℕ) → splice out 0 new ≡ new ++ drop (length new) out
 splice-start out new = ap (λ (k : ℕ). new ++ drop k out) (zero-add (length new))

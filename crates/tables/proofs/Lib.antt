@@ -1,9 +1,10 @@
 pub mod Answering
-pub mod Circuits
 pub mod Delivered
+pub mod Faults
+pub mod Filling
+pub mod Following
 pub mod Forming
 pub mod Held
-pub mod Lines
 pub mod Placing
 pub mod Putting
 pub mod Shaped

@@ -1,79 +1,93 @@
--- Laws of where a plan places its lines, and which of them it fixes (specs/Lines.antt).
+-- Laws of the places of lines' tables (specs/Lines.antt).
 --
---   rowOf-low     a line below the start has the good circuit's row
---   rowOf-high    a line from the start on has its row further on
---   rowOf-most    no line's row is further on than the shift
---   rowOf-less    a lower line has a lower row
---   rowOf-apart   different lines have different rows
---   rowOf-of      the row of a line that is known by another name
---   low-fixed, high-fixed   each of the plan's two lines is fixed
---   not-fixed     another line is not
---   fixed-cases   a fixed line is one of the two
-use Prim.Native.Nat.{ℕ, _+_, _≤_, _<_}
+--   spaced-none     no place is worked out yet
+--   spaced-next     one more
+--   spaced-all      all are
+--   lines-few, line-index   the lines of a circuit are indices of the places
+--   index-few       an index of the places is a line
+--   place-fits      the place of any line's row fits a word
+--   own-fits        so does that of its own row behind
+--   moved           two places of good ones are exchanged for rows behind
+use Prim.Native.Nat.{ℕ, _+_, _*_, _^_, _≤_, _<_}
+use native.Mathlib.Nat.{lt-of-le-of-lt, mul-le-mul}
 use native.Mathlib.Omega.{arith}
-use native.Mathlib.Decide.{decLt}
-use mathlib.Core.Path.{_≡_, refl, sym, ap, _∙_}
-use mathlib.Core.Logic.{_⊎_, inl, inr}
-use mathlib.Core.Bool.{Bool, true, false, cond, _||_}
-use borrow.Author.Tests.{lt-ltb, le-ltb, eq-eqb, ne-eqb, eqb-true}
-use lib.Dec.{eqb}
-use Rattle.tables.specs.Lines.{rowOf, isFixed}
-use Rattle.tables.specs.declared.circuit.Plan.{Plan}
+use mathlib.Core.Path.{_≡_, refl, sym, subst, _∙_}
+use mathlib.Core.Bool.{Bool, true, false}
+use mathlib.Core.List.{List}
+use borrow.Author.Count.{below-none, below-more}
+use borrow.Author.Tests.{eqb-true, eqb-false}
+use lib.Dec.{eqb, lit<}
+use lib.ListN.{length, set, replicate, length-set}
+use lib.Seq.{getD-set-same, getD-set-other}
+use mir.Syntax.{w64}
+use mir.Val.{Fits}
+use Rattle.job.specs.Layout.{maxInputs, maxGates}
+use Rattle.tables.specs.Lines.{maxLines, placeOf, Spaced, Moved}
+use Rattle.tables.specs.Work.{maxTableBytes}
 
-module _ (plan : Plan) where
-  pub rowOf-low : (l : ℕ) → l < plan .start → rowOf plan l ≡ l
-  unfolding rowOf
-  rowOf-low l h = ap (λ (b : Bool). cond b l (plan .shift + l)) (lt-ltb l (plan .start) h)
+module _ (bytes : ℕ) where
+  pub spaced-none : Spaced bytes 0 (replicate 72 0)
+  unfolding maxInputs maxGates
+  spaced-none = record { whole = refl; good = below-none (λ (l : ℕ). placeOf (replicate 72 0) l ≡ l * bytes) }
 
-  pub rowOf-high : (l : ℕ) → plan .start ≤ l → rowOf plan l ≡ plan .shift + l
-  unfolding rowOf
-  rowOf-high l h = ap (λ (b : Bool). cond b l (plan .shift + l)) (le-ltb l (plan .start) h)
+  pub spaced-next : (places : List ℕ) (l : ℕ) → Spaced bytes l places → l < 72 → Spaced bytes (l + 1) (set places l (l * bytes))
+  unfolding maxInputs maxGates
+  spaced-next places l s h =
+      record {
+        whole = length-set places l (l * bytes) ∙ s .whole;
+        good =
+            below-more (λ (k : ℕ). placeOf (set places l (l * bytes)) k ≡ k * bytes) l
+            (λ k less. getD-set-other places l k (l * bytes) 0 (λ (e : k ≡ l). absurd (omega arith)) ∙ s .good k less)
+            (getD-set-same places l (l * bytes) 0 (omega (arith, s .whole)));
+      }
 
-  pub rowOf-most : (l : ℕ) → rowOf plan l ≤ plan .shift + l
-  rowOf-most l = go (decLt l (plan .start))
-    where
-      go : Dec (l < plan .start) → rowOf plan l ≤ plan .shift + l
-      go (yes h) = omega (arith, rowOf-low l h)
-      go (no h) = omega (arith, rowOf-high l (omega arith))
+  pub spaced-all : (places : List ℕ) (l : ℕ) → Spaced bytes l places → 72 ≤ l → Spaced bytes maxLines places
+  unfolding maxInputs maxGates
+  spaced-all places l s h = record { whole = s .whole; good = λ k less. s .good k (omega arith) }
 
-  pub rowOf-less : (a b : ℕ) → a < b → rowOf plan a < rowOf plan b
-  rowOf-less a b h = go (decLt b (plan .start))
-    where
-      go : Dec (b < plan .start) → rowOf plan a < rowOf plan b
-      go (yes k) = omega (arith, rowOf-low a (omega arith), rowOf-low b k)
-      go (no k) = omega (arith, rowOf-most a, rowOf-high b (omega arith))
+-- the rows of the largest good circuit and of a faulty one
+all-rows-fit : (maxLines + maxLines) * maxTableBytes < 2 ^ 64
+unfolding maxInputs maxGates maxTableBytes
+all-rows-fit = lit< tt
 
-  pub rowOf-apart : (a b : ℕ) → (a ≡ b → ⊥) → rowOf plan a ≡ rowOf plan b → ⊥
-  rowOf-apart a b ne e = go (decLt a b)
-    where
-      go : Dec (a < b) → ⊥
-      go (yes h) = omega (arith, rowOf-less a b h)
-      go (no h) = omega (arith, rowOf-less b a (omega arith))
+pub lines-few : {lines : ℕ} → lines ≤ maxLines → lines ≤ 72
+unfolding maxInputs maxGates
+lines-few h = omega arith
 
-  pub rowOf-of : {row k a : ℕ} → row ≡ rowOf plan k → k ≡ a → row ≡ rowOf plan a
-  rowOf-of e f = e ∙ ap (rowOf plan) f
+pub line-index : {lines l : ℕ} → lines ≤ maxLines → l < lines → l < 72
+line-index few h = omega (arith, lines-few few)
 
-module _ (plan : Plan) (l : ℕ) where
-  pub low-fixed : l ≡ plan .low → isFixed plan l ≡ true
-  unfolding isFixed
-  low-fixed e = ap (λ (b : Bool). b || eqb l (plan .high)) (eq-eqb l (plan .low) e)
+pub index-few : {l : ℕ} → l < 72 → l ≤ maxLines + maxLines
+unfolding maxInputs maxGates
+index-few h = omega arith
 
-  pub high-fixed : l ≡ plan .high → isFixed plan l ≡ true
-  unfolding isFixed
-  high-fixed e = go (eqb l (plan .low))
-    where
-      go : (b : Bool) → b || eqb l (plan .high) ≡ true
-      go true = refl
-      go false = eq-eqb l (plan .high) e
+pub place-fits : (r bytes : ℕ) → bytes ≤ maxTableBytes → r ≤ maxLines + maxLines → Fits w64 (r * bytes)
+place-fits r bytes h few = record { fits = lt-of-le-of-lt (mul-le-mul few h) all-rows-fit }
 
-  pub not-fixed : (l ≡ plan .low → ⊥) → (l ≡ plan .high → ⊥) → isFixed plan l ≡ false
-  unfolding isFixed
-  not-fixed low high = ap (λ (b : Bool). b || eqb l (plan .high)) (ne-eqb l (plan .low) low) ∙ ne-eqb l (plan .high) high
+pub own-fits : {bytes lines l : ℕ} → bytes ≤ maxTableBytes → lines ≤ maxLines → l < lines → Fits w64 ((lines + l) * bytes)
+own-fits {bytes} {lines} {l} h few below = place-fits (lines + l) bytes h (omega arith)
 
-  pub fixed-cases : isFixed plan l ≡ true → (l ≡ plan .low) ⊎ (l ≡ plan .high)
-  unfolding isFixed
-  fixed-cases h = go (eqb l (plan .low)) refl
-    where
-      go : (b : Bool) → eqb l (plan .low) ≡ b → (l ≡ plan .low) ⊎ (l ≡ plan .high)
-      go true is = inl (eqb-true l (plan .low) is)
-      go false is = inr (eqb-true l (plan .high) (ap (λ (b : Bool). b || eqb l (plan .high)) (sym is) ∙ h))
+pub moved : (lines low high bytes : ℕ) (places : List ℕ) → Spaced bytes maxLines places → lines ≤ maxLines → low < lines → high < lines
+    → Moved lines low high bytes (set (set places low ((lines + low) * bytes)) high ((lines + high) * bytes))
+moved lines low high bytes places s few hl hh =
+    record {
+      whole = length-set first high ((lines + high) * bytes) ∙ length-first;
+      good = λ l h nl nh. getD-set-other first high l ((lines + high) * bytes) 0 nh ∙ getD-set-other places low l ((lines + low) * bytes) 0 nl ∙ s .good l h;
+      low-own = pick (eqb low high) refl;
+      high-own = high-is;
+    }
+  where
+    first : List ℕ
+    first = set places low ((lines + low) * bytes)
+
+    length-first : length first ≡ maxLines
+    length-first = length-set places low ((lines + low) * bytes) ∙ s .whole
+
+    high-is : placeOf (set first high ((lines + high) * bytes)) high ≡ (lines + high) * bytes
+    high-is = getD-set-same first high ((lines + high) * bytes) 0 (omega (arith, length-first))
+
+    pick : (b : Bool) → eqb low high ≡ b → placeOf (set first high ((lines + high) * bytes)) low ≡ (lines + low) * bytes
+    pick true is = subst (λ (l : ℕ). placeOf (set first high ((lines + high) * bytes)) l ≡ (lines + l) * bytes) (sym (eqb-true low high is)) high-is
+    pick false is =
+        getD-set-other first high low ((lines + high) * bytes) 0 (eqb-false low high is)
+        ∙ getD-set-same places low ((lines + low) * bytes) 0 (omega (arith, s .whole))

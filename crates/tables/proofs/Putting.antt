@@ -1,10 +1,8 @@
 -- The loop that puts the tables of all circuits (the function `put_tables`).
 --
 --   Putting          the tables of the circuits below c are put, and the good circuit's rows stand
---   sound-kept       rows of the same length stay sound
---   shape-bytes      the shape has the table's bytes
---   table-part       a row as long as the shape says holds the circuit's table
---   table-inside     and lies within the rows
+--   table-part       the bytes at the output's place are the circuit's table
+--   table-inside     and lie within the rows
 --   table-put        it is put at the start of the lent bytes
 --   putting-start    nothing is put yet
 --   putting-room     there is room for one table more
@@ -22,27 +20,26 @@ use Rattle.gates.specs.Form.{tableBytes}
 use Rattle.gates.specs.Rows.{part, splice}
 use Rattle.tables.specs.declared.rows.Shape.{Shape}
 use Rattle.gates.proofs.Splice.{length-splice}
-use Rattle.tables.specs.Circuit.{circuitTable}
+use Rattle.tables.specs.Circuit.{circuitTable, fixingOf}
+use Rattle.tables.specs.Lines.{placeOf}
 use Rattle.tables.specs.Operations.{tablesTo}
-use Rattle.tables.specs.Work.{Sound, Good, Table}
-use Rattle.tables.proofs.Delivered.{length-tablesTo, tables-more}
+use Rattle.tables.specs.Work.{Sound, Good, Placed}
+use Rattle.tables.proofs.Delivered.{length-tablesTo, output-table, tables-more}
+use Rattle.tables.proofs.Space.{shape-bytes, sound-kept}
 
-pub sound-kept : (j : Job) (shape : Shape) (rows after : List ℕ) → Sound j shape rows → length after ≡ length rows → Sound j shape after
-sound-kept j shape rows after s e =
-    record { valid = s .valid; shaped = s .shaped; room = subst (λ (k : ℕ). 2 * (j .inputs + j .«gate_count») * tableBytes (j .inputs) ≤ k) (sym e) (s .room) }
+module _ (j : Job) (shape : Shape) (rows after places : List ℕ) (c : ℕ) (sound : Sound j shape rows) (placed : Placed (fixingOf j c) j places after) where
+  pub table-part : part (placeOf places (j .output)) (shape .bytes) after ≡ circuitTable j c
+  table-part =
+      ap (λ (k : ℕ). part (placeOf places (j .output)) k after) (shape-bytes j shape rows sound)
+      ∙ output-table j c places after (sound .valid) placed
 
-pub shape-bytes : (j : Job) (shape : Shape) (rows : List ℕ) → Sound j shape rows → shape .bytes ≡ tableBytes (j .inputs)
-shape-bytes j shape rows s = ap (λ (x : Shape). x .bytes) (s .shaped)
+  pub table-inside : placeOf places (j .output) + shape .bytes ≤ length after
+  table-inside =
+      subst (λ (k : ℕ). placeOf places (j .output) + k ≤ length after) (sym (shape-bytes j shape rows sound))
+      (placed .inside (j .output) (sound .valid .output))
 
-pub table-part : (j : Job) (shape : Shape) (rows after : List ℕ) (c at : ℕ) → Sound j shape rows → Table j c at after → part at (shape .bytes) after ≡ circuitTable j c
-table-part j shape rows after c at s t = ap (λ (k : ℕ). part at k after) (shape-bytes j shape rows s) ∙ t .table
-
-pub table-inside : (j : Job) (shape : Shape) (rows after : List ℕ) (c at : ℕ) → Sound j shape rows → Table j c at after → at + shape .bytes ≤ length after
-table-inside j shape rows after c at s t = subst (λ (k : ℕ). at + k ≤ length after) (sym (shape-bytes j shape rows s)) (t .inside)
-
-pub table-put : (j : Job) (shape : Shape) (rows after : List ℕ) (c at : ℕ) (out put : List ℕ) → Sound j shape rows → Table j c at after
-    → put ≡ splice out 0 (part at (shape .bytes) after) → put ≡ splice out 0 (circuitTable j c)
-table-put j shape rows after c at out put s t e = e ∙ ap (splice out 0) (table-part j shape rows after c at s t)
+  pub table-put : (out put : List ℕ) → put ≡ splice out 0 (part (placeOf places (j .output)) (shape .bytes) after) → put ≡ splice out 0 (circuitTable j c)
+  table-put out put e = e ∙ ap (splice out 0) table-part
 
 pub record Putting (j : Job) (shape : Shape) (start first out rows : List ℕ) (c : ℕ) : Type 0 where
   pub sound : Sound j shape rows
@@ -71,18 +68,18 @@ module _ (j : Job) (shape : Shape) (start first out rows : List ℕ) (c : ℕ) (
       (subst (λ (k : ℕ). c * tableBytes (j .inputs) + tableBytes (j .inputs) ≤ k) (sym putting-length)
       (subst (λ (k : ℕ). k ≤ length start) (suc-mul c (tableBytes (j .inputs))) (fits (suc c) h)))
 
-  pub putting-next : (at : ℕ) (put after : List ℕ) → c < j .«fault_count» + 1 → Table j c at after → length after ≡ length rows
-      → put ≡ splice out (c * shape .bytes) (part at (shape .bytes) after) → Putting j shape start first put after (c + 1)
-  putting-next at put after h t l e =
+  pub putting-next : (places put after : List ℕ) → c < j .«fault_count» + 1 → Placed (fixingOf j c) j places after → length after ≡ length rows
+      → put ≡ splice out (c * shape .bytes) (part (placeOf places (j .output)) (shape .bytes) after) → Putting j shape start first put after (c + 1)
+  putting-next places put after h placed l e =
       record {
-        sound = sound-kept j shape rows after (p .sound) l;
-        good = t .good;
+        sound = sound-kept j shape rows (p .sound) after l;
+        good = placed .good;
         long = l ∙ p .long;
         room = p .room;
         within = omega arith;
         done =
             e
-            ∙ ap₂ (λ (x : List ℕ) (y : List ℕ). splice x (c * shape .bytes) y) (p .done) (table-part j shape rows after c at (p .sound) t)
+            ∙ ap₂ (λ (x : List ℕ) (y : List ℕ). splice x (c * shape .bytes) y) (p .done) (table-part j shape rows after places c (p .sound) placed)
             ∙ ap (λ (k : ℕ). splice (splice start 0 (tablesTo j c)) (c * k) (circuitTable j c)) (shape-bytes j shape rows (p .sound))
             ∙ tables-more j c start;
       }

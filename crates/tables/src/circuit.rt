@@ -1,12 +1,13 @@
-// The rows of a job's circuits: first a row for each line of the good circuit, then one for each line of the faulty circuit at hand.
+// The rows of a job's circuits: first a row for each line of the good circuit, then one for each line of the faulty circuit at hand, of which
+// only those are filled that the fault may change.
 ghost use mathlib.Core.Path.{_≡_};
 ghost use mathlib.Core.Bool.{cond};
-ghost use Prim.Native.Nat.{_+_, _≤_, _<_};
+ghost use Prim.Native.Nat.{_+_, _*_, _≤_, _<_};
+ghost use lib.ListN.{length};
 ghost use Rattle.job.specs.Layout.{maxGates};
-ghost use Rattle.job.specs.Record.{gateKind, gateA, gateB};
 ghost use Rattle.gates.specs.Form.{kindForm};
-ghost use Rattle.tables.specs.Lines.{maxRows, rowOf, inputLine, inputRows, gateLine, gateRows, fixedLines, Roomy, Planned, Formed, Fixable};
-ghost use Rattle.tables.specs.Work.{Sound, Good, Fixes, Faulty};
+ghost use Rattle.tables.specs.Lines.{maxLines, Spaced, Moved, Formed, GateStep};
+ghost use Rattle.tables.specs.Work.{maxTableBytes, Sound, Filled, Good, Fixes, Fixed, Followed, Placed, firstLine, faultFix};
 use crate::rows::Shape;
 use gates::Form;
 use job::BinaryKind;
@@ -14,14 +15,13 @@ use job::Fault;
 use job::Gate;
 use job::Job;
 use job::MAX_GATES;
+use job::MAX_INPUTS;
 
-// Where the lines of a circuit have their rows: lines below `start` are as in the good circuit and share its rows, the others have
-// theirs `shift` rows further on. Lines `low` and `high` are fixed, and their rows are filled first.
-struct Plan {
-    start: usize,
-    shift: usize,
-    low: usize,
-    high: usize,
+pub(crate) const MAX_LINES: usize = MAX_INPUTS + MAX_GATES;
+
+// Where in the rows the table of each line of a circuit starts.
+pub(crate) struct Places {
+    pub(crate) of: [usize; MAX_LINES],
 }
 
 // The polynomial of each gate, worked out once for all circuits.
@@ -64,87 +64,60 @@ fn bridge_form(is_and: bool, keep: u8) -> Form
     }
 }
 
-// The row of a line.
-fn row_of(plan: Plan, line: usize) -> usize
-    requires { ⌜ plan .shift + line < maxRows ⌝ }
-    ensures { λ r. ⌜ r ≡ rowOf plan line ⌝ }
+// The places of the good circuit's tables, row after row.
+pub(crate) fn good_places(bytes: usize) -> Places
+    requires { ⌜ bytes ≤ maxTableBytes ⌝ }
+    ensures { λ r. ⌜ Spaced bytes maxLines (r .of) ⌝ }
 {
-    if line < plan.start {
-        line
-    } else {
-        plan.shift + line
+    let mut places = Places { of: [0; MAX_LINES] };
+    let mut line = 0;
+    while line < MAX_LINES {
+        places.of[line] = line * bytes;
+        line += 1;
     }
+    places
 }
 
-// The rows of the inputs from `plan.start` on, but for the fixed ones.
-fn input_rows(rows: &mut [u8], plan: Plan, shape: Shape)
-    requires { ⌜ Roomy shape plan (shape .inputs) (now rows) ⌝ }
-    ensures { λ r. ⌜ now (rows .exit) ≡ inputRows shape plan (now (rows .entry)) ⌝ }
+// The places before the gates that follow the fault are worked out: those of the good circuit, but rows of their own for the fixed lines.
+fn fixed_places(lines: usize, low: usize, high: usize, bytes: usize) -> Places
+    requires { ⌜ (bytes ≤ maxTableBytes) × (lines ≤ maxLines) × (low < lines) × (high < lines) ⌝ }
+    ensures { λ r. ⌜ Moved lines low high bytes (r .of) ⌝ }
 {
-    let start = plan.start;
-    let inputs = shape.inputs;
-    let mut line = start;
-    while line < inputs {
-        input_line(rows, line, plan, shape);
+    let mut places = good_places(bytes);
+    places.of[low] = (lines + low) * bytes;
+    places.of[high] = (lines + high) * bytes;
+    places
+}
+
+// The rows of the inputs.
+fn input_rows(rows: &mut [u8], job: Job, shape: Shape)
+    requires { ⌜ Sound job shape (now rows) ⌝ }
+    ensures { λ r. ⌜ Filled job (job .inputs) (now (rows .exit)) ⌝ }
+{
+    let bytes = shape.bytes;
+    let mut line = 0;
+    while line < job.inputs as usize {
+        crate::rows::input_row(rows, line, line * bytes, shape);
         line += 1;
     }
 }
 
-// The row of one input, unless the input is fixed.
-fn input_line(rows: &mut [u8], line: usize, plan: Plan, shape: Shape)
-    requires { ⌜ Roomy shape plan (line + 1) (now rows) × (line < shape .inputs) ⌝ }
-    ensures { λ r. ⌜ now (rows .exit) ≡ inputLine shape plan line (now (rows .entry)) ⌝ }
+// The rows of the gates, each from the rows of the lines that it reads.
+fn gate_rows(rows: &mut [u8], job: Job, forms: Forms, shape: Shape)
+    requires { ⌜ Sound job shape (now rows) × Formed job (shape .keep) forms × Filled job (job .inputs) (now rows) ⌝ }
+    ensures { λ r. ⌜ Good job (now (rows .exit)) ⌝ }
 {
-    let low = plan.low;
-    let high = plan.high;
-    if line == low {
-        return;
-    }
-    if line == high {
-        return;
-    }
-    crate::rows::input_row(rows, line, row_of(plan, line) * shape.bytes, shape);
-}
-
-// The row of a gate's line, unless the line is fixed. The rows of the lines that the gate reads are filled before.
-fn gate_line(rows: &mut [u8], gate: Gate, form: Form, line: usize, plan: Plan, shape: Shape)
-    requires { ⌜ Roomy shape plan (line + 1) (now rows) × (gateA gate < line) × (gateB gate < line) × (form ≡ kindForm (gateKind gate) (shape .keep)) ⌝ }
-    ensures { λ r. ⌜ now (rows .exit) ≡ gateLine shape plan gate line (now (rows .entry)) ⌝ }
-{
-    let low = plan.low;
-    let high = plan.high;
-    if line == low {
-        return;
-    }
-    if line == high {
-        return;
-    }
-    let x = row_of(plan, gate.first()) * shape.bytes;
-    let y = row_of(plan, gate.second()) * shape.bytes;
-    gates::combine(
-        rows,
-        x,
-        y,
-        row_of(plan, line) * shape.bytes,
-        shape.bytes,
-        form,
-    );
-}
-
-// The rows of the gates from `plan.start` on, but for the fixed ones.
-fn gate_rows(rows: &mut [u8], job: Job, forms: Forms, plan: Plan, shape: Shape)
-    requires { ⌜ Planned job shape plan (now rows) × Formed job (shape .keep) forms ⌝ }
-    ensures { λ r. ⌜ now (rows .exit) ≡ gateRows job shape plan (now (rows .entry)) ⌝ }
-{
-    let inputs = shape.inputs;
+    let inputs = job.inputs as usize;
     let count = job.gate_count as usize;
-    let start = plan.start;
-    let mut q = if inputs < start { start - inputs } else { 0 };
+    let bytes = shape.bytes;
+    let mut q = 0;
     while q < count {
         let entry = job.gates[q];
         let gate = entry.gate;
         let form = forms.of[q];
-        gate_line(rows, gate, form, inputs + q, plan, shape);
+        let x = gate.first() * bytes;
+        let y = gate.second() * bytes;
+        gates::combine(rows, x, y, (inputs + q) * bytes, bytes, form);
         q += 1;
     }
 }
@@ -154,59 +127,109 @@ pub(crate) fn good_circuit(rows: &mut [u8], job: Job, forms: Forms, shape: Shape
     requires { ⌜ Sound job shape (now rows) × Formed job (shape .keep) forms ⌝ }
     ensures { λ r. ⌜ Good job (now (rows .exit)) ⌝ }
 {
-    let lines = job.inputs as usize + job.gate_count as usize;
-    let plan = Plan {
-        start: 0,
-        shift: 0,
-        low: lines,
-        high: lines,
-    };
-    input_rows(rows, plan, shape);
-    gate_rows(rows, job, forms, plan, shape);
+    input_rows(rows, job, shape);
+    gate_rows(rows, job, forms, shape);
 }
 
-// Works out the circuit with a fault from the fault's lower line on; the answer is the place of its output's table.
+// Works out the circuit with a fault, from the good circuit's rows: the fixed lines first, then the gates behind the lower of them.
 pub(crate) fn faulty_circuit(
     rows: &mut [u8],
     job: Job,
     forms: Forms,
     fault: Fault,
     shape: Shape,
-) -> usize
+) -> Places
     requires { ⌜ Sound job shape (now rows) × Formed job (shape .keep) forms × Good job (now rows) × Fixes job fault ⌝ }
-    ensures { λ r. ⌜ Faulty job fault r (now (rows .exit)) ⌝ }
+    ensures { λ r. ⌜ Placed (faultFix job fault) job (r .of) (now (rows .exit)) ⌝ }
 {
     let lines = job.inputs as usize + job.gate_count as usize;
-    let low = fault.first();
-    let high = fault.second();
-    let plan = Plan {
-        start: low,
-        shift: lines,
-        low,
-        high,
-    };
-    fix_rows(rows, fault, plan, shape);
-    input_rows(rows, plan, shape);
-    gate_rows(rows, job, forms, plan, shape);
-    row_of(plan, job.output as usize) * shape.bytes
+    fix_rows(rows, job, fault, shape);
+    let places = fixed_places(lines, fault.first(), fault.second(), shape.bytes);
+    follow(rows, places, job, forms, fault, shape)
 }
 
-// The rows of the lines that a fault fixes.
-fn fix_rows(rows: &mut [u8], fault: Fault, plan: Plan, shape: Shape)
-    requires { ⌜ Fixable fault shape plan (now rows) ⌝ }
-    ensures { λ r. ⌜ now (rows .exit) ≡ fixedLines shape plan fault (now (rows .entry)) ⌝ }
+// The rows of the lines that a fault fixes, behind the good circuit's.
+fn fix_rows(rows: &mut [u8], job: Job, fault: Fault, shape: Shape)
+    requires { ⌜ Sound job shape (now rows) × Good job (now rows) × Fixes job fault ⌝ }
+    ensures { λ r. ⌜ Fixed job fault (now (rows .exit)) ⌝ }
 {
+    let lines = job.inputs as usize + job.gate_count as usize;
     let bytes = shape.bytes;
     match fault {
         Fault::Stuck(line, level) => {
-            crate::rows::level_row(rows, level, row_of(plan, line as usize) * bytes, shape);
+            crate::rows::level_row(rows, level, (lines + line as usize) * bytes, shape);
         }
         Fault::Bridge(low, high, is_and) => {
             let x = low as usize * bytes;
             let y = high as usize * bytes;
             let form = bridge_form(is_and, shape.keep);
-            gates::combine(rows, x, y, row_of(plan, low as usize) * bytes, bytes, form);
-            gates::combine(rows, x, y, row_of(plan, high as usize) * bytes, bytes, form);
+            gates::combine(rows, x, y, (lines + low as usize) * bytes, bytes, form);
+            gates::combine(rows, x, y, (lines + high as usize) * bytes, bytes, form);
         }
     }
+}
+
+// The gates behind the fault's lower line, in order; a fixed line keeps what it is fixed at.
+fn follow(
+    rows: &mut [u8],
+    start: Places,
+    job: Job,
+    forms: Forms,
+    fault: Fault,
+    shape: Shape,
+) -> Places
+    requires { ⌜ Sound job shape (now rows) × Formed job (shape .keep) forms × Followed job fault (firstLine job fault) (start .of) (now rows) ⌝ }
+    ensures { λ r. ⌜ Placed (faultFix job fault) job (r .of) (now (rows .exit)) ⌝ }
+{
+    let inputs = job.inputs as usize;
+    let count = job.gate_count as usize;
+    let bytes = shape.bytes;
+    let low = fault.first();
+    let high = fault.second();
+    let limit = (inputs + count) * bytes;
+    let mut places = start;
+    let mut q = if inputs <= low { low + 1 - inputs } else { 0 };
+    while q < count {
+        let entry = job.gates[q];
+        let gate = entry.gate;
+        let form = forms.of[q];
+        let first = gate.first();
+        let second = gate.second();
+        let x = places.of[first];
+        let y = places.of[second];
+        let line = inputs + q;
+        let place = gate_place(rows, x, y, line, high, limit, form, bytes);
+        places.of[line] = place;
+        q += 1;
+    }
+    places
+}
+
+// The place of a gate's table, given the places of the tables that the gate reads. Rows of the good circuit are below `limit`: a gate that reads
+// two of them answers as in the good circuit, so that it shares that row.
+fn gate_place(
+    rows: &mut [u8],
+    x: usize,
+    y: usize,
+    line: usize,
+    high: usize,
+    limit: usize,
+    form: Form,
+    bytes: usize,
+) -> usize
+    requires { ⌜ limit + line * bytes + bytes ≤ length (now rows) ⌝ }
+    ensures { λ r. ⌜ GateStep x y line high limit bytes form (now (rows .entry)) r (now (rows .exit)) ⌝ }
+{
+    let good = line * bytes;
+    let own = limit + good;
+    if line == high {
+        return own;
+    }
+    if x < limit {
+        if y < limit {
+            return good;
+        }
+    }
+    gates::combine(rows, x, y, own, bytes, form);
+    own
 }

@@ -5,13 +5,14 @@ ghost use lib.ListN.{length};
 ghost use Rattle.bits.specs.Answer.{outcome, leaves};
 ghost use Rattle.gates.specs.Form.{tableBytes};
 ghost use Rattle.gates.specs.Rows.{part, splice};
-ghost use Rattle.tables.specs.Circuit.{circuitTable};
+ghost use Rattle.tables.specs.Circuit.{circuitTable, fixingOf};
 ghost use Rattle.tables.specs.Lines.{Formed};
 ghost use Rattle.tables.specs.Operations.{tableOf, tablesOf, tablesTo, tablesTold};
-ghost use Rattle.tables.specs.Work.{Sound, Good, Table};
+ghost use Rattle.tables.specs.Work.{Sound, Good, Placed};
 use bits::Outcome;
 use bits::Refusal;
 use circuit::Forms;
+use circuit::Places;
 use job::Job;
 use job::MAX_GATES;
 use job::MAX_INPUTS;
@@ -97,13 +98,13 @@ fn copy(out: &mut [u8], to: usize, rows: &[u8], at: usize, count: usize)
     }
 }
 
-// Works out one circuit; the answer is the place of its table in the rows.
-fn table_row(rows: &mut [u8], job: Job, forms: Forms, circuit: usize, shape: Shape) -> usize
+// Works out one circuit; the answer is where the tables of its lines stand in the rows.
+fn circuit_places(rows: &mut [u8], job: Job, forms: Forms, circuit: usize, shape: Shape) -> Places
     requires { ⌜ Sound job shape (now rows) × Formed job (shape .keep) forms × Good job (now rows) × (circuit ≤ job .«fault_count») ⌝ }
-    ensures { λ r. ⌜ Table job circuit r (now (rows .exit)) ⌝ }
+    ensures { λ r. ⌜ Placed (fixingOf job circuit) job (r .of) (now (rows .exit)) ⌝ }
 {
     if circuit == 0 {
-        return job.output as usize * shape.bytes;
+        return circuit::good_places(shape.bytes);
     }
     let entry = job.faults[circuit - 1];
     let fault = entry.fault;
@@ -117,8 +118,9 @@ fn put_table(out: &mut [u8], rows: &mut [u8], job: Job, circuit: usize, shape: S
 {
     let forms = circuit::forms_of(job, shape.keep);
     circuit::good_circuit(rows, job, forms, shape);
-    let at = table_row(rows, job, forms, circuit, shape);
-    copy(out, 0, rows, at, shape.bytes);
+    let places = circuit_places(rows, job, forms, circuit, shape);
+    let output = job.output as usize;
+    copy(out, 0, rows, places.of[output], shape.bytes);
 }
 
 // The tables of all circuits, from the start of the lent bytes on.
@@ -130,10 +132,11 @@ fn put_tables(out: &mut [u8], rows: &mut [u8], job: Job, shape: Shape)
     let bytes = shape.bytes;
     let forms = circuit::forms_of(job, shape.keep);
     circuit::good_circuit(rows, job, forms, shape);
+    let output = job.output as usize;
     let mut c = 0;
     while c < circuits {
-        let at = table_row(rows, job, forms, c, shape);
-        copy(out, c * bytes, rows, at, bytes);
+        let places = circuit_places(rows, job, forms, c, shape);
+        copy(out, c * bytes, rows, places.of[output], bytes);
         c += 1;
     }
 }

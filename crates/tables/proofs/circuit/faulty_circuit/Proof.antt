@@ -1,11 +1,9 @@
--- `tables::circuit::faulty_circuit` meets its contract: the plan is the fault's, so the rows hold the tables of the circuit's lines with the fault,
--- and those of the good circuit stay.
-use borrow.Author.Needs.{needs}
-use native.Mathlib.Nat.{le-refl}
+-- `tables::circuit::faulty_circuit` meets its contract: the fixed lines are placed, and then the gates that follow them.
 use mathlib.Core.Path.{_∙_}
-use Rattle.job.specs.Record.{lines}
-use Rattle.tables.proofs.Circuits.{planFrom, fault-fixable, faulty-made}
-use Rattle.tables.proofs.Space.{inputs-roomy, sound-planned, output-fits}
+use borrow.Author.Needs.{needs}
+use Rattle.tables.proofs.Faults.{first-line, second-line}
+use Rattle.tables.proofs.Following.{follow-start}
+use Rattle.tables.proofs.Space.{lines-most, shape-bytes, bytes-most, sound-kept}
 use Rattle.tables.proofs.circuit.faulty_circuit.Statement.{statement}
 use Rattle.tables.proofs.circuit.faulty_circuit.Tie as tie
 
@@ -18,75 +16,39 @@ cast-lines-2 c = search needs
 add-lines : tie.Need-add-lines
 add-lines c = search needs
 
+fix-rows-requires : tie.Need-fix-rows-requires
+fix-rows-requires c κs = (c .before .before .before .before .pre .0, c .before .before .before .before .pre .2, c .before .before .before .before .pre .3)
+
 first-requires : tie.Need-first-requires
 first-requires c κs = tt
 
 second-requires : tie.Need-second-requires
 second-requires c κs = tt
 
-fix-rows-requires : tie.Need-fix-rows-requires
-fix-rows-requires c κs =
-    let start = c .before .before .before .before .before .before in
-    let first = c .before .before .first in
-    let second = c .before .second in
-    fault-fixable (start .args .job) (start .args .fault) (first .result) (second .result) (first .ensures) (second .ensures)
-    (start .args .shape) (start .args .rows .now) (start .pre .3) (start .pre .0)
-
-input-rows-requires : tie.Need-input-rows-requires
-input-rows-requires c κs =
-    let start = c .before .before .before .before .before .before .before .before .before .before in
-    let first = c .before .before .before .before .before .before .first in
-    let second = c .before .before .before .before .before .second in
-    let fix-rows = c .before .before .before .fix-rows in
-    inputs-roomy (start .args .job) (start .args .shape) (planFrom (start .args .job) (first .result) (second .result))
-    (start .args .rows .now) (le-refl (lines (start .args .job))) (start .pre .0)
-    (fix-rows .last .0) (fix-rows .kept .0)
-
-gate-rows-requires : tie.Need-gate-rows-requires
-gate-rows-requires c κs =
-    let start = c .before .before .before .before .before .before .before .before .before .before .before .before .before .before in
-    let first = c .before .before .before .before .before .before .before .before .before .before .first in
-    let second = c .before .before .before .before .before .before .before .before .before .second in
-    let input-rows = c .before .before .before .input-rows in
-    let fix-rows = c .before .before .before .before .before .before .before .fix-rows in (
-      sound-planned (start .args .job) (start .args .shape) (planFrom (start .args .job) (first .result) (second .result))
-          (start .args .rows .now) (le-refl (lines (start .args .job))) (start .pre .0)
-          (input-rows .last .0) (input-rows .kept .0 ∙ fix-rows .kept .0),
-      start .pre .1,
+fixed-places-requires : tie.Need-fixed-places-requires
+fixed-places-requires c κs =
+    let a = c .before .before .before .before .before .before .before .before .before .args in (
+      bytes-most (a .job) (a .shape) (a .rows .now) (c .before .before .before .before .before .before .before .before .before .pre .0),
+      lines-most (a .job) (c .before .before .before .before .before .before .before .before .before .pre .0 .valid),
+      first-line (a .job) (a .fault) (c .before .before .before .before .before .before .before .before .before .pre .3) (c .before .first .ensures),
+      second-line (a .job) (a .fault) (c .before .before .before .before .before .before .before .before .before .pre .3) (c .second .ensures),
     )
 
-cast-row-of : tie.Need-cast-row-of
-cast-row-of c = search needs
-
-row-of-requires : tie.Need-row-of-requires
-row-of-requires c κs = search needs
-
-mul-result : tie.Need-mul-result
-mul-result c =
-    let start = c .before .before .before .before .before .before .before .before .before .before .before .before .before .before .before .before .before .before .before .before in
-    let first = c .before .before .before .before .before .before .before .before .before .before .before .before .before .before .before .before .first in
-    let second = c .before .before .before .before .before .before .before .before .before .before .before .before .before .before .before .second in
-    let row-of = c .before .row-of in
-    output-fits (start .args .job) (start .args .shape) (planFrom (start .args .job) (first .result) (second .result))
-    (start .args .rows .now) (le-refl (lines (start .args .job))) (start .pre .0)
-    (row-of .result) (row-of .ensures) (start .good .0 .0)
+follow-requires : tie.Need-follow-requires
+follow-requires c κs =
+    let a = c .before .before .before .before .before .before .before .before .before .before .before .args in (
+      sound-kept (a .job) (a .shape) (a .rows .now) (c .before .before .before .before .before .before .before .before .before .before .before .pre .0) (c .before .before .before .before .before .before .fix-rows .last .0) (c .before .before .before .before .before .before .fix-rows .kept .0),
+      c .before .before .before .before .before .before .before .before .before .before .before .pre .1,
+      follow-start (a .job) (a .fault) (c .before .fixed-places .result .of) (c .before .before .before .before .before .before .fix-rows .last .0) (c .before .before .before .before .before .before .fix-rows .ensures) (a .shape .bytes) (c .before .before .before .first .result)
+          (c .before .before .second .result) (shape-bytes (a .job) (a .shape) (a .rows .now) (c .before .before .before .before .before .before .before .before .before .before .before .pre .0)) (c .before .before .before .first .ensures) (c .before .before .second .ensures)
+          (lines-most (a .job) (c .before .before .before .before .before .before .before .before .before .before .before .pre .0 .valid)) (c .before .fixed-places .ensures),
+    )
 
 same-length : tie.Need-same-length
-same-length c = c .before .before .before .before .before .gate-rows .kept .0 ∙ c .before .before .before .before .before .before .before .before .before .input-rows .kept .0 ∙ c .before .before .before .before .before .before .before .before .before .before .before .before .before .fix-rows .kept .0
+same-length c = c .before .before .follow .kept .0 ∙ c .before .before .before .before .before .before .before .before .before .fix-rows .kept .0
 
 returns : tie.Need-returns
-returns c =
-    let start = c .before .before .before .before .before .before .before .before .before .before .before .before .before .before .before .before .before .before .before .before in
-    let first = c .before .before .before .before .before .before .before .before .before .before .before .before .before .before .before .before .first in
-    let second = c .before .before .before .before .before .before .before .before .before .before .before .before .before .before .before .second in
-    let fix-rows = c .before .before .before .before .before .before .before .before .before .before .before .before .before .fix-rows in
-    let input-rows = c .before .before .before .before .before .before .before .before .before .input-rows in
-    let gate-rows = c .before .before .before .before .before .gate-rows in
-    let row-of = c .before .row-of in
-    faulty-made (start .args .job) (start .args .fault) (first .result) (second .result) (first .ensures) (second .ensures)
-    (start .args .shape) (start .args .rows .now) (fix-rows .last .0) (input-rows .last .0) (gate-rows .last .0) (row-of .result)
-    (start .pre .3) (start .pre .0) (start .pre .2)
-    (fix-rows .ensures) (input-rows .ensures) (gate-rows .ensures) (row-of .ensures)
+returns c = c .before .before .follow .ensures
 
 pub faulty-circuit-spec : {M : Type 1} → statement M
 faulty-circuit-spec =
@@ -95,13 +57,10 @@ faulty-circuit-spec =
     cast-lines
     cast-lines-2
     add-lines
+    fix-rows-requires
     first-requires
     second-requires
-    fix-rows-requires
-    input-rows-requires
-    gate-rows-requires
-    cast-row-of
-    row-of-requires
-    mul-result
+    fixed-places-requires
+    follow-requires
     same-length
     returns)

@@ -1,112 +1,93 @@
--- `tables::circuit::gate_rows` meets its contract. The loop's invariant: the list keeps its length, and the gates that are left, done from
--- here, give what all of them give from the entry. The measure is the number of gates left.
-use Prim.Native.Nat.{ℕ, _-_}
+-- `tables::circuit::gate_rows` meets its contract: each turn fills the row of one gate.
+use Prim.Native.Nat.{_+_, _-_}
 use native.Mathlib.Omega.{arith}
+use mathlib.Core.Path.{_≡_, refl, _∙_}
+use borrow.Author.Count.{falls}
 use borrow.Author.Needs.{needs}
-use mathlib.Core.Logic.{⊎-elim}
-use mathlib.Core.Path.{_≡_, refl, sym, ap, _∙_}
 use lib.ListN.{length}
-use Rattle.tables.specs.Lines.{gateLines}
-use Rattle.tables.proofs.Lines.{gates-end, gates-turn}
-use Rattle.tables.proofs.Space.{gate-index, gate-ready}
+use Rattle.tables.specs.Work.{Filled}
+use Rattle.tables.proofs.Filling.{filled-gate, filled-fewer}
+use Rattle.tables.proofs.Space.{gate-index, sound-kept, gate-fits, first-fits, second-fits}
 use Rattle.tables.proofs.circuit.gate_rows.Statement.{statement}
 use Rattle.tables.proofs.circuit.gate_rows.Tie as tie
 
 abbrev Inv-loop : tie.InvT-loop
-Inv-loop rows₀ plan shape job forms inputs count start q₀ rows q =
-    (length rows ≡ length rows₀)
-    × (gateLines job shape plan (job .«gate_count» - (plan .start - shape .inputs)) (plan .start - shape .inputs) rows₀
-    ≡ gateLines job shape plan (job .«gate_count» - q) q rows)
+Inv-loop rows₀ job forms inputs count bytes q₀ rows q = (length rows ≡ length rows₀) × Filled job (job .inputs + q) rows
 
 abbrev μ-loop : tie.MeasureT-loop
-μ-loop rows₀ plan shape job forms inputs count start q₀ rows q = count - q
+μ-loop rows₀ job forms inputs count bytes q₀ rows q = count - q
+
+cast-inputs : tie.Need-cast-inputs Inv-loop μ-loop
+cast-inputs c = search needs
 
 cast-count : tie.Need-cast-count Inv-loop μ-loop
 cast-count c = search needs
 
-sub-q : tie.Need-sub-q Inv-loop μ-loop
-sub-q c = omega (arith, c .if1 .taken)
-
 loop-holds : tie.Need-loop-holds Inv-loop μ-loop
-loop-holds c =
-    let start = c .before .before in
-    let if1 = c .if1 in
-    let e : if1 .q ≡ start .args .plan .start - start .args .shape .inputs = ⊎-elim (λ w. omega arith) (λ w. omega arith) (if1 .came) in (
-      refl,
-      ap (λ (k : ℕ). gateLines (start .args .t2) (start .args .shape) (start .args .plan) (start .args .t2 .«gate_count» - k) k
-          (start .args .rows .now)) (sym e),
-    )
+loop-holds c = (refl, filled-fewer (c .before .args .t2) _ (c .before .args .t2 .inputs) (c .before .args .rows .now) (omega arith) (c .before .pre .2))
 
 mul-entry : tie.Need-mul-entry Inv-loop μ-loop
-mul-entry c =
-    let start = c .before .before .before .before .before in
-    let loop-test = c .before .loop-test in
-    omega (arith, gate-index (loop-test .taken) (start .pre .0 .valid .gates-few))
+mul-entry c = omega (arith, gate-index (c .loop-test .taken) (c .before .before .before .pre .0 .valid .gates-few))
 
 element-copy-out-entry : tie.Need-element-copy-out-entry Inv-loop μ-loop
-element-copy-out-entry c =
-    let start = c .before .before .before .before .before in
-    let loop-test = c .before .loop-test in
-    gate-index (loop-test .taken) (start .pre .0 .valid .gates-few)
+element-copy-out-entry c = gate-index (c .loop-test .taken) (c .before .before .before .pre .0 .valid .gates-few)
 
 mul-form : tie.Need-mul-form Inv-loop μ-loop
-mul-form c =
-    let start = c .before .before .before .before .before .before in
-    let loop-test = c .before .before .loop-test in
-    omega (arith, gate-index (loop-test .taken) (start .pre .0 .valid .gates-few))
+mul-form c = omega (arith, gate-index (c .before .loop-test .taken) (c .before .before .before .before .pre .0 .valid .gates-few))
 
 element-copy-out-form : tie.Need-element-copy-out-form Inv-loop μ-loop
-element-copy-out-form c =
-    let start = c .before .before .before .before .before .before in
-    let loop-test = c .before .before .loop-test in
-    gate-index (loop-test .taken) (start .pre .0 .valid .gates-few)
+element-copy-out-form c = gate-index (c .before .loop-test .taken) (c .before .before .before .before .pre .0 .valid .gates-few)
 
-add-gate-line : tie.Need-add-gate-line Inv-loop μ-loop
-add-gate-line c =
-    let start = c .before .before .before .before .before .before .before .before in
-    let loop-test = c .before .before .before .before .loop-test in
-    omega (arith, start .pre .0 .roomy .few, gate-index (loop-test .taken) (start .pre .0 .valid .gates-few))
+first-requires : tie.Need-first-requires Inv-loop μ-loop
+first-requires c κs = tt
 
-gate-line-requires : tie.Need-gate-line-requires Inv-loop μ-loop
-gate-line-requires c κs =
-    let start = c .before .before .before .before .before .before .before .before in
-    let loop = c .before .before .before .before .before .loop in
-    let loop-test = c .before .before .before .before .loop-test in
-    let ready = gate-ready (start .args .t2) (start .args .shape) (start .args .plan) (start .args .rows .now) (start .pre .0) (loop .q) (loop-test .taken)
-    (loop .rows) (loop .inv .0) in
-    (ready .0, ready .1, ready .2, start .pre .1 .form (loop .q) (loop-test .taken))
+mul-x : tie.Need-mul-x Inv-loop μ-loop
+mul-x c =
+    let a = c .before .before .before .before .before .before .args in
+    first-fits (a .t2) (a .shape) (a .rows .now) (c .before .before .before .before .before .before .pre .0) (c .before .before .before .before .before .before .good .0 .0) (c .before .before .before .before .loop .q) (c .before .before .before .loop-test .taken) (c .first .ensures)
+
+second-requires : tie.Need-second-requires Inv-loop μ-loop
+second-requires c κs = tt
+
+mul-y : tie.Need-mul-y Inv-loop μ-loop
+mul-y c =
+    let a = c .before .before .before .before .before .before .before .args in
+    second-fits (a .t2) (a .shape) (a .rows .now) (c .before .before .before .before .before .before .before .pre .0) (c .before .before .before .before .before .before .before .good .0 .0) (c .before .before .before .before .before .loop .q) (c .before .before .before .before .loop-test .taken) (c .second .ensures)
+
+add-combine : tie.Need-add-combine Inv-loop μ-loop
+add-combine c = omega (arith, c .before .before .before .before .before .before .before .before .pre .0 .valid .few, gate-index (c .before .before .before .before .before .loop-test .taken) (c .before .before .before .before .before .before .before .before .pre .0 .valid .gates-few))
+
+mul-combine : tie.Need-mul-combine Inv-loop μ-loop
+mul-combine c =
+    let a = c .before .before .before .before .before .before .before .before .args in
+    gate-fits (a .t2) (a .shape) (a .rows .now) (c .before .before .before .before .before .before .before .before .pre .0) (c .before .before .before .before .before .before .before .before .good .0 .0) (c .before .before .before .before .before .before .loop .q) (c .before .before .before .before .before .loop-test .taken)
+
+combine-requires : tie.Need-combine-requires Inv-loop μ-loop
+combine-requires c κs = tt
 
 add-q : tie.Need-add-q Inv-loop μ-loop
-add-q c =
-    let start = c .before .before .before .before .before .before .before .before .before .before .before in
-    let loop-test = c .before .before .before .before .before .before .before .loop-test in
-    omega (arith, gate-index (loop-test .taken) (start .pre .0 .valid .gates-few))
+add-q c = omega (arith, gate-index (c .before .before .before .before .before .before .before .before .loop-test .taken) (c .before .before .before .before .before .before .before .before .before .before .before .pre .0 .valid .gates-few))
 
 loop-less : tie.Need-loop-less Inv-loop μ-loop
-loop-less c = omega arith
+loop-less c = falls _ _ (c .before .before .before .before .before .before .before .before .loop-test .taken)
 
 loop-again : tie.Need-loop-again Inv-loop μ-loop
 loop-again c =
-    let start = c .before .before .before .before .before .before .before .before .before .before .before in
-    let gate-line = c .before .before .gate-line in
-    let loop = c .before .before .before .before .before .before .before .before .loop in
-    let loop-test = c .before .before .before .before .before .before .before .loop-test in (
-      gate-line .kept .0 ∙ loop .inv .0,
-      loop .inv .1
-          ∙ gates-turn (start .args .shape) (start .args .plan) (start .args .t2) (start .args .t2 .«gate_count») (loop .q) (loop .rows)
-          (gate-line .last .0) (loop-test .taken) (gate-line .ensures),
+    let a = c .before .before .before .before .before .before .before .before .before .before .before .args in
+    let sound = c .before .before .before .before .before .before .before .before .before .before .before .pre .0 in
+    let loop = c .before .before .before .before .before .before .before .before .before .loop in
+    let combine = c .before .before .combine in (
+      combine .kept .0 ∙ loop .inv .0,
+      filled-gate (a .t2) (a .shape) (loop .rows) (combine .last .0) (sound-kept (a .t2) (a .shape) (a .rows .now) sound (loop .rows) (loop .inv .0))
+          (loop .q) (c .before .before .before .before .before .before .before .before .loop-test .taken) (loop .inv .1) (c .before .before .before .before .before .first .result) (c .before .before .before .before .second .result) (c .before .before .before .before .before .first .ensures) (c .before .before .before .before .second .ensures)
+          _ (c .before .before .before .before .before .before .before .before .before .before .before .pre .1 .form (loop .q) (c .before .before .before .before .before .before .before .before .loop-test .taken)) (combine .ensures),
     )
 
 same-length : tie.Need-same-length Inv-loop μ-loop
 same-length c = c .before .loop .inv .0
 
 returns : tie.Need-returns Inv-loop μ-loop
-returns c =
-    let start = c .before .before .before .before in
-    let loop = c .before .loop in
-    let loop-test = c .loop-test in
-    sym (loop .inv .1 ∙ gates-end (start .args .shape) (start .args .plan) (start .args .t2) (start .args .t2 .«gate_count») (loop .q)
-    (loop .rows) (loop-test .left))
+returns c = filled-fewer (c .before .before .before .args .t2) _ _ (c .before .loop .rows) (omega (arith, c .loop-test .left)) (c .before .loop .inv .1)
 
 pub gate-rows-spec : {M : Type 1} → statement M
 gate-rows-spec =
@@ -114,15 +95,20 @@ gate-rows-spec =
     (tie.spec
     Inv-loop
     μ-loop
+    cast-inputs
     cast-count
-    sub-q
     loop-holds
     mul-entry
     element-copy-out-entry
     mul-form
     element-copy-out-form
-    add-gate-line
-    gate-line-requires
+    first-requires
+    mul-x
+    second-requires
+    mul-y
+    add-combine
+    mul-combine
+    combine-requires
     add-q
     loop-less
     loop-again
