@@ -18,7 +18,7 @@ use mathlib.Core.Path.{_≡_, refl, sym, ap, ap₂, subst, _∙_}
 use mathlib.Core.Bool.{true}
 use mathlib.Core.List.{List, [], _∷_, _++_}
 use borrow.Author.Tests.{ltb-true}
-use lib.Dec.{ltb, lit<}
+use lib.Dec.{ltb}
 use mir.Syntax.{w64}
 use mir.Val.{Fits}
 use lib.ListN.{length, getD, take, drop, length-append, length-drop}
@@ -40,7 +40,8 @@ use Rattle.tables.specs.Circuit.{circuitEntry, circuitTable, fixingOf}
 use Rattle.tables.specs.Lines.{maxLines, placeOf, Spaced}
 use Rattle.tables.specs.Work.{maxTableBytes, rowBytes, lineValue, faultFix, Fixes, Sound, Good, Placed}
 use Rattle.tables.specs.Operations.{tablesTo}
-use Rattle.tables.proofs.Space.{tableBytes-most, shape-bytes, line-below, row-inside}
+use Rattle.tables.proofs.Sizes.{all-tables-fit}
+use Rattle.tables.proofs.Space.{tableBytes-most, shape-bytes, line-index, row-inside}
 
 pub tabulate-part : (rows : List ℕ) (at count : ℕ) → at + count ≤ length rows → tabulate count (λ i. getD rows (at + i) 0) ≡ part at count rows
 unfolding tabulate
@@ -73,11 +74,6 @@ sound j rows v h =
 pub sound-of : (j : Job) (shape : Shape) (rows : List ℕ) → Valid j → shape ≡ shapeOf (j .inputs) → length rows ≡ rowBytes → Sound j shape rows
 sound-of j shape rows v e h = subst (λ (x : Shape). Sound j x rows) (sym e) (sound j rows v h)
 
--- the bytes of the most and largest tables
-all-tables-fit : (maxFaults + 1) * maxTableBytes < 2 ^ 64
-unfolding maxFaults maxTableBytes
-all-tables-fit = lit< tt
-
 pub table-count-fits : (j : Job) → Valid j → Fits w64 ((j .«fault_count» + 1) * tableBytes (j .inputs))
 table-count-fits j v =
     let f : j .«fault_count» + 1 ≤ maxFaults + 1 = omega (arith, v .faults-few) in
@@ -105,7 +101,7 @@ placed-good j shape places rows c sound good is spaced =
     })
   where
     at : (l : ℕ) → l < lines j → placeOf places l ≡ l * tableBytes (j .inputs)
-    at l h = spaced .good l (line-below j (sound .valid) l h) ∙ ap (λ (k : ℕ). l * k) (shape-bytes j shape rows sound)
+    at l h = spaced .good l (line-index j (sound .valid) h) ∙ ap (λ (k : ℕ). l * k) (shape-bytes j shape rows sound)
 
 pub placed-faulty : (j : Job) (places rows : List ℕ) (c : ℕ) → (c ≡ 0 → ⊥) → Placed (faultFix j (faultAt j (c - 1))) j places rows
     → Placed (fixingOf j c) j places rows

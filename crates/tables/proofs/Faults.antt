@@ -29,6 +29,7 @@ use Rattle.gates.specs.Rows.{part, splice, stepFits}
 use Rattle.gates.specs.Values.{bridged}
 use Rattle.gates.specs.declared.Form.{Form}
 use Rattle.tables.specs.Circuit.{Fixing, free, valuesTo, fixedBy}
+use Rattle.tables.specs.Lines.{maxLines}
 use Rattle.tables.specs.Work.{lineValue, lineTable, rowAt, goodFix, faultFix, Sound, Good, Fixes, Fixed}
 use Rattle.tables.specs.declared.rows.Shape.{Shape}
 use Rattle.tables.proofs.Held.{Fitting, entry-table, put-table, row-put, row-kept}
@@ -43,7 +44,7 @@ module _ (j : Job) (x : Fault) (fixes : Fixes j x) where
   pub second-line : {high : ℕ} → high ≡ faultB x → high < lines j
   second-line e = omega (arith, fixes .high)
 
-  pub low-index : Valid j → {low : ℕ} → low ≡ faultA x → low < 72
+  pub low-index : Valid j → {low : ℕ} → low ≡ faultA x → low < maxLines
   low-index valid e = line-index j valid (first-line e)
 
   pub stuck-line : {l : ℕ} {level : Bool} → x ≡ Stuck l level → l < lines j

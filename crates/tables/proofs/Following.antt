@@ -32,7 +32,7 @@ use Rattle.tables.proofs.Faults.{fixedBy-loose, fault-fitting, good-kep
 use Rattle.tables.proofs.Filling.{good-fitting}
 use Rattle.tables.proofs.Held.{row-put, row-kept, gate-put, gate-same}
 use Rattle.tables.proofs.Shaped.{Below}
-use Rattle.tables.proofs.Space.{line-below, shape-bytes, sound-kept, row-inside, row-room}
+use Rattle.tables.proofs.Space.{line-index, shape-bytes, sound-kept, row-inside, row-room}
 use Rattle.tables.proofs.Values.{line-input, line-same, first-below, second-below}
 
 module _ (j : Job) (x : Fault) (places rows : List ℕ) (fixed : Fixed j x rows) where
@@ -128,7 +128,7 @@ module _ (j : Job) (x : Fault) (shape : Shape) (places rows : List ℕ) (sound :
       new = set places (j .inputs + q) place
 
       short : j .inputs + q < length places
-      short = omega (arith, followed .whole, line-below j (sound .valid) (j .inputs + q) (omega arith))
+      short = omega (arith, followed .whole, line-index j (sound .valid) {l = j .inputs + q} (omega arith))
 
       Done : ℕ → Type 0
       Done k = Shared j x k (placeOf new k) ⊎ Owned j x k (placeOf new k) after

@@ -9,7 +9,7 @@ use native.Mathlib.Omega.{arith}
 use mathlib.Core.Path.{_≡_, refl, _∙_}
 use mathlib.Core.List.{List}
 use borrow.Author.Count.{below-none, below-more}
-use lib.ListN.{length, getD, set, replicate, length-set}
+use lib.ListN.{length, getD, set, replicate, length-set, length-replicate}
 use lib.Seq.{getD-set-same, getD-set-other}
 use Rattle.job.specs.Layout.{maxGates}
 use Rattle.job.specs.Record.{gateKind, gateAt}
@@ -24,9 +24,8 @@ pub record Forming (j : Job) (keep : ℕ) (of : List Form) (q : ℕ) : Type 0 wh
   pub done : (k : ℕ) → k < q → getD of k noForm ≡ kindForm (gateKind (gateAt j k)) keep
 
 module _ (j : Job) (keep : ℕ) where
-  pub forming-none : Forming j keep (replicate 64 noForm) 0
-  unfolding maxGates
-  forming-none = record { whole = refl; done = below-none (λ (k : ℕ). getD (replicate 64 noForm) k noForm ≡ kindForm (gateKind (gateAt j k)) keep) }
+  pub forming-none : Forming j keep (replicate maxGates noForm) 0
+  forming-none = record { whole = length-replicate maxGates noForm; done = below-none (λ (k : ℕ). getD (replicate maxGates noForm) k noForm ≡ kindForm (gateKind (gateAt j k)) keep) }
 
   pub forming-next : (of : List Form) (q : ℕ) (form : Form) → Forming j keep of q → q < maxGates → form ≡ kindForm (gateKind (gateAt j q)) keep
       → Forming j keep (set of q form) (q + 1)

@@ -8,5 +8,6 @@ pub mod Held
 pub mod Placing
 pub mod Putting
 pub mod Shaped
+pub mod Sizes
 pub mod Space
 pub mod Values

@@ -3,7 +3,6 @@
 --   spaced-none     no place is worked out yet
 --   spaced-next     one more
 --   spaced-all      all are
---   lines-few, line-index   the lines of a circuit are indices of the places
 --   index-few       an index of the places is a line
 --   place-fits      the place of any line's row fits a word
 --   own-fits        so does that of its own row behind
@@ -16,22 +15,20 @@ use mathlib.Core.Bool.{Bool, true, false}
 use mathlib.Core.List.{List}
 use borrow.Author.Count.{below-none, below-more}
 use borrow.Author.Tests.{eqb-true, eqb-false}
-use lib.Dec.{eqb, lit<}
-use lib.ListN.{length, set, replicate, length-set}
+use lib.Dec.{eqb}
+use lib.ListN.{length, set, replicate, length-set, length-replicate}
 use lib.Seq.{getD-set-same, getD-set-other}
 use mir.Syntax.{w64}
 use mir.Val.{Fits}
-use Rattle.job.specs.Layout.{maxInputs, maxGates}
 use Rattle.tables.specs.Lines.{maxLines, placeOf, Spaced, Moved}
 use Rattle.tables.specs.Work.{maxTableBytes}
+use Rattle.tables.proofs.Sizes.{all-rows-fit}
 
 module _ (bytes : ℕ) where
-  pub spaced-none : Spaced bytes 0 (replicate 72 0)
-  unfolding maxInputs maxGates
-  spaced-none = record { whole = refl; good = below-none (λ (l : ℕ). placeOf (replicate 72 0) l ≡ l * bytes) }
+  pub spaced-none : Spaced bytes 0 (replicate maxLines 0)
+  spaced-none = record { whole = length-replicate maxLines 0; good = below-none (λ (l : ℕ). placeOf (replicate maxLines 0) l ≡ l * bytes) }
 
-  pub spaced-next : (places : List ℕ) (l : ℕ) → Spaced bytes l places → l < 72 → Spaced bytes (l + 1) (set places l (l * bytes))
-  unfolding maxInputs maxGates
+  pub spaced-next : (places : List ℕ) (l : ℕ) → Spaced bytes l places → l < maxLines → Spaced bytes (l + 1) (set places l (l * bytes))
   spaced-next places l s h =
       record {
         whole = length-set places l (l * bytes) ∙ s .whole;
@@ -41,24 +38,10 @@ module _ (bytes : ℕ) where
             (getD-set-same places l (l * bytes) 0 (omega (arith, s .whole)));
       }
 
-  pub spaced-all : (places : List ℕ) (l : ℕ) → Spaced bytes l places → 72 ≤ l → Spaced bytes maxLines places
-  unfolding maxInputs maxGates
+  pub spaced-all : (places : List ℕ) (l : ℕ) → Spaced bytes l places → maxLines ≤ l → Spaced bytes maxLines places
   spaced-all places l s h = record { whole = s .whole; good = λ k less. s .good k (omega arith) }
 
--- the rows of the largest good circuit and of a faulty one
-all-rows-fit : (maxLines + maxLines) * maxTableBytes < 2 ^ 64
-unfolding maxInputs maxGates maxTableBytes
-all-rows-fit = lit< tt
-
-pub lines-few : {lines : ℕ} → lines ≤ maxLines → lines ≤ 72
-unfolding maxInputs maxGates
-lines-few h = omega arith
-
-pub line-index : {lines l : ℕ} → lines ≤ maxLines → l < lines → l < 72
-line-index few h = omega (arith, lines-few few)
-
-pub index-few : {l : ℕ} → l < 72 → l ≤ maxLines + maxLines
-unfolding maxInputs maxGates
+pub index-few : {l : ℕ} → l < maxLines → l ≤ maxLines + maxLines
 index-few h = omega arith
 
 pub place-fits : (r bytes : ℕ) → bytes ≤ maxTableBytes → r ≤ maxLines + maxLines → Fits w64 (r * bytes)

@@ -2,7 +2,7 @@
 --
 --   gate-index       a gate's number is an index of the record's gates
 --   lines-most       the lines of a valid job are no more than those of the largest circuit
---   line-below, line-index   so each of them is an index of the places
+--   line-index       so each of them is an index of the places
 --   gate-line-index, first-index, second-index   so are a gate's line and the lines that it reads
 --   input-row        an input has a row
 --   good-row, own-row   a line has a row of the good circuit, and one of the faulty circuit
@@ -20,7 +20,7 @@
 --   first-fits, second-fits   so do those of the lines that the gate reads
 --   own-inside       a gate's own row behind the good circuit's lies within the rows
 use Prim.Native.Nat.{ℕ, _+_, _*_, _^_, _≤_, _<_}
-use native.Mathlib.Nat.{mul-le-mul-right, suc-mul, add-mul}
+use native.Mathlib.Nat.{le-trans, mul-le-mul-right, suc-mul, add-mul}
 use native.Mathlib.Omega.{arith}
 use mathlib.Core.Path.{_≡_, sym, ap, subst, _∙_}
 use mathlib.Core.List.{List}
@@ -28,6 +28,7 @@ use lib.ListN.{length}
 use lib.Pow.{pow-mono}
 use mir.Syntax.{w64}
 use mir.Val.{Fits}
+use Rattle.job.proofs.Sizes.{most-inputs}
 use Rattle.job.specs.Check.{Valid}
 use Rattle.job.specs.Layout.{maxInputs, maxGates}
 use Rattle.job.specs.Record.{gateA, gateB, gateAt, lines}
@@ -38,30 +39,26 @@ use Rattle.tables.specs.Lines.{maxLines}
 use Rattle.tables.specs.Work.{maxTableBytes, Sound}
 use Rattle.tables.specs.declared.rows.Shape.{Shape}
 use Rattle.tables.proofs.Shaped.{Below}
+use Rattle.tables.proofs.Sizes.{table-fits}
 use Rattle.tables.proofs.Values.{first-below, second-below}
 
-pub gate-index : {q count : ℕ} → q < count → count ≤ maxGates → q < 64
-unfolding maxGates
+pub gate-index : {q count : ℕ} → q < count → count ≤ maxGates → q < maxGates
 gate-index h few = omega arith
 
 pub lines-most : (j : Job) → Valid j → lines j ≤ maxLines
 lines-most j valid = omega (arith, valid .few, valid .gates-few)
 
-pub line-below : (j : Job) → Valid j → (l : ℕ) → l < lines j → l < maxLines
-line-below j valid l h = omega (arith, lines-most j valid)
-
-pub line-index : (j : Job) → Valid j → {l : ℕ} → l < lines j → l < 72
-unfolding maxInputs maxGates
+pub line-index : (j : Job) → Valid j → {l : ℕ} → l < lines j → l < maxLines
 line-index j valid h = omega (arith, lines-most j valid)
 
 module _ (j : Job) (valid : Valid j) (q : ℕ) (h : q < j .«gate_count») where
-  pub gate-line-index : j .inputs + q < 72
+  pub gate-line-index : j .inputs + q < maxLines
   gate-line-index = line-index j valid (omega arith)
 
-  pub first-index : {a : ℕ} → a ≡ gateA (gateAt j q) → a < 72
+  pub first-index : {a : ℕ} → a ≡ gateA (gateAt j q) → a < maxLines
   first-index e = line-index j valid (omega (arith, first-below j valid q h))
 
-  pub second-index : {b : ℕ} → b ≡ gateB (gateAt j q) → b < 72
+  pub second-index : {b : ℕ} → b ≡ gateB (gateAt j q) → b < maxLines
   second-index e = line-index j valid (omega (arith, second-below j valid q h))
 
 pub input-row : (j : Job) {l : ℕ} → l < j .inputs → l < 2 * lines j
@@ -74,8 +71,7 @@ pub own-row : (j : Job) {l : ℕ} → l < lines j → lines j + l < 2 * lines j
 own-row j h = omega arith
 
 pub tableBytes-most : (n : ℕ) → n ≤ maxInputs → tableBytes n ≤ maxTableBytes
-unfolding maxInputs maxTableBytes
-tableBytes-most n h = let p : 2 ^ n ≤ 256 = pow-mono h in omega arith
+tableBytes-most n h = let p : 2 ^ n ≤ 2 ^ maxInputs = pow-mono h in le-trans (omega arith) table-fits
 
 module _ (j : Job) (shape : Shape) (rows : List ℕ) (sound : Sound j shape rows) where
   pub shape-bytes : shape .bytes ≡ tableBytes (j .inputs)
@@ -104,8 +100,7 @@ module _ (j : Job) (shape : Shape) (rows : List ℕ) (sound : Sound j shape rows
     row-end = subst (λ (w : ℕ). r * w + w ≤ length rows) (sym shape-bytes) row-inside
 
     shape-few : shape .inputs < 64
-    unfolding maxInputs
-    shape-few = omega (arith, ap (λ (s : Shape). s .inputs) (sound .shaped), sound .valid .few)
+    shape-few = omega (arith, ap (λ (s : Shape). s .inputs) (sound .shaped), sound .valid .few, most-inputs)
 
     pub row-room : Room shape (r * shape .bytes) rows
     row-room =

@@ -4,6 +4,7 @@ use native.Mathlib.Omega.{arith}
 use mathlib.Core.Path.{sym, subst, _∙_}
 use borrow.Author.Needs.{needs}
 use lib.ListN.{length}
+use Rattle.job.specs.Layout.{maxInputs, maxGates}
 use Rattle.tables.proofs.Putting.{table-inside, table-put}
 use Rattle.tables.proofs.Space.{line-index, shape-bytes, sound-kept}
 use Rattle.tables.proofs.put_table.Statement.{statement}
@@ -25,9 +26,11 @@ cast-output : tie.Need-cast-output
 cast-output c = search needs
 
 mul-copy : tie.Need-mul-copy
+unfolding maxInputs maxGates
 mul-copy c = omega (arith, line-index (c .before .before .before .before .before .before .before .before .before .before .before .before .before .before .args .job) (c .before .before .before .before .before .before .before .before .before .before .before .before .before .before .pre .0 .valid) (c .before .before .before .before .before .before .before .before .before .before .before .before .before .before .pre .0 .valid .output))
 
 element-copy-out-copy : tie.Need-element-copy-out-copy
+unfolding maxInputs maxGates
 element-copy-out-copy c = line-index (c .before .before .before .before .before .before .before .before .before .before .before .before .before .before .args .job) (c .before .before .before .before .before .before .before .before .before .before .before .before .before .before .pre .0 .valid) (c .before .before .before .before .before .before .before .before .before .before .before .before .before .before .pre .0 .valid .output)
 
 copy-requires : tie.Need-copy-requires

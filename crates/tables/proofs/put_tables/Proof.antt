@@ -4,6 +4,7 @@ use native.Mathlib.Omega.{arith}
 use Prim.Native.Nat.{_-_}
 use mathlib.Core.Path.{_∙_}
 use borrow.Author.Count.{falls}
+use Rattle.job.specs.Layout.{maxInputs, maxGates}
 use Rattle.tables.proofs.Putting.{Putting, table-inside, putting-start, putting-room, putting-length, putting-next, putting-end}
 use Rattle.tables.proofs.Space.{line-index, sound-kept}
 use Rattle.tables.proofs.put_tables.Statement.{statement}
@@ -53,9 +54,11 @@ mul-copy c =
     )
 
 mul-copy-2 : tie.Need-mul-copy-2 Inv-loop μ-loop
+unfolding maxInputs maxGates
 mul-copy-2 c = omega (arith, line-index (c .before .before .before .before .before .before .before .before .before .before .before .before .before .before .before .before .before .args .job) (c .before .before .before .before .before .before .before .before .before .before .before .before .before .before .before .before .before .pre .0 .valid) (c .before .before .before .before .before .before .before .before .before .before .before .before .before .before .before .before .before .pre .0 .valid .output))
 
 element-copy-out-copy : tie.Need-element-copy-out-copy Inv-loop μ-loop
+unfolding maxInputs maxGates
 element-copy-out-copy c = line-index (c .before .before .before .before .before .before .before .before .before .before .before .before .before .before .before .before .before .args .job) (c .before .before .before .before .before .before .before .before .before .before .before .before .before .before .before .before .before .pre .0 .valid) (c .before .before .before .before .before .before .before .before .before .before .before .before .before .before .before .before .before .pre .0 .valid .output)
 
 copy-requires : tie.Need-copy-requires Inv-loop μ-loop

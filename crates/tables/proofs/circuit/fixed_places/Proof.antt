@@ -1,6 +1,7 @@
 -- `tables::circuit::fixed_places` meets its contract: two of the good circuit's places are exchanged.
 use native.Mathlib.Omega.{arith}
-use Rattle.tables.proofs.Placing.{lines-few, line-index, own-fits, moved}
+use Rattle.job.specs.Layout.{maxInputs, maxGates}
+use Rattle.tables.proofs.Placing.{own-fits, moved}
 use Rattle.tables.proofs.circuit.fixed_places.Statement.{statement}
 use Rattle.tables.proofs.circuit.fixed_places.Tie as tie
 
@@ -8,28 +9,34 @@ good-places-requires : tie.Need-good-places-requires
 good-places-requires c κs = c .pre .0
 
 add-places : tie.Need-add-places
-add-places c = omega (arith, line-index (c .before .pre .1) (c .before .pre .2), lines-few (c .before .pre .1))
+unfolding maxInputs maxGates
+add-places c = omega (arith, c .before .pre .1, c .before .pre .2)
 
 mul-places : tie.Need-mul-places
 mul-places c = own-fits (c .before .pre .0) (c .before .pre .1) (c .before .pre .2)
 
 mul-places-2 : tie.Need-mul-places-2
-mul-places-2 c = omega (arith, line-index (c .before .pre .1) (c .before .pre .2))
+unfolding maxInputs maxGates
+mul-places-2 c = omega (arith, c .before .pre .1, c .before .pre .2)
 
 element-write-places : tie.Need-element-write-places
-element-write-places c = line-index (c .before .pre .1) (c .before .pre .2)
+unfolding maxInputs maxGates
+element-write-places c = omega (arith, c .before .pre .1, c .before .pre .2)
 
 add-places-2 : tie.Need-add-places-2
-add-places-2 c = omega (arith, line-index (c .before .pre .1) (c .before .pre .3), lines-few (c .before .pre .1))
+unfolding maxInputs maxGates
+add-places-2 c = omega (arith, c .before .pre .1, c .before .pre .3)
 
 mul-places-3 : tie.Need-mul-places-3
 mul-places-3 c = own-fits (c .before .pre .0) (c .before .pre .1) (c .before .pre .3)
 
 mul-places-4 : tie.Need-mul-places-4
-mul-places-4 c = omega (arith, line-index (c .before .pre .1) (c .before .pre .3))
+unfolding maxInputs maxGates
+mul-places-4 c = omega (arith, c .before .pre .1, c .before .pre .3)
 
 element-write-places-2 : tie.Need-element-write-places-2
-element-write-places-2 c = line-index (c .before .pre .1) (c .before .pre .3)
+unfolding maxInputs maxGates
+element-write-places-2 c = omega (arith, c .before .pre .1, c .before .pre .3)
 
 returns : tie.Need-returns
 returns c =

@@ -5,6 +5,7 @@ use native.Mathlib.Omega.{arith}
 use mathlib.Core.Logic.{⊎-elim}
 use borrow.Author.Count.{falls}
 use borrow.Author.Needs.{needs}
+use Rattle.job.specs.Layout.{maxInputs, maxGates}
 use Rattle.tables.proofs.Following.{Follows, follows-start, follows-next, follows-end}
 use Rattle.tables.proofs.Space.{gate-index, gate-line-index, first-index, second-index, limit-fits, own-inside}
 use Rattle.tables.proofs.Faults.{low-index}
@@ -36,6 +37,7 @@ mul-limit : tie.Need-mul-limit Inv-loop μ-loop
 mul-limit c = limit-fits (c .before .before .before .args .t3) (c .before .before .before .args .shape) (c .before .before .before .args .rows .now) (c .before .before .before .pre .0) (c .before .before .before .good .0 .0)
 
 add-q : tie.Need-add-q Inv-loop μ-loop
+unfolding maxInputs maxGates
 add-q c = omega (arith, low-index (c .before .before .before .before .args .t3) (c .before .before .before .before .args .fault) (c .before .before .before .before .pre .2 .fixed .fixes) (c .before .before .before .before .pre .0 .valid) (c .before .before .first .ensures))
 
 sub-q : tie.Need-sub-q Inv-loop μ-loop
@@ -48,15 +50,19 @@ loop-holds c =
     follows-start (a .t3) (c .before .before .first .result) (c .before .second .result) (a .start .of) (a .rows .now) (if1 .q) (⊎-elim (λ w. omega arith) (λ w. omega arith) (if1 .came))
 
 mul-entry : tie.Need-mul-entry Inv-loop μ-loop
+unfolding maxGates
 mul-entry c = omega (arith, gate-index (c .before .loop-test .taken) (c .before .before .before .before .before .before .before .pre .0 .valid .gates-few))
 
 element-copy-out-entry : tie.Need-element-copy-out-entry Inv-loop μ-loop
+unfolding maxGates
 element-copy-out-entry c = gate-index (c .before .loop-test .taken) (c .before .before .before .before .before .before .before .pre .0 .valid .gates-few)
 
 mul-form : tie.Need-mul-form Inv-loop μ-loop
+unfolding maxGates
 mul-form c = omega (arith, gate-index (c .before .before .loop-test .taken) (c .before .before .before .before .before .before .before .before .pre .0 .valid .gates-few))
 
 element-copy-out-form : tie.Need-element-copy-out-form Inv-loop μ-loop
+unfolding maxGates
 element-copy-out-form c = gate-index (c .before .before .loop-test .taken) (c .before .before .before .before .before .before .before .before .pre .0 .valid .gates-few)
 
 first-requires-2 : tie.Need-first-requires-2 Inv-loop μ-loop
@@ -66,18 +72,23 @@ second-requires-2 : tie.Need-second-requires-2 Inv-loop μ-loop
 second-requires-2 c κs = tt
 
 mul-x : tie.Need-mul-x Inv-loop μ-loop
+unfolding maxInputs maxGates
 mul-x c = omega (arith, first-index (c .before .before .before .before .before .before .before .before .before .before .before .args .t3) (c .before .before .before .before .before .before .before .before .before .before .before .pre .0 .valid) (c .before .before .before .before .before .before .loop .q) (c .before .before .before .before .before .loop-test .taken) (c .before .first2 .ensures))
 
 element-copy-out-x : tie.Need-element-copy-out-x Inv-loop μ-loop
+unfolding maxInputs maxGates
 element-copy-out-x c = first-index (c .before .before .before .before .before .before .before .before .before .before .before .args .t3) (c .before .before .before .before .before .before .before .before .before .before .before .pre .0 .valid) (c .before .before .before .before .before .before .loop .q) (c .before .before .before .before .before .loop-test .taken) (c .before .first2 .ensures)
 
 mul-y : tie.Need-mul-y Inv-loop μ-loop
+unfolding maxInputs maxGates
 mul-y c = omega (arith, second-index (c .before .before .before .before .before .before .before .before .before .before .before .before .args .t3) (c .before .before .before .before .before .before .before .before .before .before .before .before .pre .0 .valid) (c .before .before .before .before .before .before .before .loop .q) (c .before .before .before .before .before .before .loop-test .taken) (c .before .second2 .ensures))
 
 element-copy-out-y : tie.Need-element-copy-out-y Inv-loop μ-loop
+unfolding maxInputs maxGates
 element-copy-out-y c = second-index (c .before .before .before .before .before .before .before .before .before .before .before .before .args .t3) (c .before .before .before .before .before .before .before .before .before .before .before .before .pre .0 .valid) (c .before .before .before .before .before .before .before .loop .q) (c .before .before .before .before .before .before .loop-test .taken) (c .before .second2 .ensures)
 
 add-line : tie.Need-add-line Inv-loop μ-loop
+unfolding maxInputs maxGates
 add-line c = omega (arith, gate-line-index (c .before .before .before .before .before .before .before .before .before .before .before .before .before .args .t3) (c .before .before .before .before .before .before .before .before .before .before .before .before .before .pre .0 .valid) (c .before .before .before .before .before .before .before .before .loop .q) (c .before .before .before .before .before .before .before .loop-test .taken))
 
 gate-place-requires : tie.Need-gate-place-requires Inv-loop μ-loop
@@ -85,12 +96,15 @@ gate-place-requires c κs =
     own-inside (c .before .before .before .before .before .before .before .before .before .before .before .before .before .before .args .t3) (c .before .before .before .before .before .before .before .before .before .before .before .before .before .before .args .shape) (c .before .before .before .before .before .before .before .before .before .before .before .before .before .before .args .rows .now) (c .before .before .before .before .before .before .before .before .before .before .before .before .before .before .pre .0) (c .before .before .before .before .before .before .before .before .before .loop .q) (c .before .before .before .before .before .before .before .before .loop-test .taken) (c .before .before .before .before .before .before .before .before .before .loop .rows) (c .before .before .before .before .before .before .before .before .before .loop .inv .long)
 
 mul-places : tie.Need-mul-places Inv-loop μ-loop
+unfolding maxInputs maxGates
 mul-places c = omega (arith, gate-line-index (c .before .before .before .before .before .before .before .before .before .before .before .before .before .before .before .before .before .args .t3) (c .before .before .before .before .before .before .before .before .before .before .before .before .before .before .before .before .before .pre .0 .valid) (c .before .before .before .before .before .before .before .before .before .before .before .before .loop .q) (c .before .before .before .before .before .before .before .before .before .before .before .loop-test .taken))
 
 element-write-places : tie.Need-element-write-places Inv-loop μ-loop
+unfolding maxInputs maxGates
 element-write-places c = gate-line-index (c .before .before .before .before .before .before .before .before .before .before .before .before .before .before .before .before .before .args .t3) (c .before .before .before .before .before .before .before .before .before .before .before .before .before .before .before .before .before .pre .0 .valid) (c .before .before .before .before .before .before .before .before .before .before .before .before .loop .q) (c .before .before .before .before .before .before .before .before .before .before .before .loop-test .taken)
 
 add-q-2 : tie.Need-add-q-2 Inv-loop μ-loop
+unfolding maxGates
 add-q-2 c = omega (arith, gate-index (c .before .before .before .before .before .before .before .before .before .before .before .loop-test .taken) (c .before .before .before .before .before .before .before .before .before .before .before .before .before .before .before .before .before .pre .0 .valid .gates-few))
 
 loop-less : tie.Need-loop-less Inv-loop μ-loop

@@ -5,6 +5,7 @@ use mathlib.Core.Path.{_≡_, refl, _∙_}
 use borrow.Author.Count.{falls}
 use borrow.Author.Needs.{needs}
 use lib.ListN.{length}
+use Rattle.job.specs.Layout.{maxGates}
 use Rattle.tables.specs.Work.{Filled}
 use Rattle.tables.proofs.Filling.{filled-gate, filled-fewer}
 use Rattle.tables.proofs.Space.{gate-index, sound-kept, gate-fits, first-fits, second-fits}
@@ -27,15 +28,19 @@ loop-holds : tie.Need-loop-holds Inv-loop μ-loop
 loop-holds c = (refl, filled-fewer (c .before .args .t2) _ (c .before .args .t2 .inputs) (c .before .args .rows .now) (omega arith) (c .before .pre .2))
 
 mul-entry : tie.Need-mul-entry Inv-loop μ-loop
+unfolding maxGates
 mul-entry c = omega (arith, gate-index (c .loop-test .taken) (c .before .before .before .pre .0 .valid .gates-few))
 
 element-copy-out-entry : tie.Need-element-copy-out-entry Inv-loop μ-loop
+unfolding maxGates
 element-copy-out-entry c = gate-index (c .loop-test .taken) (c .before .before .before .pre .0 .valid .gates-few)
 
 mul-form : tie.Need-mul-form Inv-loop μ-loop
+unfolding maxGates
 mul-form c = omega (arith, gate-index (c .before .loop-test .taken) (c .before .before .before .before .pre .0 .valid .gates-few))
 
 element-copy-out-form : tie.Need-element-copy-out-form Inv-loop μ-loop
+unfolding maxGates
 element-copy-out-form c = gate-index (c .before .loop-test .taken) (c .before .before .before .before .pre .0 .valid .gates-few)
 
 first-requires : tie.Need-first-requires Inv-loop μ-loop
@@ -55,6 +60,7 @@ mul-y c =
     second-fits (a .t2) (a .shape) (a .rows .now) (c .before .before .before .before .before .before .before .pre .0) (c .before .before .before .before .before .before .before .good .0 .0) (c .before .before .before .before .before .loop .q) (c .before .before .before .before .loop-test .taken) (c .second .ensures)
 
 add-combine : tie.Need-add-combine Inv-loop μ-loop
+unfolding maxGates
 add-combine c = omega (arith, c .before .before .before .before .before .before .before .before .pre .0 .valid .few, gate-index (c .before .before .before .before .before .loop-test .taken) (c .before .before .before .before .before .before .before .before .pre .0 .valid .gates-few))
 
 mul-combine : tie.Need-mul-combine Inv-loop μ-loop
@@ -66,6 +72,7 @@ combine-requires : tie.Need-combine-requires Inv-loop μ-loop
 combine-requires c κs = tt
 
 add-q : tie.Need-add-q Inv-loop μ-loop
+unfolding maxGates
 add-q c = omega (arith, gate-index (c .before .before .before .before .before .before .before .before .loop-test .taken) (c .before .before .before .before .before .before .before .before .before .before .before .pre .0 .valid .gates-few))
 
 loop-less : tie.Need-loop-less Inv-loop μ-loop
