@@ -30,7 +30,6 @@ use Rattle.bits.specs.Bits.{bitsOf, stringOf, valueOf, valueFrom}
 use Rattle.bits.specs.Field.{place, from, past, maxWidth, isWidth, fieldAt, spareOnly, windowAt}
 use Rattle.bits.specs.Parser.{parsed, field}
 use Rattle.bits.specs.declared.Cursor.{Cursor}
-use Rattle.bits.specs.declared.Field.{Field}
 use Rattle.bits.specs.declared.Field.the-variants.{Value, Cut}
 use Rattle.bits.proofs.Taken.{field-room}
 use Rattle.bits.proofs.Tests.{and-r, and-i}

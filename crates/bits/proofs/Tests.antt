@@ -2,7 +2,6 @@
 --
 --   and-l, and-r, and-i   a conjunction holds exactly when both sides do
 --   clash                 no test both holds and fails
-use Prim.Native.Nat.{ℕ}
 use mathlib.Core.Path.{_≡_, refl, sym, ap, _∙_}
 use mathlib.Core.Bool.{Bool, true, false, _&&_, true≢false}
 

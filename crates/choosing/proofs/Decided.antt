@@ -8,7 +8,7 @@
 --   chosen-unfilled  a refusal of the spectra is choosing's
 --   chosen-room      where they are filled, the work holds them
 --   chosen-filled    and the choice over the work is choosing's answer
-use Prim.Native.Nat.{ℕ, zero, suc, _+_, _*_, _^_, _≤_, _<_}
+use Prim.Native.Nat.{ℕ, _+_, _*_, _^_, _≤_, _<_}
 use native.Mathlib.Nat.{le-refl}
 use native.Mathlib.Omega.{arith}
 use mathlib.Core.Path.{_≡_, refl, sym, ap, ap₂, subst, _∙_}
@@ -19,13 +19,12 @@ use borrow.Author.Tests.{le-leb, lt-ltb, leb-true, ltb-true}
 use lib.Dec.{leb, ltb, eqb}
 use lib.ListN.{length, getD, drop, length-append, List·getD-append}
 use lib.Pow.{pow-pos}
-use Rattle.bits.specs.Answer.{Answer, Fills, Leaves, leaves, number, unless, onward}
+use Rattle.bits.specs.Answer.{Answer, Fills, Leaves, leaves, number}
 use Rattle.bits.specs.Answer.Answer.{gives, refused}
 use Rattle.bits.specs.declared.Refusal.{Refusal}
 use Rattle.bits.proofs.Answers.{gives-same, never-gives}
 use Rattle.bits.proofs.Tests.{and-i}
 use Rattle.job.specs.Check.{Valid}
-use Rattle.job.specs.Layout.{maxInputs, maxFaults}
 use Rattle.job.specs.declared.Job.{Job}
 use Rattle.reading.specs.Reading.{reading}
 use Rattle.reading.proofs.Valid.{reading-valid}
@@ -33,7 +32,7 @@ use Rattle.tables.specs.Operations.{countsOf, tablesTold}
 use Rattle.tables.specs.declared.Counts.{Counts}
 use Rattle.tables.specs.declared.TablesAnswer.{TablesAnswer}
 use Rattle.tables.specs.declared.TablesAnswer.the-variants as tables
-use Rattle.spectra.specs.Operations.{polarityOk, circuitSpectra, jobSpectraOf}
+use Rattle.spectra.specs.Operations.{circuitSpectra, jobSpectraOf}
 use Rattle.spectra.specs.declared.Kind.{Kind}
 use Rattle.spectra.proofs.WorkPlaces.{length-circuitSpectra, circuitSpectra-at}
 use Rattle.picking.specs.Labels.{Holds}

@@ -9,7 +9,7 @@
 use Prim.Native.Nat.{ℕ, zero, suc}
 use mathlib.Core.List.{List}
 use lib.ListN.{length}
-use Rattle.bits.specs.Answer.{Answer, Fills, Leaves, leaves, onward}
+use Rattle.bits.specs.Answer.{Answer, Fills, Leaves, onward}
 use Rattle.bits.specs.Answer.Answer.{gives, refused}
 use Rattle.job.specs.declared.Job.{Job}
 use Rattle.reading.specs.Reading.{reading}

@@ -10,7 +10,7 @@
 --   relocated-alike     where it tells a pair
 --   relocated-readable  where it tells counts: what locating with its signature asks
 --   relocated-done      and what comes of it
-use Prim.Native.Nat.{ℕ, _+_, _*_, _^_, _≤_, _<_}
+use Prim.Native.Nat.{ℕ, _+_, _*_, _^_, _<_}
 use native.Mathlib.Nat.{le-refl, le-trans}
 use native.Mathlib.Omega.{arith}
 use mathlib.Core.Path.{_≡_, refl, sym, ap, ap₂, subst, _∙_}
@@ -22,7 +22,6 @@ use Rattle.bits.specs.Answer.{Answer, Fills, Leaves, number, unless}
 use Rattle.bits.specs.Answer.Answer.{gives, refused}
 use Rattle.bits.specs.declared.Refusal.{Refusal}
 use Rattle.bits.proofs.Answers.{gives-same, never-gives, unless-gives, onward-gives}
-use Rattle.job.specs.Layout.{maxFaults}
 use Rattle.job.specs.declared.Job.{Job}
 use Rattle.reading.specs.Reading.{reading}
 use Rattle.reading.proofs.Valid.{reading-valid}
@@ -33,7 +32,7 @@ use Rattle.spectra.specs.declared.Kind.{Kind}
 use Rattle.spectra.proofs.WorkPlaces.{length-circuitSpectra, circuitSpectra-at}
 use Rattle.method.specs.Method.{Pair}
 use Rattle.method.specs.Method.Pair.{nobody, pair}
-use Rattle.picking.specs.Matrix.{maxEntries, signatureOf}
+use Rattle.picking.specs.Matrix.{signatureOf}
 use Rattle.picking.specs.declared.Signature.{Signature}
 use Rattle.picking.proofs.Columns.{cell-within}
 use Rattle.choosing.specs.Choosing.{Choice, Chose, Finding, choiceBy, choice, coefOf, chosenOf, chose, alikePair, signatureIn, verdictTold}

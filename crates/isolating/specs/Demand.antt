@@ -15,7 +15,7 @@ use Rattle.tables.specs.Operations.{countsOf}
 use Rattle.spectra.specs.Operations.{sameNumbers}
 use Rattle.spectra.specs.declared.Kind.{Kind}
 use Rattle.method.specs.Method.{without}
-use Rattle.choosing.specs.Choosing.{Chose, Finding, chosenOf, chose, signatureIn}
+use Rattle.choosing.specs.Choosing.{Chose, chosenOf, chose, signatureIn}
 use Rattle.choosing.specs.Choosing.Finding.{chosen, alike}
 use Rattle.choosing.specs.declared.Purpose.the-variants.{Isolating}
 use Rattle.locating.specs.Locating.{Location, readingsOf, agreeing, location, locatedOf}

@@ -6,11 +6,10 @@
 --   Within        the listed indices of a row lie within so many places
 --   Readable      a signature's entries lie within the rows of the work
 use Prim.Native.Nat.{ℕ, _+_, _*_, _^_, _≤_, _<_}
-use mathlib.Core.Path.{_≡_}
 use mathlib.Core.Bool.{cond}
 use mathlib.Core.List.{List}
 use lib.Dec.{leb}
-use lib.ListN.{length, take, getD}
+use lib.ListN.{length, getD}
 use Rattle.bits.specs.Answer.{Answer, Leaves, leaves}
 use Rattle.bits.specs.Answer.Answer.{gives, refused}
 use Rattle.job.specs.Layout.{maxInputs, maxFaults}

@@ -1,8 +1,8 @@
 // Choosing and locating together: demand 3 (specs/Demand.antt), and a job's sheet put to the test.
-ghost use Prim.Native.Nat.{_+_, _*_, _^_, _≤_, _<_};
+ghost use Prim.Native.Nat.{_+_, _*_, _≤_, _<_};
 ghost use mathlib.Core.Path.{_≡_};
 ghost use mathlib.Core.List.{_++_};
-ghost use lib.ListN.{length, take, drop, getD};
+ghost use lib.ListN.{length, take, drop};
 ghost use Rattle.locating.specs.Locating.{locatedTold};
 ghost use Rattle.locating.specs.Scanning.{numbersAt};
 ghost use Rattle.isolating.specs.Relocating.{locatedFrom, relocated, NamedAlone, Readable, Within};

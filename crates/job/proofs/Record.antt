@@ -5,7 +5,7 @@
 --   faultOf-rest   every kind from 3 on is an OR bridge
 use Prim.Native.Nat.{ℕ, suc, _≤_}
 use native.Mathlib.Omega.{arith}
-use mathlib.Core.Path.{_≡_, sym}
+use mathlib.Core.Path.{_≡_}
 use mathlib.Core.Bool.{false}
 use lib.ListN.{List·getD-eq-default}
 use Rattle.job.specs.Record.{gatesByKind, gateOf, faultsByKind, faultOf}

@@ -6,7 +6,7 @@
 --   counts-of-faults    a count of faults that its field holds is within the limit
 --   most-inputs         the input numbers fit two bytes, with room for a carry
 --   most-places         places of coefficients, for all circuits of a job, can be counted in a word
-use Prim.Native.Nat.{ℕ, suc, _+_, _*_, _^_, _≤_, _<_}
+use Prim.Native.Nat.{suc, _+_, _*_, _^_, _≤_, _<_}
 use mathlib.Core.Path.{_≡_, refl}
 use lib.Dec.{lit<, lit≤}
 use Rattle.job.specs.Layout.{maxInputs, maxGates, maxFaults, inputCountBits, gateCountBits, gateKindBits, lineBits, faultCountBits, faultKindBits}

@@ -5,7 +5,7 @@
 --   Valid                             what holds of a record that is not refused
 use Prim.Native.Nat.{ℕ, zero, suc, _+_, _≤_, _<_}
 use mathlib.Core.Path.{_≡_}
-use mathlib.Core.Bool.{Bool, true, false, _&&_, cond}
+use mathlib.Core.Bool.{Bool, true, _&&_}
 use lib.Dec.{leb, ltb}
 use Rattle.bits.specs.Answer.{Answer, unless, onward}
 use Rattle.bits.specs.Answer.Answer.{gives}

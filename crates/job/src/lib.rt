@@ -1,6 +1,5 @@
 // A job as a record: a circuit and its list of single faults (document 01, "Job layout").
 ghost use mathlib.Core.Path.{_≡_};
-ghost use Prim.Native.Nat.{_≤_};
 ghost use Rattle.job.specs.Check.{faultLineOk};
 ghost use Rattle.job.specs.Record.{gateKind, gateA, gateB, gateOf, faultKind, faultA, faultB, faultOf, emptyJob};
 

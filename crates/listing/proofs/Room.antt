@@ -12,7 +12,7 @@ use mathlib.Core.List.{List}
 use borrow.Author.Tests.{leb-true}
 use lib.Dec.{leb}
 use lib.ListN.{length}
-use Rattle.bits.specs.Answer.{Answer, Fills, Leaves, leaves, unless}
+use Rattle.bits.specs.Answer.{Answer, Fills, Leaves, leaves}
 use Rattle.bits.specs.Answer.Answer.{gives, refused}
 use Rattle.bits.proofs.Answers.{gives-same, never-gives, unless-gives, onward-gives}
 use Rattle.job.specs.Layout.{maxInputs, maxFaults}
@@ -20,10 +20,10 @@ use Rattle.job.specs.declared.Job.{Job}
 use Rattle.reading.specs.Reading.{reading}
 use Rattle.reading.proofs.Valid.{reading-valid}
 use Rattle.gates.specs.Form.{tableBytes}
-use Rattle.tables.specs.Operations.{tablesOf, tablesTo, tablesTold, countsOf}
+use Rattle.tables.specs.Operations.{tablesOf, tablesTold, countsOf}
 use Rattle.tables.specs.declared.Counts.{Counts}
 use Rattle.tables.specs.declared.TablesAnswer.{TablesAnswer}
-use Rattle.tables.specs.declared.TablesAnswer.the-variants.{Filled, Refused}
+use Rattle.tables.specs.declared.TablesAnswer.the-variants.{Filled}
 
 pub record Listed (counts : Counts) (room : ℕ) : Type 0 where
   pub few : counts .inputs ≤ maxInputs

@@ -1,7 +1,6 @@
 // The packed tables of a job's circuits as text on standard output: a line of counts, then a line of hexadecimal bytes
 // for each circuit. A refused job is one line with the refusal's number. And what the programs share: the kind of spectrum
 // that a word names, the entries of a table.
-ghost use mathlib.Core.Path.{_≡_};
 ghost use Prim.Native.Nat.{_+_, _*_, _<_, _≤_};
 ghost use lib.ListN.{length};
 use bits::Refusal;

@@ -2,7 +2,6 @@
 --
 --   compared-none, compared-stop, compared-more, compared-all   its start, its ways out and its step
 use Prim.Native.Nat.{ℕ, _+_, _≤_, _<_}
-use native.Mathlib.Omega.{arith}
 use mathlib.Core.Path.{_≡_, sym, subst, _∙_}
 use mathlib.Core.Bool.{true, false}
 use mathlib.Core.List.{List}

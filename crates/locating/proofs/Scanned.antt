@@ -20,10 +20,9 @@ use borrow.Author.Tests.{eq-eqb, ne-eqb}
 use lib.Dec.{eqb}
 use lib.ListN.{length, getD, length-append}
 use Rattle.bits.specs.Passing.{passing}
-use Rattle.bits.specs.Answer.{Answer}
 use Rattle.bits.specs.Answer.Answer.{gives}
 use Rattle.spectra.specs.Operations.{sameNumbers}
-use Rattle.locating.specs.Locating.{Location, location, agreeing}
+use Rattle.locating.specs.Locating.{location, agreeing}
 use Rattle.locating.specs.Locating.Location.{alone, several, nowhere}
 use Rattle.locating.specs.Scanning.{locationOf, numbersAt, workAgrees}
 

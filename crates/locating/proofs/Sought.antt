@@ -11,11 +11,11 @@ use native.Mathlib.Omega.{arith}
 use mathlib.Core.Path.{_≡_, refl, sym, ap, ap₂, subst, _∙_}
 use mathlib.Core.Bool.{Bool, true, false, cond, _&&_}
 use mathlib.Core.List.{List, [], _∷_, _++_}
-use borrow.Author.Tests.{leb-true, lt-ltb, le-ltb, eq-eqb, ne-eqb}
+use borrow.Author.Tests.{lt-ltb, le-ltb, eq-eqb, ne-eqb}
 use lib.Dec.{leb, eqb}
 use lib.ListN.{length, getD, drop, length-append, List·getD-append}
 use Rattle.bits.specs.Passing.{passing}
-use Rattle.bits.specs.Answer.{Answer, Fills, Leaves, leaves, number, outcome, unless, onward}
+use Rattle.bits.specs.Answer.{Answer, Fills, Leaves, leaves, number, outcome, onward}
 use Rattle.bits.specs.Answer.Answer.{gives, refused}
 use Rattle.bits.specs.declared.Refusal.{Refusal}
 use Rattle.bits.specs.declared.Outcome.{Outcome}
@@ -28,7 +28,7 @@ use Rattle.spectra.specs.Operations.{polarityOk, rowsOk, rowsOf, rowSpectra, sa
 use Rattle.spectra.specs.declared.Kind.{Kind}
 use Rattle.spectra.proofs.Filling.{length-rowSpectra}
 use Rattle.locating.specs.Locating.{Location, location, agreeing, indicesOk}
-use Rattle.locating.specs.Scanning.{numbersAt, workAgrees, rowsLocated}
+use Rattle.locating.specs.Scanning.{workAgrees, rowsLocated}
 use Rattle.locating.proofs.Indexed.{numbers-same}
 use Rattle.locating.proofs.Scanned.{row-within}
 

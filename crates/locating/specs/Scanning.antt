@@ -9,13 +9,11 @@ use Prim.Native.Nat.{ℕ, zero, suc, _+_, _*_, _^_}
 use mathlib.Core.Path.{_≡_}
 use mathlib.Core.Bool.{Bool, true}
 use mathlib.Core.List.{List, map}
-use lib.Dec.{leb, eqb}
+use lib.Dec.{eqb}
 use lib.ListN.{length, getD}
 use Rattle.bits.specs.Answer.{Answer, Fills, unless, onward}
 use Rattle.bits.specs.Answer.Answer.{gives}
-use Rattle.bits.specs.Packed.{entry}
-use Rattle.spectra.specs.Operations.{polarityOk, rowsOf, tableRow, sameNumbers}
-use Rattle.spectra.specs.Spectrum.{coefficient}
+use Rattle.spectra.specs.Operations.{polarityOk, rowsOf, sameNumbers}
 use Rattle.spectra.specs.declared.Kind.{Kind}
 use Rattle.locating.specs.Locating.{Location, location, agreeing, indicesOk}
 use Rattle.locating.specs.Locating.Location.{alone, several, nowhere}

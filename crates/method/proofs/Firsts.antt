@@ -5,17 +5,12 @@
 --   nobody-firstPair   where no pair passes, there is no first pair
 --   firstPair-pair     the first pair passes, and is before every other that does: by lower number, then by higher
 use Prim.Native.Nat.{ℕ, zero, suc, _+_, _-_, _≤_, _<_}
-use native.Mathlib.Nat.{eq-or-lt-of-le, sub-zero}
-use native.Mathlib.Numerals.{add-one}
+use native.Mathlib.Nat.{eq-or-lt-of-le}
 use native.Mathlib.Omega.{arith}
 use mathlib.Core.Path.{_≡_, refl, sym, ap, ap₂, subst, _∙_}
-use mathlib.Core.Bool.{Bool, true, false, not, cond, _&&_, and-false}
+use mathlib.Core.Bool.{Bool, true, false, cond}
 use mathlib.Core.Logic.{_⊎_, inl, inr, ⊎-elim}
-use mathlib.Core.List.{List}
-use borrow.Author.Tests.{lt-ltb, le-ltb, eq-eqb, ne-eqb}
-use lib.Dec.{ltb, eqb}
-use lib.ListN.{getD}
-use Rattle.bits.proofs.Tests.{and-i, clash}
+use Rattle.bits.proofs.Tests.{clash}
 use Rattle.method.specs.Method.{Pair, pairWith, pairFrom, firstPair}
 use Rattle.method.specs.Method.Pair.{nobody, pair}
 use Rattle.method.proofs.Pairs.{by-cond}

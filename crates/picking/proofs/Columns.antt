@@ -7,9 +7,9 @@
 --   row-fits        the number of a row fits an entry of a column
 --   cell-within     a row's number at an entry lies within the work
 use Prim.Native.Nat.{ℕ, suc, _+_, _*_, _≤_, _<_}
-use native.Mathlib.Nat.{le-of-lt, mul-le-mul-right, suc-mul}
+use native.Mathlib.Nat.{mul-le-mul-right, suc-mul}
 use native.Mathlib.Omega.{arith}
-use mathlib.Core.Path.{_≡_, refl, _∙_}
+use mathlib.Core.Path.{_≡_, _∙_}
 use mathlib.Core.List.{List}
 use borrow.Author.Count.{below-none, below-more}
 use lib.ListN.{length, getD, set, replicate, length-set, length-replicate, getD-replicate}

@@ -22,7 +22,7 @@ use lib.ListN.{length, take, drop, getD}
 use Rattle.bits.specs.Packed.{tabulate}
 use Rattle.method.specs.Method.{someBelow, agree, drops, Pair}
 use Rattle.method.specs.Method.Pair.{nobody, pair}
-use Rattle.picking.specs.Matrix.{cell, apart, allBelow, maxRows, maxEntries}
+use Rattle.picking.specs.Matrix.{cell, apart, maxRows, maxEntries}
 use Rattle.picking.specs.declared.classes.Two.{Two}
 use Rattle.picking.specs.declared.classes.Two.the-variants.{Nobody, Both}
 use Rattle.picking.specs.declared.dropping.Kept.{Kept}

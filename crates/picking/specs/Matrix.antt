@@ -6,7 +6,7 @@
 --   Picked         a signature, or the first two rows that should be told apart and are not, or no such matrix
 --   picked         what the method picks
 --   choiceOf       the answer that stands for it
-use Prim.Native.Nat.{ℕ, zero, suc, _-_, _+_, _*_, _≤_, _<_}
+use Prim.Native.Nat.{ℕ, zero, suc, _-_, _+_, _*_}
 use mathlib.Core.Bool.{Bool, true, not, cond, _&&_}
 use mathlib.Core.List.{List, [], _∷_, _++_}
 use lib.Dec.{leb, ltb, eqb}
@@ -14,7 +14,6 @@ use lib.ListN.{length, getD}
 use Rattle.method.specs.Method.{agree, signature, firstPair, Pair}
 use Rattle.method.specs.Method.Pair.{nobody, pair}
 use Rattle.picking.specs.declared.Choice.{Choice}
-use Rattle.picking.specs.declared.Found.{Found}
 use Rattle.picking.specs.declared.Found.the-variants.{Told, Alike, Unfit}
 use Rattle.picking.specs.declared.Signature.{Signature}
 

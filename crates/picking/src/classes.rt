@@ -1,12 +1,12 @@
 // Classes of rows that no entry so far tells apart. A row's label is the lowest row of its class.
 ghost use Prim.Native.Nat.{ℕ, _+_, _-_, _*_, _≤_, _<_};
 ghost use mathlib.Core.Path.{_≡_};
-ghost use mathlib.Core.Bool.{not, cond, _&&_};
-ghost use lib.Dec.{eqb, ltb};
-ghost use lib.ListN.{length, getD};
+ghost use mathlib.Core.Bool.{not, cond};
+ghost use lib.Dec.{ltb};
+ghost use lib.ListN.{length};
 ghost use Rattle.method.specs.Method.{someBelow, firstPair, pairWith, Pair};
 ghost use Rattle.method.specs.Method.Pair.{pair};
-ghost use Rattle.picking.specs.Matrix.{cell, apart, maxRows};
+ghost use Rattle.picking.specs.Matrix.{cell, maxRows};
 ghost use Rattle.picking.specs.Labels.{Holds, Low, Labels, both, met, stray, lowestFrom, alikeMarked, pairTold};
 use crate::MAX_ROWS;
 

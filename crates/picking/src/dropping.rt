@@ -1,8 +1,8 @@
 // Dropping: "Then, from the last taken to the first, one is dropped if the rest still tell all needed pairs apart."
-ghost use Prim.Native.Nat.{_+_, _*_, _≤_, _<_};
+ghost use Prim.Native.Nat.{_+_, _≤_, _<_};
 ghost use mathlib.Core.Path.{_≡_};
 ghost use mathlib.Core.Bool.{true};
-ghost use mathlib.Core.List.{_∷_, [], _++_};
+ghost use mathlib.Core.List.{_∷_};
 ghost use lib.ListN.{length, take, drop, getD};
 ghost use Rattle.method.specs.Method.{agree, drops};
 ghost use Rattle.picking.specs.Matrix.{cell, apart, allBelow, maxRows, maxEntries, signatureOf};

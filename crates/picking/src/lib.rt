@@ -1,12 +1,11 @@
 // The method of choosing (document 01, "Choosing"): the few entries of a matrix of numbers that tell its rows apart. The matrix stands row
 // after row in lent memory; each row has a mark, and two rows are to be told apart where their marks differ.
-ghost use Prim.Native.Nat.{_+_, _*_, _≤_, _<_};
+ghost use Prim.Native.Nat.{_+_, _<_};
 ghost use mathlib.Core.Path.{_≡_};
 ghost use mathlib.Core.Bool.{true, _&&_};
 ghost use mathlib.Core.List.{[]};
-ghost use lib.ListN.{length};
 ghost use Rattle.method.specs.Method.{agree, firstPair, drops};
-ghost use Rattle.picking.specs.Matrix.{cell, apart, allBelow, fits, picked, pickedBy, choiceOf, signatureOf, maxEntries};
+ghost use Rattle.picking.specs.Matrix.{cell, apart, allBelow, fits, picked, pickedBy, choiceOf, signatureOf};
 ghost use Rattle.picking.specs.Labels.{Fit, Sound, entriesOf};
 use classes::Two;
 use dropping::signature_of;

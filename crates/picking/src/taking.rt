@@ -1,10 +1,10 @@
 // Taking: "One is taken when it tells apart a needed pair that those taken before don't."
-ghost use Prim.Native.Nat.{ℕ, _+_, _*_, _≤_, _<_};
+ghost use Prim.Native.Nat.{_+_, _*_, _≤_, _<_};
 ghost use mathlib.Core.Path.{_≡_};
-ghost use mathlib.Core.Bool.{Bool, true, false, not, cond, _&&_, _||_};
+ghost use mathlib.Core.Bool.{true, false, not, cond, _&&_, _||_};
 ghost use mathlib.Core.List.{_∷_, [], _++_};
 ghost use lib.Dec.{eqb};
-ghost use lib.ListN.{length, take, drop, getD};
+ghost use lib.ListN.{length, take, drop};
 ghost use Rattle.method.specs.Method.{takes};
 ghost use Rattle.picking.specs.Matrix.{cell, apart, allBelow, maxRows, maxEntries};
 ghost use Rattle.bits.specs.Passing.{passing};

@@ -3,10 +3,9 @@
 --   entries-end, entries-stop, entries-next   what the entries from entry i on give: where none is left, where the next is refused, where it is read
 --   fromGates-stop, fromGates-done            what a job gives from its gates on, once they are refused or read
 --   fromFaults-stop, fromFaults-done          the same for its faults
-use Prim.Native.Nat.{ℕ, zero, suc, _+_, _-_, _≤_, _<_}
-use mathlib.Core.Path.{_≡_, refl, sym, ap, _∙_}
+use Prim.Native.Nat.{ℕ, suc, _+_, _-_, _≤_, _<_}
+use mathlib.Core.Path.{_≡_, sym, ap, _∙_}
 use mathlib.Core.List.{List}
-use native.Mathlib.Nat.{sub-eq-zero-of-le}
 use native.Mathlib.Numerals.{add-one}
 use native.Mathlib.Omega.{arith}
 use lib.ListN.{set}

@@ -3,7 +3,7 @@
 --   reading-valid     it is as the checks of a record demand
 --   reading-lengths   its lists have their fixed lengths
 --   reading-checked   the checks of a record, which writing makes, do not refuse it
-use Prim.Native.Nat.{ℕ, zero, suc, _+_, _^_, _≤_, _<_}
+use Prim.Native.Nat.{ℕ, zero, suc, _+_, _≤_, _<_}
 use native.Mathlib.Nat.{zero-add}
 use native.Mathlib.Omega.{arith}
 use mathlib.Core.Path.{_≡_, refl, sym, ap, _∙_}

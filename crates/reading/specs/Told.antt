@@ -4,7 +4,6 @@
 --   entryTold, gateTold, faultTold   what stands where three fields, a gate or a fault are due
 --   LinesFit      lines that were read fit their fields
 use Prim.Native.Nat.{ℕ, _^_, _<_}
-use mathlib.Core.Path.{_≡_}
 use mathlib.Core.List.{List}
 use Rattle.bits.specs.Answer.{Answer, number}
 use Rattle.bits.specs.Answer.Answer.{gives, refused}

@@ -1,8 +1,8 @@
 // The text of the report program (document 01, "The report program"): a job's sheet, or its refusal.
 ghost use Prim.Native.Nat.{_+_, _*_, _^_, _≤_, _<_};
 ghost use mathlib.Core.Path.{_≡_};
-ghost use mathlib.Core.List.{_∷_, _++_};
-ghost use lib.ListN.{length, take};
+ghost use mathlib.Core.List.{_∷_};
+ghost use lib.ListN.{length};
 ghost use Rattle.choosing.specs.Choosing.{verdictTold};
 ghost use Rattle.locating.specs.Scanning.{numbersAt};
 ghost use Rattle.sheet.specs.Putting.{Puts, Room, Within, Sheeted, Printable};

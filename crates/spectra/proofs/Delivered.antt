@@ -41,7 +41,7 @@ use Rattle.tables.specs.Operations.{tablesOf, tablesTo, tablesTold, countsOf}
 use Rattle.tables.specs.declared.Counts.{Counts}
 use Rattle.tables.specs.declared.TablesAnswer.{TablesAnswer}
 use Rattle.tables.specs.declared.TablesAnswer.the-variants.{Filled, Refused}
-use Rattle.tables.proofs.Circuits.{fixedBy-bit}
+use Rattle.tables.proofs.Faults.{fixedBy-bit}
 use Rattle.tables.proofs.Delivered.{length-table, length-tablesTo, tableBytes-most}
 use Rattle.tables.proofs.Values.{line-bit}
 use Rattle.spectra.specs.Filling.{Counted, spectraFilled}

@@ -38,7 +38,7 @@ use Rattle.gates.specs.Rows.{part, splice}
 use Rattle.tables.specs.declared.rows.Shape.{Shape}
 use Rattle.tables.specs.Circuit.{circuitEntry, circuitTable, fixingOf}
 use Rattle.tables.specs.Lines.{maxLines, placeOf, Spaced}
-use Rattle.tables.specs.Work.{maxTableBytes, rowBytes, lineValue, faultFix, Fixes, Sound, Good, Placed}
+use Rattle.tables.specs.Work.{rowBytes, lineValue, faultFix, Fixes, Sound, Good, Placed}
 use Rattle.tables.specs.Operations.{tablesTo}
 use Rattle.tables.proofs.Sizes.{all-tables-fit}
 use Rattle.tables.proofs.Space.{tableBytes-most, shape-bytes, line-index, row-inside}

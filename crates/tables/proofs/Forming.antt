@@ -6,7 +6,7 @@
 --   forming-all    all
 use Prim.Native.Nat.{ℕ, _+_, _≤_, _<_}
 use native.Mathlib.Omega.{arith}
-use mathlib.Core.Path.{_≡_, refl, _∙_}
+use mathlib.Core.Path.{_≡_, _∙_}
 use mathlib.Core.List.{List}
 use borrow.Author.Count.{below-none, below-more}
 use lib.ListN.{length, getD, set, replicate, length-set, length-replicate}

@@ -7,7 +7,7 @@
 --   place-fits      the place of any line's row fits a word
 --   own-fits        so does that of its own row behind
 --   moved           two places of good ones are exchanged for rows behind
-use Prim.Native.Nat.{ℕ, _+_, _*_, _^_, _≤_, _<_}
+use Prim.Native.Nat.{ℕ, _+_, _*_, _≤_, _<_}
 use native.Mathlib.Nat.{lt-of-le-of-lt, mul-le-mul}
 use native.Mathlib.Omega.{arith}
 use mathlib.Core.Path.{_≡_, refl, sym, subst, _∙_}

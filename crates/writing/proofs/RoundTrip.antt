@@ -13,7 +13,7 @@ use mathlib.Core.Path.{_≡_, refl, sym, ap, ap₂, _∙_}
 use mathlib.Core.Bool.{true, false}
 use mathlib.Core.List.{List, [], _∷_, _++_, append-assoc}
 use borrow.Author.Tests.{ltb-true, le-leb, lt-ltb, eq-eqb}
-use lib.Dec.{leb, ltb, lit≤}
+use lib.Dec.{leb, ltb}
 use lib.ListN.{length, getD, take, set, replicate}
 use lib.Seq.{sets, length-take-le, getD-take}
 use Rattle.bits.specs.Answer.{Answer, Fills, unless}

@@ -1,7 +1,7 @@
 -- `scan` meets its contract: the lowest and the number of the agreeing rows passed.
 use native.Mathlib.Omega.{arith}
 use Prim.Native.Nat.{_-_}
-use mathlib.Core.Path.{_∙_, ap}
+use mathlib.Core.Path.{_∙_}
 use denote.Ref.{now}
 use borrow.Author.Count.{falls}
 use borrow.Author.Needs.{needs}

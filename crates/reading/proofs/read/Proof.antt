@@ -1,9 +1,8 @@
 -- `reading::read` meets its contract.
-use native.Mathlib.Omega.{arith}
-use mathlib.Core.Path.{refl, sym, ap, _∙_}
+use mathlib.Core.Path.{refl, sym, _∙_}
 use denote.Ref.{now}
-use borrow.Author.Tests.{lt-ltb, le-ltb, le-leb, lt-leb}
-use Rattle.bits.proofs.Fields.{field-value, field-cut, field-lt}
+use borrow.Author.Tests.{le-leb, lt-leb}
+use Rattle.bits.proofs.Fields.{field-value, field-cut}
 use Rattle.bits.specs.Field.{from}
 use Rattle.job.specs.Layout.{inputCountBits, gateCountBits, maxInputs, maxGates}
 use Rattle.reading.specs.Reading.{reading, wholeJob}

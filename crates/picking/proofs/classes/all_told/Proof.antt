@@ -6,7 +6,7 @@ use borrow.Author.Needs.{scaled-fits}
 use mir.Syntax.{w16}
 use mir.Facts.{fits-le, fits-widen}
 use Prim.Native.Nat.{ℕ, _-_}
-use mathlib.Core.Path.{_≡_, ap, sym, _∙_}
+use mathlib.Core.Path.{ap, sym, _∙_}
 use denote.Ref.{now}
 use borrow.Author.Count.{falls}
 use Rattle.picking.specs.Labels.{met, stray}

@@ -7,7 +7,7 @@ use borrow.Author.Needs.{scaled-fits}
 use denote.Ref.{now}
 use mir.Facts.{fits-le}
 use Rattle.picking.proofs.Sizes.{place-fits, start-fits}
-use Prim.Native.Nat.{_+_, _-_, _*_}
+use Prim.Native.Nat.{_-_}
 use mathlib.Core.Path.{refl}
 use borrow.Author.Count.{falls}
 use Rattle.picking.specs.Matrix.{cell, maxRows}

@@ -1,6 +1,5 @@
 -- `picking::dropping::signature_of` meets its contract.
 use Prim.Native.Nat.{zero-le}
-use mathlib.Core.Path.{_∙_}
 use denote.Ref.{now}
 use Rattle.picking.specs.Matrix.{cell, maxEntries}
 use Rattle.picking.proofs.Resting.{no-labels, rest-whole}
