@@ -2,6 +2,7 @@
 --
 --   gate-index       a gate's number is an index of the record's gates
 --   lines-most       the lines of a valid job are no more than those of the largest circuit
+--   lines-few        that many, computed
 --   line-below, line-index   so each of them is an index of the places
 --   gate-line-index, first-index, second-index   so are a gate's line and the lines that it reads
 --   input-row        an input has a row
@@ -50,9 +51,12 @@ lines-most j valid = omega (arith, valid .few, valid .gates-few)
 pub line-below : (j : Job) → Valid j → (l : ℕ) → l < lines j → l < maxLines
 line-below j valid l h = omega (arith, lines-most j valid)
 
-pub line-index : (j : Job) → Valid j → {l : ℕ} → l < lines j → l < 72
+pub lines-few : (j : Job) → Valid j → lines j ≤ 72
 unfolding maxInputs maxGates
-line-index j valid h = omega (arith, lines-most j valid)
+lines-few j valid = omega (arith, lines-most j valid)
+
+pub line-index : (j : Job) → Valid j → {l : ℕ} → l < lines j → l < 72
+line-index j valid h = omega (arith, lines-few j valid)
 
 module _ (j : Job) (valid : Valid j) (q : ℕ) (h : q < j .«gate_count») where
   pub gate-line-index : j .inputs + q < 72
