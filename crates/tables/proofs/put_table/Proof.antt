@@ -2,7 +2,6 @@
 use Prim.Native.Nat.{ℕ, _+_, _≤_}
 use native.Mathlib.Omega.{arith}
 use mathlib.Core.Path.{sym, subst, _∙_}
-use borrow.Author.Needs.{needs}
 use lib.ListN.{length}
 use Rattle.job.specs.Layout.{maxInputs, maxGates}
 use Rattle.tables.proofs.Putting.{table-inside, table-put}
@@ -23,7 +22,7 @@ circuit-places-requires c κs =
     (sound-kept (a .job) (a .shape) (a .rows .now) (c .before .before .before .before .before .before .before .before .pre .0) (good .last .0) (good .kept .0), c .before .before .before .before .before .forms-of .ensures, good .ensures, c .before .before .before .before .before .before .before .before .pre .1)
 
 cast-output : tie.Need-cast-output
-cast-output c = search needs
+cast-output c = omega (arith, line-index (c .before .before .before .before .before .before .before .before .before .before .before .before .args .job) (c .before .before .before .before .before .before .before .before .before .before .before .before .pre .0 .valid) (c .before .before .before .before .before .before .before .before .before .before .before .before .pre .0 .valid .output))
 
 mul-copy : tie.Need-mul-copy
 unfolding maxInputs maxGates

@@ -29,7 +29,7 @@ good-circuit-requires : tie.Need-good-circuit-requires Inv-loop μ-loop
 good-circuit-requires c κs = (c .before .before .before .before .before .pre .0, c .before .forms-of .ensures)
 
 cast-output : tie.Need-cast-output Inv-loop μ-loop
-cast-output c = search needs
+cast-output c = omega (arith, line-index (c .before .before .before .before .before .before .before .before .before .args .job) (c .before .before .before .before .before .before .before .before .before .pre .0 .valid) (c .before .before .before .before .before .before .before .before .before .pre .0 .valid .output))
 
 loop-holds : tie.Need-loop-holds Inv-loop μ-loop
 loop-holds c =

@@ -1,20 +1,24 @@
 -- `tables::circuit::faulty_circuit` meets its contract: the fixed lines are placed, and then the gates that follow them.
+use native.Mathlib.Omega.{arith}
 use mathlib.Core.Path.{_∙_}
-use borrow.Author.Needs.{needs}
+use Rattle.job.specs.Layout.{maxInputs, maxGates}
 use Rattle.tables.proofs.Faults.{first-line, second-line}
 use Rattle.tables.proofs.Following.{follow-start}
-use Rattle.tables.proofs.Space.{lines-most, shape-bytes, bytes-most, sound-kept}
+use Rattle.tables.proofs.Space.{lines-most, lines-most, shape-bytes, bytes-most, sound-kept}
 use Rattle.tables.proofs.circuit.faulty_circuit.Statement.{statement}
 use Rattle.tables.proofs.circuit.faulty_circuit.Tie as tie
 
 cast-lines : tie.Need-cast-lines
-cast-lines c = search needs
+unfolding maxInputs maxGates
+cast-lines c = omega (arith, lines-most (c .before .before .args .job) (c .before .before .pre .0 .valid))
 
 cast-lines-2 : tie.Need-cast-lines-2
-cast-lines-2 c = search needs
+unfolding maxInputs maxGates
+cast-lines-2 c = omega (arith, lines-most (c .before .before .before .args .job) (c .before .before .before .pre .0 .valid))
 
 add-lines : tie.Need-add-lines
-add-lines c = search needs
+unfolding maxInputs maxGates
+add-lines c = omega (arith, lines-most (c .before .before .before .args .job) (c .before .before .before .pre .0 .valid))
 
 fix-rows-requires : tie.Need-fix-rows-requires
 fix-rows-requires c κs = (c .before .before .before .before .pre .0, c .before .before .before .before .pre .2, c .before .before .before .before .pre .3)

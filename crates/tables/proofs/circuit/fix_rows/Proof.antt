@@ -1,29 +1,35 @@
 -- `tables::circuit::fix_rows` meets its contract: the stuck line's row is filled with its level, and the rows of bridged lines, one after
 -- the other, from the good circuit's rows, which stand before them.
 use mathlib.Core.Path.{_∙_}
+use native.Mathlib.Omega.{arith}
 use borrow.Author.Needs.{needs}
+use Rattle.job.specs.Layout.{maxInputs, maxGates}
 use Rattle.tables.proofs.Faults.{stuck-line, low-line, high-line, fixed-stuck, fixed-bridge}
-use Rattle.tables.proofs.Space.{row-room, row-fits, own-row, good-row}
+use Rattle.tables.proofs.Space.{lines-most, line-index, good-row, own-row, row-room, row-fits}
 use Rattle.tables.proofs.circuit.fix_rows.Statement.{statement}
 use Rattle.tables.proofs.circuit.fix_rows.Tie as tie
 
 cast-lines : tie.Need-cast-lines
-cast-lines c = search needs
+unfolding maxInputs maxGates
+cast-lines c = omega (arith, lines-most (c .before .before .args .job) (c .before .before .pre .0 .valid))
 
 cast-lines-2 : tie.Need-cast-lines-2
-cast-lines-2 c = search needs
+unfolding maxInputs maxGates
+cast-lines-2 c = omega (arith, lines-most (c .before .before .before .args .job) (c .before .before .before .pre .0 .valid))
 
 add-lines : tie.Need-add-lines
-add-lines c = search needs
+unfolding maxInputs maxGates
+add-lines c = omega (arith, lines-most (c .before .before .before .args .job) (c .before .before .before .pre .0 .valid))
 
 enum-known-fault : tie.Need-enum-known-fault
 enum-known-fault c = search needs
 
 cast-level-row : tie.Need-cast-level-row
-cast-level-row c = search needs
+cast-level-row c = omega (arith, line-index (c .before .before .before .before .before .before .before .args .job) (c .before .before .before .before .before .before .before .pre .0 .valid) (stuck-line (c .before .before .before .before .before .before .before .args .job) (c .before .before .before .before .before .before .before .args .fault) (c .before .before .before .before .before .before .before .pre .2) (c .before .before .fault .given .1)))
 
 add-level-row : tie.Need-add-level-row
-add-level-row c = search needs
+unfolding maxInputs maxGates
+add-level-row c = omega (arith, lines-most (c .before .before .before .before .before .before .before .args .job) (c .before .before .before .before .before .before .before .pre .0 .valid), line-index (c .before .before .before .before .before .before .before .args .job) (c .before .before .before .before .before .before .before .pre .0 .valid) (stuck-line (c .before .before .before .before .before .before .before .args .job) (c .before .before .before .before .before .before .before .args .fault) (c .before .before .before .before .before .before .before .pre .2) (c .before .before .fault .given .1)))
 
 mul-level-row : tie.Need-mul-level-row
 mul-level-row c =
@@ -41,7 +47,7 @@ enum-known-fault-2 : tie.Need-enum-known-fault-2
 enum-known-fault-2 c = search needs
 
 cast-x : tie.Need-cast-x
-cast-x c = search needs
+cast-x c = omega (arith, line-index (c .before .before .before .before .before .before .args .job) (c .before .before .before .before .before .before .pre .0 .valid) (low-line (c .before .before .before .before .before .before .args .job) (c .before .before .before .before .before .before .args .fault) (c .before .before .before .before .before .before .pre .2) (c .before .fault2 .given .1)))
 
 mul-x : tie.Need-mul-x
 mul-x c =
@@ -50,7 +56,7 @@ mul-x c =
     row-fits (a .job) (a .shape) (a .rows .now) (c .before .before .before .before .before .before .pre .0) _ (good-row (a .job) (low-line (a .job) (a .fault) (c .before .before .before .before .before .before .pre .2) (is .1))) (c .before .before .before .before .before .before .good .0 .0)
 
 cast-y : tie.Need-cast-y
-cast-y c = search needs
+cast-y c = omega (arith, line-index (c .before .before .before .before .before .before .args .job) (c .before .before .before .before .before .before .pre .0 .valid) (high-line (c .before .before .before .before .before .before .args .job) (c .before .before .before .before .before .before .args .fault) (c .before .before .before .before .before .before .pre .2) (c .before .fault2 .given .1)))
 
 mul-y : tie.Need-mul-y
 mul-y c =
@@ -62,10 +68,11 @@ bridge-form-requires : tie.Need-bridge-form-requires
 bridge-form-requires c κs = tt
 
 cast-combine : tie.Need-cast-combine
-cast-combine c = search needs
+cast-combine c = omega (arith, line-index (c .before .before .before .before .before .before .before .before .args .job) (c .before .before .before .before .before .before .before .before .pre .0 .valid) (low-line (c .before .before .before .before .before .before .before .before .args .job) (c .before .before .before .before .before .before .before .before .args .fault) (c .before .before .before .before .before .before .before .before .pre .2) (c .before .before .before .fault2 .given .1)))
 
 add-combine : tie.Need-add-combine
-add-combine c = search needs
+unfolding maxInputs maxGates
+add-combine c = omega (arith, lines-most (c .before .before .before .before .before .before .before .before .args .job) (c .before .before .before .before .before .before .before .before .pre .0 .valid), line-index (c .before .before .before .before .before .before .before .before .args .job) (c .before .before .before .before .before .before .before .before .pre .0 .valid) (low-line (c .before .before .before .before .before .before .before .before .args .job) (c .before .before .before .before .before .before .before .before .args .fault) (c .before .before .before .before .before .before .before .before .pre .2) (c .before .before .before .fault2 .given .1)))
 
 mul-combine : tie.Need-mul-combine
 mul-combine c =
@@ -77,10 +84,11 @@ combine-requires : tie.Need-combine-requires
 combine-requires c κs = tt
 
 cast-combine-2 : tie.Need-cast-combine-2
-cast-combine-2 c = search needs
+cast-combine-2 c = omega (arith, line-index (c .before .before .before .before .before .before .before .before .before .before .before .before .args .job) (c .before .before .before .before .before .before .before .before .before .before .before .before .pre .0 .valid) (high-line (c .before .before .before .before .before .before .before .before .before .before .before .before .args .job) (c .before .before .before .before .before .before .before .before .before .before .before .before .args .fault) (c .before .before .before .before .before .before .before .before .before .before .before .before .pre .2) (c .before .before .before .before .before .before .before .fault2 .given .1)))
 
 add-combine-2 : tie.Need-add-combine-2
-add-combine-2 c = search needs
+unfolding maxInputs maxGates
+add-combine-2 c = omega (arith, lines-most (c .before .before .before .before .before .before .before .before .before .before .before .before .args .job) (c .before .before .before .before .before .before .before .before .before .before .before .before .pre .0 .valid), line-index (c .before .before .before .before .before .before .before .before .before .before .before .before .args .job) (c .before .before .before .before .before .before .before .before .before .before .before .before .pre .0 .valid) (high-line (c .before .before .before .before .before .before .before .before .before .before .before .before .args .job) (c .before .before .before .before .before .before .before .before .before .before .before .before .args .fault) (c .before .before .before .before .before .before .before .before .before .before .before .before .pre .2) (c .before .before .before .before .before .before .before .fault2 .given .1)))
 
 mul-combine-2 : tie.Need-mul-combine-2
 mul-combine-2 c =

@@ -4,10 +4,9 @@ use Prim.Native.Nat.{_-_}
 use native.Mathlib.Omega.{arith}
 use mathlib.Core.Logic.{⊎-elim}
 use borrow.Author.Count.{falls}
-use borrow.Author.Needs.{needs}
 use Rattle.job.specs.Layout.{maxInputs, maxGates}
 use Rattle.tables.proofs.Following.{Follows, follows-start, follows-next, follows-end}
-use Rattle.tables.proofs.Space.{gate-index, gate-line-index, first-index, second-index, limit-fits, own-inside}
+use Rattle.tables.proofs.Space.{gate-index, lines-most, gate-line-index, first-index, second-index, limit-fits, own-inside}
 use Rattle.tables.proofs.Faults.{low-index}
 use Rattle.tables.proofs.circuit.follow.Statement.{statement}
 use Rattle.tables.proofs.circuit.follow.Tie as tie
@@ -19,10 +18,12 @@ abbrev μ-loop : tie.MeasureT-loop
 μ-loop rows₀ job forms inputs count bytes low high limit places₀ q₀ rows places q = count - q
 
 cast-inputs : tie.Need-cast-inputs Inv-loop μ-loop
-cast-inputs c = search needs
+unfolding maxInputs maxGates
+cast-inputs c = omega (arith, lines-most (c .before .args .t3) (c .before .pre .0 .valid))
 
 cast-count : tie.Need-cast-count Inv-loop μ-loop
-cast-count c = search needs
+unfolding maxInputs maxGates
+cast-count c = omega (arith, lines-most (c .before .args .t3) (c .before .pre .0 .valid))
 
 first-requires : tie.Need-first-requires Inv-loop μ-loop
 first-requires c κs = tt
@@ -31,7 +32,8 @@ second-requires : tie.Need-second-requires Inv-loop μ-loop
 second-requires c κs = tt
 
 add-limit : tie.Need-add-limit Inv-loop μ-loop
-add-limit c = search needs
+unfolding maxInputs maxGates
+add-limit c = omega (arith, lines-most (c .before .before .before .args .t3) (c .before .before .before .pre .0 .valid))
 
 mul-limit : tie.Need-mul-limit Inv-loop μ-loop
 mul-limit c = limit-fits (c .before .before .before .args .t3) (c .before .before .before .args .shape) (c .before .before .before .args .rows .now) (c .before .before .before .pre .0) (c .before .before .before .good .0 .0)

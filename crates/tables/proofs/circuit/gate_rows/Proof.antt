@@ -3,12 +3,11 @@ use Prim.Native.Nat.{_+_, _-_}
 use native.Mathlib.Omega.{arith}
 use mathlib.Core.Path.{_≡_, refl, _∙_}
 use borrow.Author.Count.{falls}
-use borrow.Author.Needs.{needs}
 use lib.ListN.{length}
-use Rattle.job.specs.Layout.{maxGates}
+use Rattle.job.specs.Layout.{maxInputs, maxGates}
 use Rattle.tables.specs.Work.{Filled}
 use Rattle.tables.proofs.Filling.{filled-gate, filled-fewer}
-use Rattle.tables.proofs.Space.{gate-index, sound-kept, gate-fits, first-fits, second-fits}
+use Rattle.tables.proofs.Space.{gate-index, lines-most, sound-kept, gate-fits, first-fits, second-fits}
 use Rattle.tables.proofs.circuit.gate_rows.Statement.{statement}
 use Rattle.tables.proofs.circuit.gate_rows.Tie as tie
 
@@ -19,10 +18,12 @@ abbrev μ-loop : tie.MeasureT-loop
 μ-loop rows₀ job forms inputs count bytes q₀ rows q = count - q
 
 cast-inputs : tie.Need-cast-inputs Inv-loop μ-loop
-cast-inputs c = search needs
+unfolding maxInputs maxGates
+cast-inputs c = omega (arith, lines-most (c .before .args .t2) (c .before .pre .0 .valid))
 
 cast-count : tie.Need-cast-count Inv-loop μ-loop
-cast-count c = search needs
+unfolding maxInputs maxGates
+cast-count c = omega (arith, lines-most (c .before .args .t2) (c .before .pre .0 .valid))
 
 loop-holds : tie.Need-loop-holds Inv-loop μ-loop
 loop-holds c = (refl, filled-fewer (c .before .args .t2) _ (c .before .args .t2 .inputs) (c .before .args .rows .now) (omega arith) (c .before .pre .2))

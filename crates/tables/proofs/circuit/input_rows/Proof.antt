@@ -3,11 +3,11 @@ use Prim.Native.Nat.{_-_}
 use native.Mathlib.Omega.{arith}
 use mathlib.Core.Path.{_≡_, refl, _∙_}
 use borrow.Author.Count.{falls}
-use borrow.Author.Needs.{needs}
 use lib.ListN.{length}
+use Rattle.job.specs.Layout.{maxInputs, maxGates}
 use Rattle.tables.specs.Work.{Filled}
 use Rattle.tables.proofs.Filling.{filled-none, filled-input, filled-fewer}
-use Rattle.tables.proofs.Space.{sound-kept, row-fits, row-room, input-row, input-shape}
+use Rattle.tables.proofs.Space.{lines-most, sound-kept, row-fits, row-room, input-row, input-shape}
 use Rattle.tables.proofs.circuit.input_rows.Statement.{statement}
 use Rattle.tables.proofs.circuit.input_rows.Tie as tie
 
@@ -21,7 +21,8 @@ loop-holds : tie.Need-loop-holds Inv-loop μ-loop
 loop-holds c = (refl, filled-none (c .before .args .job) (c .before .args .rows .now))
 
 cast-if1 : tie.Need-cast-if1 Inv-loop μ-loop
-cast-if1 c = search needs
+unfolding maxInputs maxGates
+cast-if1 c = omega (arith, lines-most (c .before .before .before .args .job) (c .before .before .before .pre .valid))
 
 mul-input-row : tie.Need-mul-input-row Inv-loop μ-loop
 mul-input-row c =
