@@ -41,8 +41,9 @@ use Rattle.tables.specs.Operations.{tablesOf, tablesTo, tablesTold, countsOf}
 use Rattle.tables.specs.declared.Counts.{Counts}
 use Rattle.tables.specs.declared.TablesAnswer.{TablesAnswer}
 use Rattle.tables.specs.declared.TablesAnswer.the-variants.{Filled, Refused}
-use Rattle.tables.proofs.Circuits.{fixedBy-bit}
-use Rattle.tables.proofs.Delivered.{length-table, length-tablesTo, tableBytes-most}
+use Rattle.tables.proofs.Delivered.{length-table, length-tablesTo}
+use Rattle.tables.proofs.Faults.{fixedBy-bit}
+use Rattle.tables.proofs.Space.{tableBytes-most}
 use Rattle.tables.proofs.Values.{line-bit}
 use Rattle.spectra.specs.Filling.{Counted, spectraFilled}
 use Rattle.spectra.specs.Operations.{tableRow, polarityOk, rowSpectra, circuitSpectra, jobSpectraOf}
