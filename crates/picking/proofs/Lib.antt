@@ -2,6 +2,7 @@ pub mod Labelled
 pub mod Marked
 pub mod Partners
 pub mod Columns
+pub mod Keying
 pub mod Refined
 pub mod Strays
 pub mod Within

@@ -3,11 +3,10 @@
 --   Matching        what a loop knows that seeks the lowest number from a place on: none before k passes
 --   matching-none, matching-found, matching-next, matching-all   its start, its ways out and its step
 --   matching-later  it may start later
---   both-found, both-labels, both-values                         whether two rows have the same label and value, by comparing
 --   refined-le      the lowest row that has both is not above
 --   refined         the lowest rows that have both are labels
 --   met-labels      so are those by two columns of labels
---   met-from, met-at, met-le   one such label, sought from the larger of the two on
+--   met-from, met-at, met-le   one such label, sought by keys from the larger of the two on
 use Prim.Native.Nat.{ℕ, zero, suc, _+_, _-_, _≤_, _<_}
 use native.Mathlib.Nat.{eq-or-lt-of-le, le-antisymm}
 use native.Mathlib.Numerals.{add-one}
@@ -21,8 +20,9 @@ use lib.Dec.{eqb}
 use lib.ListN.{getD}
 use Rattle.bits.proofs.Tests.{and-l, and-r, and-i, clash}
 use Rattle.bits.proofs.Packed.{tabulate-at}
-use Rattle.picking.specs.Labels.{Holds, Low, Labels, both, met, lowestFrom}
+use Rattle.picking.specs.Labels.{Holds, Low, Labels, both, Keyed, met, lowestFrom}
 use Rattle.method.proofs.Pairs.{by-test, by-cond}
+use Rattle.picking.proofs.Keying.{keyed-lowest}
 
 -- ---- the lowest number that passes
 
@@ -96,13 +96,10 @@ module _ (test : ℕ → Bool) where
 -- ---- rows of one class with one value
 
 module _ (labels values : List ℕ) (k c : ℕ) where
-  pub both-found : getD labels k 0 ≡ getD labels c 0 → getD values k 0 ≡ getD values c 0 → both labels values k c ≡ true
+  both-found : getD labels k 0 ≡ getD labels c 0 → getD values k 0 ≡ getD values c 0 → both labels values k c ≡ true
   both-found e f = and-i (eq-eqb (getD labels k 0) (getD labels c 0) e) (eq-eqb (getD values k 0) (getD values c 0) f)
 
-  pub both-labels : (getD labels k 0 ≡ getD labels c 0 → ⊥) → both labels values k c ≡ false
-  both-labels d = ap (λ (t : Bool). t && eqb (getD values k 0) (getD values c 0)) (ne-eqb (getD labels k 0) (getD labels c 0) d)
-
-  pub both-values : (getD values k 0 ≡ getD values c 0 → ⊥) → both labels values k c ≡ false
+  both-values : (getD values k 0 ≡ getD values c 0 → ⊥) → both labels values k c ≡ false
   both-values d =
       ap (λ (t : Bool). eqb (getD labels k 0) (getD labels c 0) && t) (ne-eqb (getD values k 0) (getD values c 0) d)
       ∙ and-false (eqb (getD labels k 0) (getD labels c 0))
@@ -183,18 +180,19 @@ module _ (rows : ℕ) (labels values : List ℕ) (low : Low rows labels) where
     pub met-from : from ≤ c
     met-from = least c (low c h) (values-low c h)
 
-    pub met-at : {r : ℕ} → r ≡ lowestFrom (λ k. both labels values k c) (c - from) from → r ≡ getD (met rows labels values) c 0
-    met-at e =
-        e
-        ∙ sym (matching-later (λ k. both labels values k c) above met-from
-        (λ k a l.
-        both-values labels values k c
-        (λ (s : getD values k 0 ≡ getD values c 0).
-        let i : k < rows = omega (arith, met-from) in
-        let m : getD values k 0 ≤ k = values-low k i in
-        let n : from ≤ k = least k a (omega arith) in
-        omega arith)))
-        ∙ sym (met-holds c h)
+    module _ (keys : List ℕ) (keyed : Keyed rows labels values keys) {r : ℕ} (e : r ≡ lowestFrom (λ k. eqb (getD keys k 0) (getD keys c 0)) (c - from) from) where
+      pub met-at : r ≡ getD (met rows labels values) c 0
+      met-at =
+          keyed-lowest labels values keys keyed c h met-from e
+          ∙ sym (matching-later (λ k. both labels values k c) above met-from
+          (λ k a l.
+          both-values labels values k c
+          (λ (s : getD values k 0 ≡ getD values c 0).
+          let i : k < rows = omega (arith, met-from) in
+          let m : getD values k 0 ≤ k = values-low k i in
+          let n : from ≤ k = least k a (omega arith) in
+          omega arith)))
+          ∙ sym (met-holds c h)
 
-    pub met-le : {r : ℕ} → r ≡ lowestFrom (λ k. both labels values k c) (c - from) from → r ≤ c
-    met-le e = subst (λ (x : ℕ). x ≤ c) (sym (met-at e)) (met-labels .low c h)
+      pub met-le : r ≤ c
+      met-le = subst (λ (x : ℕ). x ≤ c) (sym met-at) (met-labels .low c h)

@@ -2,6 +2,7 @@
 --
 --   Low, Labels    what makes numbers labels of a relation
 --   both           two rows have the same label and the same value
+--   Keyed          one number for each row that stands for its label and its value
 --   met            the labels of the rows by two columns of labels
 --   stray          a row's mark is not its label's
 --   alikeMarked    two rows of one class whose marks differ
@@ -41,6 +42,10 @@ pub record Labels (rows : ℕ) (same : ℕ → ℕ → Bool) (labels : List ℕ)
 
 abbrev pub both : List ℕ → List ℕ → ℕ → ℕ → Bool
 both labels values a b = eqb (getD labels a 0) (getD labels b 0) && eqb (getD values a 0) (getD values b 0)
+
+-- keys are equal where label and value are
+abbrev pub Keyed : ℕ → List ℕ → List ℕ → List ℕ → Type 0
+Keyed rows labels values keys = (a b : ℕ) → a < rows → b < rows → eqb (getD keys a 0) (getD keys b 0) ≡ both labels values a b
 
 -- the lowest number, of so many from k on, that passes a test, or else the one after them
 unfoldable pub lowestFrom : (ℕ → Bool) → ℕ → ℕ → ℕ

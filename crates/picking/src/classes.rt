@@ -2,17 +2,22 @@
 ghost use Prim.Native.Nat.{ℕ, _+_, _-_, _*_, _≤_, _<_};
 ghost use mathlib.Core.Path.{_≡_};
 ghost use mathlib.Core.Bool.{not, cond};
-ghost use lib.Dec.{ltb};
-ghost use lib.ListN.{length};
+ghost use lib.Dec.{ltb, eqb};
+ghost use lib.ListN.{length, getD};
 ghost use Rattle.method.specs.Method.{someBelow, firstPair, pairWith, Pair};
 ghost use Rattle.method.specs.Method.Pair.{pair};
 ghost use Rattle.picking.specs.Matrix.{cell, maxRows};
-ghost use Rattle.picking.specs.Labels.{Holds, Low, Labels, both, met, stray, lowestFrom, alikeMarked, pairTold};
+ghost use Rattle.picking.specs.Labels.{Holds, Low, Labels, both, Keyed, met, stray, lowestFrom, alikeMarked, pairTold};
 use crate::MAX_ROWS;
 
 // A number for each row: its coefficient at an entry, or its label.
 pub(crate) struct Column {
     pub(crate) of: [u16; MAX_ROWS],
+}
+
+// A number for each row that stands for its label and its value: one test compares both.
+struct Keys {
+    of: [u32; MAX_ROWS],
 }
 
 // Two rows of one class whose marks differ, or no such rows.
@@ -44,17 +49,30 @@ pub(crate) fn coefficients(work: &[u16], width: usize, rows: usize, entry: usize
     Column { of }
 }
 
-// The lowest row, from a row on, that has the label and the value of row c.
-fn lowest(labels: &[u16], values: &[u16], from: usize, c: usize) -> usize
-    requires { ⌜ (c < length (now labels)) × (c < length (now values)) × (from ≤ c) ⌝ }
-    ensures { λ r. ⌜ r ≡ lowestFrom (λ k. both (now (labels .entry)) (now (values .entry)) k c) (c - from) from ⌝ }
+// The keys of the rows by their labels and values.
+fn joined(rows: usize, labels: &[u16], values: &[u16]) -> Keys
+    requires { ⌜ (rows ≤ maxRows) × (rows ≤ length (now labels)) × (rows ≤ length (now values)) ⌝ }
+    ensures { λ r. ⌜ Keyed rows (now (labels .entry)) (now (values .entry)) (r .of) ⌝ }
 {
+    let mut of = [0u32; MAX_ROWS];
+    let mut c = 0;
+    while c < rows {
+        of[c] = labels[c] as u32 * 65536 + values[c] as u32;
+        c += 1;
+    }
+    Keys { of }
+}
+
+// The lowest row, from a row on, that has the key of row c.
+fn lowest(keys: &[u32], from: usize, c: usize) -> usize
+    requires { ⌜ (c < length (now keys)) × (from ≤ c) ⌝ }
+    ensures { λ r. ⌜ r ≡ lowestFrom (λ k. eqb (getD (now (keys .entry)) k 0) (getD (now (keys .entry)) c 0)) (c - from) from ⌝ }
+{
+    let key = keys[c];
     let mut k = from;
     while k < c {
-        if labels[k] == labels[c] {
-            if values[k] == values[c] {
-                return k;
-            }
+        if keys[k] == key {
+            return k;
         }
         k += 1;
     }
@@ -66,11 +84,12 @@ pub(crate) fn refine(rows: usize, labels: Column, values: Column) -> Column
     requires { ⌜ (rows ≤ maxRows) × Low rows (labels .of) ⌝ }
     ensures { λ r. ⌜ Labels rows (both (labels .of) (values .of)) (r .of) ⌝ }
 {
+    let keys = joined(rows, &labels.of, &values.of);
     let mut of = [0u16; MAX_ROWS];
     let mut c = 0;
     while c < rows {
         let from = labels.of[c] as usize;
-        of[c] = lowest(&labels.of, &values.of, from, c) as u16;
+        of[c] = lowest(&keys.of, from, c) as u16;
         c += 1;
     }
     Column { of }
@@ -84,13 +103,14 @@ fn larger(a: usize, b: usize) -> usize
 
 // Whether every row has the mark of the lowest row that has its label in both columns: no row before its labels has them.
 pub(crate) fn all_told(rows: usize, marks: &[u8], labels: &[u16], others: &[u16]) -> bool
-    requires { ⌜ (rows ≤ length (now marks)) × (rows ≤ length (now labels)) × (rows ≤ length (now others)) × Low rows (now labels) × Low rows (now others) ⌝ }
+    requires { ⌜ (rows ≤ maxRows) × (rows ≤ length (now marks)) × (rows ≤ length (now labels)) × (rows ≤ length (now others)) × Low rows (now labels) × Low rows (now others) ⌝ }
     ensures { λ r. ⌜ r ≡ not (someBelow rows (stray (met rows (now (labels .entry)) (now (others .entry))) (now (marks .entry)))) ⌝ }
 {
+    let keys = joined(rows, labels, others);
     let mut c = 0;
     while c < rows {
         let from = larger(labels[c] as usize, others[c] as usize);
-        if marks[c] != marks[lowest(labels, others, from, c)] {
+        if marks[c] != marks[lowest(&keys.of, from, c)] {
             return false;
         }
         c += 1;
@@ -133,7 +153,7 @@ fn search_pairs(rows: usize, marks: &[u8], labels: &[u16]) -> Two
 
 // The same. Mostly there are no such rows: then every row has the mark of its label, which is seen without comparing each with each.
 pub(crate) fn first_pair(rows: usize, marks: &[u8], labels: &[u16]) -> Two
-    requires { ⌜ (rows ≤ length (now marks)) × (rows ≤ length (now labels)) × Low rows (now labels) ⌝ }
+    requires { ⌜ (rows ≤ maxRows) × (rows ≤ length (now marks)) × (rows ≤ length (now labels)) × Low rows (now labels) ⌝ }
     ensures { λ r. ⌜ pairTold r ≡ firstPair rows (alikeMarked (now (labels .entry)) (now (marks .entry))) ⌝ }
 {
     if all_told(rows, marks, labels, labels) {

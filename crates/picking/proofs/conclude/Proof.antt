@@ -11,7 +11,7 @@ use Rattle.picking.proofs.conclude.Tie as tie
 
 first-pair-requires : tie.Need-first-pair-requires
 unfolding maxRows
-first-pair-requires c κs = (c .before .before .before .before .before .pre .0 .marked, count-within (c .first-pair-arg2 .given .0) (c .before .before .before .before .before .pre .0 .most), c .before .before .before .before .before .pre .1 .labelled .low)
+first-pair-requires c κs = (c .before .before .before .before .before .pre .0 .most, c .before .before .before .before .before .pre .0 .marked, count-within (c .first-pair-arg2 .given .0) (c .before .before .before .before .before .pre .0 .most), c .before .before .before .before .before .pre .1 .labelled .low)
 
 enum-known-pair : tie.Need-enum-known-pair
 enum-known-pair c = c .match .keys1

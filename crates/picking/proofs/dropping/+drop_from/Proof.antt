@@ -81,7 +81,7 @@ drop-from-drop-from-requires t c κs = let a = c .before .before .before .before
 
 drop-from-all-told-requires : (t : ℕ) → drop-from-lts.Need-all-told-requires (claims t) (drop-from-at t) drop-from.Post
 unfolding maxRows
-drop-from-all-told-requires t c κs = (c .before .before .before .before .before .before .before .before .before .before .before .before .before .before .pre .1 .0 .marked, count-within (c .before .before .before .all-told-arg2 .given .0) (c .before .before .before .before .before .before .before .before .before .before .before .before .before .before .pre .1 .0 .most), count-within (c .all-told-arg4 .given .0) (c .before .before .before .before .before .before .before .before .before .before .before .before .before .before .pre .1 .0 .most), c .before .before .before .before .before .before .before .before .before .before .before .before .before .before .pre .1 .4 .low, c .before .before .before .before .before .before .drop-from .ensures .labelled .low)
+drop-from-all-told-requires t c κs = (c .before .before .before .before .before .before .before .before .before .before .before .before .before .before .pre .1 .0 .most, c .before .before .before .before .before .before .before .before .before .before .before .before .before .before .pre .1 .0 .marked, count-within (c .before .before .before .all-told-arg2 .given .0) (c .before .before .before .before .before .before .before .before .before .before .before .before .before .before .pre .1 .0 .most), count-within (c .all-told-arg4 .given .0) (c .before .before .before .before .before .before .before .before .before .before .before .before .before .before .pre .1 .0 .most), c .before .before .before .before .before .before .before .before .before .before .before .before .before .before .pre .1 .4 .low, c .before .before .before .before .before .before .drop-from .ensures .labelled .low)
 
 drop-from-returns-2 : (t : ℕ) → drop-from-lts.Need-returns-2 (claims t) (drop-from-at t) drop-from.Post
 drop-from-returns-2 t c = let a = c .before .before .before .before .before .before .before .before .before .before .before .before .before .before .before .before .args in rest-drop (now (a .work)) (a .width) (a .rows) (now (a .marks)) (now (a .taken)) (a .i) (c .before .before .before .before .before .before .before .before .drop-from .result) (a .t7 .of) (met (a .rows) (a .t7 .of) (c .before .before .before .before .before .before .before .before .drop-from .result .labels .of)) (place-inside (c .before .before .before .before .before .before .before .before .before .before .before .before .before .before .before .before .pre .1 .3) (c .before .before .before .before .before .before .before .before .before .before .before .before .if1 .left)) (c .before .before .before .before .before .before .before .before .drop-from .ensures) (c .before .before .before .before .before .before .before .before .before .before .before .before .before .before .before .before .pre .1 .4) (met-labels (a .rows) (a .t7 .of) (c .before .before .before .before .before .before .before .before .drop-from .result .labels .of) (c .before .before .before .before .before .before .before .before .before .before .before .before .before .before .before .before .pre .1 .4 .low)) (c .before .all-told .ensures) (c .if2 .taken)
