@@ -10,10 +10,13 @@ use native.Mathlib.Omega.{arith}
 use mathlib.Core.Path.{_≡_, sym, ap, ap₂, _∙_}
 use mathlib.Core.List.{List, _∷_, _++_}
 use lib.ListN.{length, take, drop, getD, set, length-drop}
-use lib.Seq.{length-take-le, take-all, set-at, getD-drop}
+use lib.Seq.{length-take-le, take-suc, take-all, append-snoc, set-at, getD-drop}
 use Rattle.picking.specs.Matrix.{maxEntries, zeros, signatureOf}
 use Rattle.picking.specs.declared.Signature.{Signature}
-use Rattle.picking.proofs.Resting.{front-place}
+
+-- the last of the first entries stands before the others
+front-place : (i : ℕ) (l others : List ℕ) (d : ℕ) → i < length l → take (suc i) l ++ others ≡ take i l ++ (getD l i d ∷ others)
+front-place i l others d h = ap (λ (r : List ℕ). r ++ others) (take-suc l i d h) ∙ append-snoc (take i l) (getD l i d) others
 
 pub record Aligning (start : ℕ) (kept entries : List ℕ) (i : ℕ) : Type 0 where
   pub within : i ≤ length kept - start

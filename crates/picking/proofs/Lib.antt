@@ -10,7 +10,7 @@ pub mod Fits
 pub mod Flagging
 pub mod Seeking
 pub mod Sizes
-pub mod Continued
+pub mod Taken
 pub mod Resting
 pub mod Aligning
 pub mod Whole

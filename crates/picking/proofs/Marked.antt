@@ -4,6 +4,7 @@
 --   labels-full     a list tells all needed pairs apart when no row has another mark than its label
 --   labels-useful   an entry is useful when some open row does not have its label's number there: a class that holds two marks is split
 --                   exactly when a needed pair in it is told apart
+--   labels-pair     labels and what the list tells have the same first pair
 use Prim.Native.Nat.{ℕ, zero, suc, _<_, _≤_}
 use native.Mathlib.Nat.{eq-or-lt-of-le}
 use native.Mathlib.Omega.{arith}
@@ -15,11 +16,12 @@ use borrow.Author.Tests.{ltb-true, ltb-false, eqb-true, eqb-false, eq-eqb, ne-eq
 use lib.Dec.{ltb, eqb}
 use lib.ListN.{getD}
 use Rattle.bits.proofs.Tests.{and-l, and-r, and-i, clash}
-use Rattle.method.specs.Method.{someBelow, agree, useful, full}
+use Rattle.method.specs.Method.{someBelow, agree, useful, full, firstPair}
 use Rattle.picking.specs.Matrix.{apart}
 use Rattle.bits.specs.Passing.{passing}
-use Rattle.picking.specs.Labels.{Labels, stray, split, isOpen, clear}
+use Rattle.picking.specs.Labels.{Labels, stray, alikeMarked, split, isOpen, clear}
 use Rattle.method.proofs.Pairs.{by-test, someBelow-some, some-someBelow, somePair-some, some-somePair, all-full, some-full}
+use Rattle.method.proofs.Firsts.{firstPair-same}
 use Rattle.picking.proofs.Strays.{one-mark}
 
 -- numbers that a test tells apart differ, and the other way
@@ -192,3 +194,8 @@ module _ (coef : ℕ → ℕ → ℕ) (rows : ℕ) (marks l L : List ℕ) (label
       moved-useful e (r .0) (r .1) (r .2) ∙ sym t)
       (λ f. by-test (useful coef rows (apart marks) l e) (λ u. absurd (clash (useful-moved e u) f)) (λ u. u ∙ sym f))
       ∙ sym (ap not (clear-passing coef L e (isOpen rows L marks) rows) ∙ Bool·not-not (someBelow rows (moved e)))
+
+  pub labels-pair : firstPair rows (alikeMarked L marks) ≡ firstPair rows (λ a b. apart marks a b && agree coef l a b)
+  labels-pair =
+      firstPair-same rows (alikeMarked L marks) (λ a b. apart marks a b && agree coef l a b)
+      (λ a b h k. ap (λ (t : Bool). apart marks a b && t) (labels .equal a b (omega arith) k))

@@ -1,48 +1,34 @@
--- Dropping by recursion: what is kept of the entries from a place on (specs/Labels.antt, `Rest`).
+-- Dropping by recursion: what is kept of the entries from a place of the scan on (specs/Labels.antt, `Rest`, `Picks`).
 --
---   place-inside     a place that isn't past the last is that of an entry
---   place-falls      fewer entries are left after it
---   start-some       there is room before those kept
 --   start-place      the place before those kept
 --   start-back       those kept start after it
 --   kept-front       an entry put there is kept before the others
---   without-place    a list up to an entry, then others: without the entry
---   front-place      the same list, the entry before the others
+--   without-place    a list with an entry between two parts: without the entry
 --   drops-goes       an entry goes when the rest tells all needed pairs apart
 --   drops-stays      else it stays
---   no-labels        before any entry all rows are in one class
---   next-labels      labels refined by the coefficients at the next entry
---   rest-end         past the last entry nothing is kept
+--   rest-end         when no entry is taken nothing is kept
 --   rest-drop        the entry goes
 --   rest-keep        the entry stays, before those kept
---   rest-whole       from the first entry on, what is kept is what dropping leaves
+--   picks-end, picks-drop, picks-keep   so for whatever entries were taken before
+--   picks-room       there is room before those kept
+--   picks-start      from the first place of the scan on, where nothing is taken before
 use Prim.Native.Nat.{ℕ, zero, suc, _+_, _-_, _≤_, _<_}
-use native.Mathlib.Nat.{not-suc-le-zero, le-of-suc-le-suc, eq-or-lt-of-le}
+use native.Mathlib.Nat.{not-suc-le-zero}
 use native.Mathlib.Numerals.{add-one}
 use native.Mathlib.Omega.{arith}
 use mathlib.Core.Path.{_≡_, refl, sym, ap, ap₂, subst, _∙_}
-use mathlib.Core.Bool.{Bool, true, false, not, cond}
-use mathlib.Core.Logic.{⊎-elim}
+use mathlib.Core.Bool.{Bool, true, false, not, cond, _&&_}
 use mathlib.Core.List.{List, [], _∷_, _++_, append-nil}
-use borrow.Author.Count.{falls}
-use lib.ListN.{length, take, drop, getD, set, drop-of-length-le}
-use lib.Seq.{take-suc, take-all, append-snoc, drop-cons, lt-length-set, getD-set-same, drop-set-lt}
-use Rattle.method.specs.Method.{without, agree, full, drops, someBelow}
-use Rattle.picking.specs.Matrix.{cell, apart, maxRows, maxEntries, signatureOf}
-use Rattle.picking.specs.Labels.{Holds, Labels, both, stray, Rest, keptOf}
-use Rattle.picking.specs.declared.Signature.{Signature}
+use lib.ListN.{length, drop, getD, set, drop-of-length-le, length-append}
+use lib.Seq.{append-snoc, drop-cons, lt-length-set, getD-set-same, drop-set-lt}
+use Rattle.method.specs.Method.{without, agree, full, takes, drops, firstPair, someBelow}
+use Rattle.picking.specs.Matrix.{cell, apart, maxRows, maxEntries}
+use Rattle.picking.specs.Labels.{Holds, Labels, both, stray, alikeMarked, pairTold, Rest, Picks, Begun, keptOf}
+use Rattle.picking.specs.declared.classes.Two.{Two}
 use Rattle.picking.specs.declared.dropping.Kept.{Kept}
 use Rattle.picking.proofs.Labelled.{labels-start, labels-entry, labels-front, labels-join}
-use Rattle.picking.proofs.Marked.{labels-full}
-
-pub place-inside : {i n : ℕ} → i ≤ n → (i ≡ n → ⊥) → i < n
-place-inside h other = ⊎-elim (λ e. absurd (other e)) (λ l. l) (eq-or-lt-of-le h)
-
-pub place-falls : {i n t : ℕ} → i < n → n - i ≡ t → n - (i + 1) < t
-place-falls {i} {n} l e = subst (λ (x : ℕ). n - (i + 1) < x) e (falls n i l)
-
-pub start-some : (i : ℕ) {n start : ℕ} → n ≤ maxEntries → maxEntries + (i + 1) ≤ start + n → 1 ≤ start
-start-some i h l = omega arith
+use Rattle.picking.proofs.Marked.{labels-full, labels-pair}
+use Rattle.picking.proofs.Taken.{sought, taken-end, taken-next}
 
 pub start-place : {start : ℕ} → 1 ≤ start → start ≤ maxEntries → start - 1 < maxEntries
 start-place some h = omega arith
@@ -59,98 +45,130 @@ kept-front l e (suc start) some h =
     ∙ ap₂ (λ (x : ℕ) (r : List ℕ). x ∷ r) (getD-set-same l start e 0 h) (drop-set-lt (suc start) l start e (omega arith))
 
 module _ {E : Type 0} where
-  pub without-place : (i : ℕ) (l kept : List E) → i < length l → without i (take (suc i) l ++ kept) ≡ take i l ++ kept
+  pub without-place : (l : List E) (e : E) (kept : List E) → without (length l) (l ++ (e ∷ kept)) ≡ l ++ kept
   unfolding without
-  without-place i [] kept h = absurd (not-suc-le-zero h)
-  without-place zero (x ∷ l) kept h = refl
-  without-place (suc i) (x ∷ l) kept h = ap (λ (r : List E). x ∷ r) (without-place i l kept (le-of-suc-le-suc h))
+  without-place [] e kept = refl
+  without-place (x ∷ l) e kept = ap (λ (r : List E). x ∷ r) (without-place l e kept)
 
-  pub front-place : (i : ℕ) (l kept : List E) (d : E) → i < length l → take (suc i) l ++ kept ≡ take i l ++ (getD l i d ∷ kept)
-  front-place i l kept d h = ap (λ (r : List E). r ++ kept) (take-suc l i d h) ∙ append-snoc (take i l) (getD l i d) kept
+module _ {E : Type 0} (coef : ℕ → E → ℕ) (rows : ℕ) (needed : ℕ → ℕ → Bool) (l : List E) (e : E) (kept : List E) where
+  -- what is looked at next
+  looked : full coef rows needed (without (length l) (l ++ (e ∷ kept))) ≡ full coef rows needed (l ++ kept)
+  looked = ap (full coef rows needed) (without-place l e kept)
 
-module _ {E : Type 0} (coef : ℕ → E → ℕ) (rows : ℕ) (needed : ℕ → ℕ → Bool) (i : ℕ) (l kept : List E) (inside : i < length l) where
-  -- what is looked at next, at place i
-  looked : full coef rows needed (without i (take (suc i) l ++ kept)) ≡ full coef rows needed (take i l ++ kept)
-  looked = ap (full coef rows needed) (without-place i l kept inside)
-
-  pub drops-goes : full coef rows needed (take i l ++ kept) ≡ true
-      → drops coef rows needed (suc i) (take (suc i) l ++ kept) ≡ drops coef rows needed i (take i l ++ kept)
+  pub drops-goes : full coef rows needed (l ++ kept) ≡ true
+      → drops coef rows needed (suc (length l)) (l ++ (e ∷ kept)) ≡ drops coef rows needed (length l) (l ++ kept)
   unfolding drops
   drops-goes f =
-      ap (λ (t : Bool). drops coef rows needed i (cond t (without i (take (suc i) l ++ kept)) (take (suc i) l ++ kept))) (looked ∙ f)
-      ∙ ap (drops coef rows needed i) (without-place i l kept inside)
+      ap (λ (t : Bool). drops coef rows needed (length l) (cond t (without (length l) (l ++ (e ∷ kept))) (l ++ (e ∷ kept)))) (looked ∙ f)
+      ∙ ap (drops coef rows needed (length l)) (without-place l e kept)
 
-  pub drops-stays : (d : E) → full coef rows needed (take i l ++ kept) ≡ false
-      → drops coef rows needed (suc i) (take (suc i) l ++ kept) ≡ drops coef rows needed i (take i l ++ (getD l i d ∷ kept))
+  pub drops-stays : full coef rows needed (l ++ kept) ≡ false
+      → drops coef rows needed (suc (length l)) (l ++ (e ∷ kept)) ≡ drops coef rows needed (length l) (l ++ (e ∷ kept))
   unfolding drops
-  drops-stays d f =
-      ap (λ (t : Bool). drops coef rows needed i (cond t (without i (take (suc i) l ++ kept)) (take (suc i) l ++ kept))) (looked ∙ f)
-      ∙ ap (drops coef rows needed i) (front-place i l kept d inside)
+  drops-stays f =
+      ap (λ (t : Bool). drops coef rows needed (length l) (cond t (without (length l) (l ++ (e ∷ kept))) (l ++ (e ∷ kept)))) (looked ∙ f)
 
-pub no-labels : (coef : ℕ → ℕ → ℕ) (rows : ℕ) (taken L : List ℕ) → rows ≤ maxRows → Holds maxRows (λ c. 0) L → Labels rows (agree coef (take 0 taken)) L
-no-labels coef rows taken L most h = labels-start coef rows L (λ c l. h c (omega arith))
-
-module _ (work : List ℕ) (width rows : ℕ) (taken : List ℕ) (i : ℕ) (inside : i < length taken) where
-  pub next-labels : (L W R : List ℕ) → Labels rows (agree (cell work width) (take i taken)) L
-      → Holds rows (λ c. cell work width c (getD taken i 0)) W → Labels rows (both L W) R → Labels rows (agree (cell work width) (take (i + 1) taken)) R
-  next-labels L W R p q r =
-      subst (λ (l : List ℕ). Labels rows (agree (cell work width) l) R) (sym (ap (λ (n : ℕ). take n taken) (add-one i) ∙ take-suc taken i 0 inside))
-      (labels-entry (cell work width) rows (take i taken) (getD taken i 0) L W R p q r)
-
-module _ (work : List ℕ) (width rows : ℕ) (marks taken : List ℕ) (i : ℕ) where
-  pub rest-end : (k : Kept) → rows ≤ maxRows → i ≡ length taken → k .start ≡ maxEntries → length (k .entries) ≡ maxEntries
-      → Holds maxRows (λ c. 0) (k .labels .of) → Rest work width rows marks taken i k
-  rest-end k most e s n h =
+module _ (work : List ℕ) (width rows : ℕ) (marks before : List ℕ) where
+  pub rest-end : (k : Kept) → rows ≤ maxRows → k .start ≡ maxEntries → length (k .entries) ≡ maxEntries → Holds maxRows (λ c. 0) (k .labels .of)
+      → pairTold (k .pair) ≡ firstPair rows (λ a b. apart marks a b && agree (cell work width) before a b)
+      → Rest work width rows marks before before k
+  rest-end k most s n h p =
       let none : keptOf k ≡ [] = drop-of-length-le (k .entries) {i = k .start} (omega arith) in
-      let whole : take i taken ++ keptOf k ≡ taken = ap (λ (l : List ℕ). take i taken ++ l) none ∙ append-nil (take i taken) ∙ take-all i taken (omega arith) in
       record {
         within = omega arith;
         room = omega arith;
-        goes =
-            sym (ap (drops (cell work width) rows (apart marks) i) whole
-            ∙ ap (λ (n : ℕ). drops (cell work width) rows (apart marks) n taken) e);
+        goes = sym (ap (drops (cell work width) rows (apart marks) (length before)) (ap (λ (l : List ℕ). before ++ l) none ∙ append-nil before));
         labelled =
             subst (λ (l : List ℕ). Labels rows (agree (cell work width) l) (k .labels .of)) (sym none)
-            (no-labels (cell work width) rows taken (k .labels .of) most h);
+            (labels-start (cell work width) rows (k .labels .of) (λ c l. h c (omega arith)));
+        told = p;
       }
 
-  module _ (k : Kept) (L R : List ℕ) (inside : i < length taken) (rest : Rest work width rows marks taken (i + 1) k)
-      (before : Labels rows (agree (cell work width) (take i taken)) L) (joined : Labels rows (both L (k .labels .of)) R) where
-    -- whether the entries before place i and those kept tell all needed pairs apart
-    told : full (cell work width) rows (apart marks) (take i taken ++ keptOf k) ≡ not (someBelow rows (stray R marks))
+  module _ (taken : List ℕ) (e : ℕ) (k : Kept) (L R : List ℕ) (rest : Rest work width rows marks taken (before ++ (e ∷ [])) k)
+      (labels : Labels rows (agree (cell work width) before) L) (joined : Labels rows (both L (k .labels .of)) R) where
+    -- whether the entries before and those kept tell all needed pairs apart
+    told : full (cell work width) rows (apart marks) (before ++ keptOf k) ≡ not (someBelow rows (stray R marks))
     told =
-        labels-full (cell work width) rows marks (take i taken ++ keptOf k) R
-        (labels-join (cell work width) rows (take i taken) (keptOf k) L (k .labels .of) R before (rest .labelled) joined)
+        labels-full (cell work width) rows marks (before ++ keptOf k) R
+        (labels-join (cell work width) rows before (keptOf k) L (k .labels .of) R labels (rest .labelled) joined)
+
+    one-more : length (before ++ (e ∷ [])) ≡ suc (length before)
+    one-more = length-append before (e ∷ []) ∙ add-one (length before)
 
     goes-on : drops (cell work width) rows (apart marks) (length taken) taken
-        ≡ drops (cell work width) rows (apart marks) (suc i) (take (suc i) taken ++ keptOf k)
-    goes-on = rest .goes ∙ ap (λ (n : ℕ). drops (cell work width) rows (apart marks) n (take n taken ++ keptOf k)) (add-one i)
+        ≡ drops (cell work width) rows (apart marks) (suc (length before)) (before ++ (e ∷ keptOf k))
+    goes-on = rest .goes ∙ ap₂ (drops (cell work width) rows (apart marks)) one-more (append-snoc before e (keptOf k))
 
-    pub rest-drop : {t : Bool} → t ≡ not (someBelow rows (stray R marks)) → t ≡ true → Rest work width rows marks taken i k
-    rest-drop e f =
+    pub rest-drop : {t : Bool} → t ≡ not (someBelow rows (stray R marks)) → t ≡ true → Rest work width rows marks taken before k
+    rest-drop q f =
         record {
           within = rest .within;
-          room = omega (arith, rest .room);
-          goes = goes-on ∙ drops-goes (cell work width) rows (apart marks) i taken (keptOf k) inside (told ∙ sym e ∙ f);
+          room = omega (arith, rest .room, one-more);
+          goes = goes-on ∙ drops-goes (cell work width) rows (apart marks) before e (keptOf k) (told ∙ sym q ∙ f);
           labelled = rest .labelled;
+          told = rest .told;
         }
 
     pub rest-keep : {t : Bool} (kept : Kept) (W : List ℕ) → t ≡ not (someBelow rows (stray R marks)) → t ≡ false
-        → Holds rows (λ c. cell work width c (getD taken i 0)) W → kept .start + 1 ≡ k .start → keptOf kept ≡ getD taken i 0 ∷ keptOf k
-        → Labels rows (both (k .labels .of) W) (kept .labels .of) → Rest work width rows marks taken i kept
-    rest-keep kept W e f v s n r =
+        → Holds rows (λ c. cell work width c e) W
+        → (kept .start + 1 ≡ k .start) × (keptOf kept ≡ e ∷ keptOf k) × Labels rows (both (k .labels .of) W) (kept .labels .of) × (kept .pair ≡ k .pair)
+        → Rest work width rows marks taken before kept
+    rest-keep kept W q f v made =
         record {
-          within = omega (arith, rest .within);
-          room = omega (arith, rest .room);
+          within = omega (arith, rest .within, made .0);
+          room = omega (arith, rest .room, one-more, made .0);
           goes =
-              goes-on ∙ drops-stays (cell work width) rows (apart marks) i taken (keptOf k) inside 0 (told ∙ sym e ∙ f)
-              ∙ ap (λ (l : List ℕ). drops (cell work width) rows (apart marks) i (take i taken ++ l)) (sym n);
+              goes-on ∙ drops-stays (cell work width) rows (apart marks) before e (keptOf k) (told ∙ sym q ∙ f)
+              ∙ ap (λ (l : List ℕ). drops (cell work width) rows (apart marks) (length before) (before ++ l)) (sym (made .1));
           labelled =
-              subst (λ (l : List ℕ). Labels rows (agree (cell work width) l) (kept .labels .of)) (sym n)
-              (labels-front (cell work width) rows (keptOf k) (getD taken i 0) (k .labels .of) W (kept .labels .of) (rest .labelled) v r);
+              subst (λ (l : List ℕ). Labels rows (agree (cell work width) l) (kept .labels .of)) (sym (made .1))
+              (labels-front (cell work width) rows (keptOf k) e (k .labels .of) W (kept .labels .of) (rest .labelled) v (made .2));
+          told = ap pairTold (made .3) ∙ rest .told;
         }
 
-pub rest-whole : (work : List ℕ) (width rows : ℕ) (marks taken : List ℕ) (k : Kept) {s : Signature} → Rest work width rows marks taken 0 k
-    → s ≡ signatureOf (keptOf k) → s ≡ signatureOf (drops (cell work width) rows (apart marks) (length taken) taken)
-unfolding drops
-rest-whole work width rows marks taken k rest e = e ∙ ap signatureOf (sym (rest .goes))
+module _ (work : List ℕ) (width rows : ℕ) (marks scan labels : List ℕ) (at : ℕ) {next : ℕ}
+    (found : next ≡ sought work width rows marks scan labels at) where
+  pub picks-end : (k : Kept) {two : Two} → next ≡ length scan → rows ≤ maxRows → length (k .entries) ≡ maxEntries
+      → pairTold two ≡ firstPair rows (alikeMarked labels marks)
+      → (k .start ≡ maxEntries) × Holds maxRows (λ c. 0) (k .labels .of) × (k .pair ≡ two)
+      → Picks work width rows marks scan at labels k
+  picks-end k e most n seen made before labelled =
+      subst (λ (l : List ℕ). Rest work width rows marks l before k)
+      (sym (taken-end work width rows marks scan labels at found before labelled e))
+      (rest-end work width rows marks before k most (made .0) n (made .1)
+      (ap pairTold (made .2) ∙ seen ∙ labels-pair (cell work width) rows marks before labels labelled))
+
+  module _ (inside : next < length scan) {e : ℕ} (entry : e ≡ getD scan next 0) (W M : List ℕ) (values : Holds rows (λ c. cell work width c e) W)
+      (refined : Labels rows (both labels W) M) (k : Kept) (rest : Picks work width rows marks scan (next + 1) M k)
+    where
+      -- what is kept of those after the entry
+      after : (before : List ℕ) → Labels rows (agree (cell work width) before) labels
+          → Rest work width rows marks (takes (cell work width) rows (apart marks) before (drop at scan)) (before ++ (e ∷ [])) k
+      after before labelled =
+          subst (λ (l : List ℕ). Rest work width rows marks l (before ++ (e ∷ [])) k)
+          (sym (taken-next work width rows marks scan labels at found before labelled inside entry))
+          (rest (before ++ (e ∷ [])) (labels-entry (cell work width) rows before e labels W M labelled values refined))
+
+      pub picks-room : Begun work width rows marks scan at labels → (1 ≤ k .start) × (k .start ≤ maxEntries) × Labels rows (agree (cell work width) (keptOf k)) (k .labels .of)
+      picks-room b =
+          let r : Rest work width rows marks (takes (cell work width) rows (apart marks) (b .before) (drop at scan)) (b .before ++ (e ∷ [])) k =
+          after (b .before) (b .labelled) in
+          (omega (arith, r .room, b .room, length-append (b .before) (e ∷ [])), r .within, r .labelled)
+
+      module _ (R : List ℕ) (joined : Labels rows (both labels (k .labels .of)) R) {t : Bool} (test : t ≡ not (someBelow rows (stray R marks))) where
+        pub picks-drop : t ≡ true → Picks work width rows marks scan at labels k
+        picks-drop f before labelled =
+            rest-drop work width rows marks before (takes (cell work width) rows (apart marks) before (drop at scan)) e k labels R (after before labelled)
+            labelled joined test f
+
+        pub picks-keep : (kept : Kept) → t ≡ false
+            → (kept .start + 1 ≡ k .start) × (keptOf kept ≡ e ∷ keptOf k) × Labels rows (both (k .labels .of) W) (kept .labels .of) × (kept .pair ≡ k .pair)
+            → Picks work width rows marks scan at labels kept
+        picks-keep kept f made before labelled =
+            rest-keep work width rows marks before (takes (cell work width) rows (apart marks) before (drop at scan)) e k labels R (after before labelled)
+            labelled joined kept W test f values made
+
+pub picks-start : (work : List ℕ) (width rows : ℕ) (marks scan labels : List ℕ) (k : Kept) → rows ≤ maxRows → Holds maxRows (λ c. 0) labels
+    → Picks work width rows marks scan 0 labels k → Rest work width rows marks (takes (cell work width) rows (apart marks) [] scan) [] k
+picks-start work width rows marks scan labels k most h picks =
+    picks [] (labels-start (cell work width) rows labels (λ c l. h c (omega arith)))

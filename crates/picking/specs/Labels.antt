@@ -13,21 +13,21 @@
 --   seek           the place of the first entry that isn't clear
 --   OpenFit        what reading an open row's numbers and its label's asks for
 --   Fit            what `fits` tests
---   Sound, Rest    the state of taking and of dropping
+--   Begun          the state of taking
+--   Rest, Picks    what is kept of the entries from a place of the scan on
 use Prim.Native.Nat.{ℕ, zero, suc, _+_, _-_, _*_, _≤_, _<_}
 use mathlib.Core.Path.{_≡_}
 use mathlib.Core.Bool.{Bool, true, false, not, cond, _&&_}
 use mathlib.Core.List.{List, [], _∷_, _++_}
 use lib.Dec.{eqb}
-use lib.ListN.{length, take, drop, getD}
+use lib.ListN.{length, drop, getD}
 use Rattle.bits.specs.Packed.{tabulate}
-use Rattle.method.specs.Method.{someBelow, agree, drops, Pair}
+use Rattle.method.specs.Method.{someBelow, agree, takes, drops, firstPair, Pair}
 use Rattle.method.specs.Method.Pair.{nobody, pair}
 use Rattle.picking.specs.Matrix.{cell, apart, maxRows, maxEntries}
 use Rattle.picking.specs.declared.classes.Two.{Two}
 use Rattle.picking.specs.declared.classes.Two.the-variants.{Nobody, Both}
 use Rattle.picking.specs.declared.dropping.Kept.{Kept}
-use Rattle.picking.specs.declared.taking.Taken.{Taken}
 
 abbrev pub Holds : ℕ → (ℕ → ℕ) → List ℕ → Type 0
 Holds rows f l = (c : ℕ) → c < rows → getD l c 0 ≡ f c
@@ -96,21 +96,26 @@ pub record Fit (work : List ℕ) (width rows : ℕ) (marks : List ℕ) : Type 0 
   pub marked : rows ≤ length marks
   pub filled : rows * width ≤ length work
 
--- the entries taken so far
-abbrev pub entriesOf : Taken → List ℕ
-entriesOf t = take (t .count) (t .entries)
-
-pub record Sound (work : List ℕ) (width rows : ℕ) (t : Taken) : Type 0 where
-  pub room : t .count ≤ maxEntries
-  pub labelled : Labels rows (agree (cell work width) (entriesOf t)) (t .labels .of)
-
 -- the entries kept stand at the end
 abbrev pub keptOf : Kept → List ℕ
 keptOf k = drop (k .start) (k .entries)
 
--- what is kept of the entries from place i on: dropping goes on from there to what the whole gives
-pub record Rest (work : List ℕ) (width rows : ℕ) (marks taken : List ℕ) (i : ℕ) (k : Kept) : Type 0 where
+-- labels of the rows by some entries taken before, and there is room for all that are taken in the end
+pub record Begun (work : List ℕ) (width rows : ℕ) (marks scan : List ℕ) (at : ℕ) (labels : List ℕ) : Type 0 where
+  pub before : List ℕ
+  pub labelled : Labels rows (agree (cell work width) before) labels
+  pub room : length (takes (cell work width) rows (apart marks) before (drop at scan)) ≤ maxEntries
+
+-- what is kept of the entries taken after some: dropping goes on from there to what the whole gives
+pub record Rest (work : List ℕ) (width rows : ℕ) (marks taken before : List ℕ) (k : Kept) : Type 0 where
   pub within : k .start ≤ maxEntries
-  pub room : maxEntries + i ≤ k .start + length taken
-  pub goes : drops (cell work width) rows (apart marks) (length taken) taken ≡ drops (cell work width) rows (apart marks) i (take i taken ++ keptOf k)
+  pub room : maxEntries + length before ≤ k .start + length taken
+  pub goes : drops (cell work width) rows (apart marks) (length taken) taken ≡ drops (cell work width) rows (apart marks) (length before) (before ++ keptOf k)
   pub labelled : Labels rows (agree (cell work width) (keptOf k)) (k .labels .of)
+  pub told : pairTold (k .pair) ≡ firstPair rows (λ a b. apart marks a b && agree (cell work width) taken a b)
+
+-- so for whatever entries taken before the labels stand for
+abbrev pub Picks : List ℕ → ℕ → ℕ → List ℕ → List ℕ → ℕ → List ℕ → Kept → Type 0
+Picks work width rows marks scan at labels k =
+    (before : List ℕ) → Labels rows (agree (cell work width) before) labels
+    → Rest work width rows marks (takes (cell work width) rows (apart marks) before (drop at scan)) before k

@@ -1,15 +1,12 @@
 // The method of choosing (document 01, "Choosing"): the few entries of a matrix of numbers that tell its rows apart. The matrix stands row
 // after row in lent memory; each row has a mark, and two rows are to be told apart where their marks differ.
-ghost use Prim.Native.Nat.{_+_, _<_};
+ghost use Prim.Native.Nat.{_≤_};
 ghost use mathlib.Core.Path.{_≡_};
-ghost use mathlib.Core.Bool.{true, _&&_};
 ghost use mathlib.Core.List.{[]};
-ghost use Rattle.method.specs.Method.{agree, firstPair, drops};
-ghost use Rattle.picking.specs.Matrix.{cell, apart, allBelow, fits, picked, pickedBy, choiceOf, signatureOf};
-ghost use Rattle.picking.specs.Labels.{Fit, Sound, entriesOf};
+ghost use Rattle.picking.specs.Matrix.{allBelow, fits, picked, pickedBy, choiceOf, signatureOf, maxEntries};
+ghost use Rattle.picking.specs.Labels.{pairTold, keptOf};
 use classes::Two;
-use dropping::signature_of;
-use taking::Taken;
+use dropping::Kept;
 
 mod classes;
 mod dropping;
@@ -83,25 +80,21 @@ fn fitting(work: &[u16], width: usize, rows: usize, marks: &[u8], scan: &[u16]) 
     all_below(scan, width)
 }
 
-// The first two rows of one class whose marks differ, or what dropping leaves of the entries taken.
-fn conclude(work: &[u16], width: usize, rows: usize, marks: &[u8], taken: Taken) -> Choice
-    requires { ⌜ Fit (now work) width rows (now marks) × Sound (now work) width rows taken × (allBelow width (entriesOf taken) ≡ true) ⌝ }
-    ensures { λ r. ⌜ r ≡ choiceOf (pickedBy (firstPair rows (λ a b. apart (now (marks .entry)) a b && agree (cell (now (work .entry)) width) (entriesOf taken) a b)) (drops (cell (now (work .entry)) width) rows (apart (now (marks .entry))) (taken .count) (entriesOf taken))) ⌝ }
+// The two rows that are alike, or the entries kept.
+fn conclude(kept: Kept) -> Choice
+    requires { ⌜ kept .start ≤ maxEntries ⌝ }
+    ensures { λ r. ⌜ r ≡ choiceOf (pickedBy (pairTold (kept .pair)) (keptOf kept)) ⌝ }
 {
-    let pair = classes::first_pair(rows, marks, &taken.labels.of);
+    let pair = kept.pair;
     match pair {
         Two::Both(a, b) => Choice {
             found: Found::Alike(a, b),
             signature: no_signature(),
         },
-        Two::Nobody => {
-            let count = taken.count;
-            let entries = taken.entries;
-            Choice {
-                found: Found::Told,
-                signature: signature_of(work, width, rows, marks, &entries[..count]),
-            }
-        }
+        Two::Nobody => Choice {
+            found: Found::Told,
+            signature: dropping::aligned(kept.start, &kept.entries),
+        },
     }
 }
 
@@ -115,6 +108,6 @@ pub fn choose(work: &[u16], width: usize, rows: usize, marks: &[u8], scan: &[u16
             signature: no_signature(),
         };
     }
-    let taken = taking::take_all(work, width, rows, marks, scan);
-    conclude(work, width, rows, marks, taken)
+    let kept = dropping::pick_from(work, width, rows, marks, scan, 0, classes::one_class());
+    conclude(kept)
 }

@@ -1,24 +1,13 @@
 // Taking: "One is taken when it tells apart a needed pair that those taken before don't."
-ghost use Prim.Native.Nat.{_+_, _*_, _≤_, _<_};
+ghost use Prim.Native.Nat.{_≤_, _<_};
 ghost use mathlib.Core.Path.{_≡_};
-ghost use mathlib.Core.Bool.{true, false, not, cond, _&&_, _||_};
-ghost use mathlib.Core.List.{_∷_, [], _++_};
+ghost use mathlib.Core.Bool.{true, not, cond, _&&_, _||_};
 ghost use lib.Dec.{eqb};
 ghost use lib.ListN.{length, take, drop};
-ghost use Rattle.method.specs.Method.{takes};
-ghost use Rattle.picking.specs.Matrix.{cell, apart, allBelow, maxRows, maxEntries};
+ghost use Rattle.picking.specs.Matrix.{cell, allBelow, maxRows};
 ghost use Rattle.bits.specs.Passing.{passing};
-ghost use Rattle.picking.specs.Labels.{Holds, Low, Flagged, isOpen, clear, seek, OpenFit, Fit, Sound, entriesOf};
-use crate::MAX_ENTRIES;
+ghost use Rattle.picking.specs.Labels.{Low, Flagged, isOpen, clear, seek, OpenFit, Fit};
 use crate::MAX_ROWS;
-use crate::classes::Column;
-
-// The entries taken so far, and the labels of the rows by what these entries tell.
-pub(crate) struct Taken {
-    pub(crate) count: usize,
-    pub(crate) entries: [u16; MAX_ENTRIES],
-    pub(crate) labels: Column,
-}
 
 // For each label whether its class holds two marks.
 struct Flags {
@@ -125,34 +114,8 @@ fn next(
     at
 }
 
-fn nothing_taken() -> Taken
-    ensures { λ r. ⌜ (r .count ≡ 0) × Holds maxRows (λ c. 0) (r .labels .of) ⌝ }
-{
-    Taken {
-        count: 0,
-        entries: [0u16; MAX_ENTRIES],
-        labels: crate::classes::one_class(),
-    }
-}
-
-// One entry more is taken.
-fn take_entry(work: &[u16], width: usize, rows: usize, taken: Taken, entry: u16) -> Taken
-    requires { ⌜ (rows ≤ maxRows) × (rows * width ≤ length (now work)) × Sound (now work) width rows taken × (entry < width) × (taken .count < maxEntries) ⌝ }
-    ensures { λ r. ⌜ Sound (now (work .entry)) width rows r × (r .count ≡ taken .count + 1) × (entriesOf r ≡ entriesOf taken ++ (entry ∷ [])) ⌝ }
-{
-    let values = crate::classes::coefficients(work, width, rows, entry as usize);
-    let count = taken.count;
-    let mut entries = taken.entries;
-    entries[count] = entry;
-    Taken {
-        count: count + 1,
-        entries,
-        labels: crate::classes::refine(rows, taken.labels, values),
-    }
-}
-
 // The place of the next entry to take.
-fn next_useful(
+pub(crate) fn next_useful(
     work: &[u16],
     width: usize,
     rows: usize,
@@ -168,18 +131,4 @@ fn next_useful(
     let count = open.count;
     let of = open.of;
     next(work, width, labels, &of[..count], scan, from)
-}
-
-// All that is taken of a scan.
-pub(crate) fn take_all(work: &[u16], width: usize, rows: usize, marks: &[u8], scan: &[u16]) -> Taken
-    requires { ⌜ Fit (now work) width rows (now marks) × (allBelow width (now scan) ≡ true) ⌝ }
-    ensures { λ r. ⌜ Sound (now (work .entry)) width rows r × (entriesOf r ≡ takes (cell (now (work .entry)) width) rows (apart (now (marks .entry))) [] (now (scan .entry))) ⌝ }
-{
-    let mut taken = nothing_taken();
-    let mut at = next_useful(work, width, rows, marks, &taken.labels.of, scan, 0);
-    while at < scan.len() {
-        taken = take_entry(work, width, rows, taken, scan[at]);
-        at = next_useful(work, width, rows, marks, &taken.labels.of, scan, at + 1);
-    }
-    taken
 }

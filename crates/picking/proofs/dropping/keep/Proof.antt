@@ -1,4 +1,5 @@
 -- `picking::dropping::keep` meets its contract.
+use mathlib.Core.Path.{refl}
 use lib.Dec.{lit<}
 use borrow.Author.Needs.{scaled-fits, length-unmapped}
 use Rattle.picking.specs.Matrix.{maxEntries}
@@ -23,7 +24,7 @@ refine-requires c κs = (c .before .before .pre .0, c .before .before .pre .3)
 
 returns : tie.Need-returns
 unfolding maxEntries
-returns c = let a = c .before .before .before .args in (start-back (c .before .before .before .pre .1), kept-front (a .kept .entries) (a .entry) (a .kept .start) (c .before .before .before .pre .1) (count-within (length-unmapped _ (a .kept .entries) _ (c .before .before .before .good .1 .0 .1 .1 .1 .0 .1 .0 .1)) (c .before .before .before .pre .2)), c .refine .ensures)
+returns c = let a = c .before .before .before .args in (start-back (c .before .before .before .pre .1), kept-front (a .kept .entries) (a .entry) (a .kept .start) (c .before .before .before .pre .1) (count-within (length-unmapped _ (a .kept .entries) _ (c .before .before .before .good .1 .0 .1 .1 .1 .0 .1 .0 .1)) (c .before .before .before .pre .2)), c .refine .ensures, refl)
 
 pub keep-spec : {M : Type 1} → statement M
 keep-spec = tie.close (tie.spec sub-start mul-entries array-write-entries refine-requires returns)

@@ -9,7 +9,7 @@ one-class-requires c κs = tt
 
 returns : tie.Need-returns
 unfolding maxEntries
-returns c = (refl, c .one-class .ensures)
+returns c = (refl, c .one-class .ensures, refl)
 
 pub nothing-kept-spec : {M : Type 1} → statement M
 nothing-kept-spec = tie.close (tie.spec one-class-requires returns)
