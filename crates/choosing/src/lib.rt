@@ -37,11 +37,11 @@ pub struct Chosen {
     pub signature: Signature,
 }
 
-// The most coefficients of a circuit, 2 to the power 8.
-const MAX_PLACES: usize = 256;
+// The most coefficients of a circuit.
+const MAX_PLACES: usize = 1 << job::MAX_INPUTS;
 
-// An index has 0 to 8 ones.
-const MAX_ORDERS: usize = 9;
+// An index has as many ones as there are inputs, or fewer.
+const MAX_ORDERS: usize = job::MAX_INPUTS + 1;
 
 // A mark for each circuit: those with different marks are to be told apart.
 struct Marks {

@@ -6,15 +6,13 @@ ghost use lib.ListN.{length};
 use bits::Refusal;
 use libc::STDOUT_FILENO;
 use spectra::Kind;
+use tables::ALL_TABLES_BYTES;
 use tables::Counts;
 use tables::TablesAnswer;
 
 // One byte more than the longest job, whose 4 + 7 + 64 × 17 + 7 + 6 + 63 × 16 bits fill 265 bytes: so that a longer input is
 // seen to be longer.
 pub const MAX_INPUT_BYTES: usize = 266;
-
-// (63 + 1) circuits of at most 32 bytes.
-const ALL_TABLES_BYTES: usize = 64 * 32;
 
 // Writes the tables of the job that the bytes give.
 pub fn list_tables(job: &[u8]) {
@@ -51,14 +49,15 @@ fn list_counts(counts: Counts) {
     io::write_all(STDOUT_FILENO, b"\n");
 }
 
-// "1 to 8 inputs".
-const MAX_INPUTS: usize = 8;
-
 // The entries of a table; none where there are too many inputs.
 pub fn entries(inputs: usize) -> usize
     ensures { λ r. ⌜ r ≤ 256 ⌝ }
 {
-    if MAX_INPUTS < inputs { 0 } else { 1 << inputs }
+    if job::MAX_INPUTS < inputs {
+        0
+    } else {
+        1 << inputs
+    }
 }
 
 // A line for each circuit, whose tables of `bytes` bytes follow each other.

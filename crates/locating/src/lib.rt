@@ -15,6 +15,7 @@ ghost use Rattle.locating.specs.Scanning.{numbersAt, workAgrees, locatio
 use bits::Outcome;
 use bits::Refusal;
 use spectra::Kind;
+use tables::ALL_TABLES_BYTES;
 use tables::Counts;
 use tables::TablesAnswer;
 
@@ -25,9 +26,6 @@ pub enum Located {
     Nowhere,
     Refused(Refusal),
 }
-
-// (63 + 1) circuits of at most 32 bytes.
-const ALL_TABLES_BYTES: usize = 64 * 32;
 
 // Whether all indices are below the number of coefficients of n inputs.
 fn indices_ok(indices: &[u16], n: usize) -> bool

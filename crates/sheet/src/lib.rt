@@ -9,12 +9,14 @@ ghost use Rattle.sheet.specs.Putting.{Puts, Room, Within, Sheeted, Print
 ghost use Rattle.sheet.specs.Sheet.{decimal, space, numbersText, countsLine, signatureLine, circuitLine, circuitLines, refusedLine, alikeLine, sheet, sheetText, listOf, reported};
 use choosing::Purpose;
 use choosing::Verdict;
+use job::MAX_FAULTS;
 use picking::Signature;
 use spectra::Kind;
 use tables::Counts;
 
-// No text is longer: 28 characters of counts, 262 of a signature of 63 indices, 64 lines of 255 characters.
-pub const MAX_TEXT: usize = 16610;
+// No text is longer: 28 characters of counts; 10 of a signature's line and 4 for each entry, which are no more than faults; a line for each circuit, of 3 and
+// again 4 for each entry.
+pub const MAX_TEXT: usize = 28 + (10 + 4 * MAX_FAULTS) + (MAX_FAULTS + 1) * (3 + 4 * MAX_FAULTS);
 
 // How many bytes the text has; or there is less room than the longest text has, and nothing is written.
 pub enum Reported {

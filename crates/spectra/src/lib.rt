@@ -17,7 +17,9 @@ ghost use mathlib.Core.Bool.{true};
 ghost use mathlib.Core.Path.{_≡_};
 use bits::Outcome;
 use bits::Refusal;
+use tables::ALL_TABLES_BYTES;
 use tables::Counts;
+use tables::MAX_TABLE_BYTES;
 use tables::TablesAnswer;
 
 // The kind of a spectrum: Reed-Muller, or modified Reed-Muller.
@@ -255,9 +257,6 @@ fn fill_rows(work: &mut [u16], tables: &[u8], n: usize, rows: usize, k: usize, k
     transform_rows(work, &words, tables, n, rows, k, kind);
 }
 
-// (63 + 1) circuits of at most 32 bytes.
-const ALL_TABLES_BYTES: usize = 64 * 32;
-
 // The spectra of all circuits of the job that the bytes give, with its counts: reading's refusals; 13; 10.
 pub fn job_spectra(bytes: &[u8], kind: Kind, polarity: usize, work: &mut [u16]) -> TablesAnswer
     ensures { λ r. ⌜ record { answer = tablesTold r; memory = now (work .exit) } ≡ leaves (jobSpectraOf (now (bytes .entry)) kind polarity (length (now (work .entry)))) (now (work .entry)) ⌝ }
@@ -370,10 +369,8 @@ pub fn spectrum(n: usize, table: &[u8], kind: Kind, polarity: usize, out: &mut [
     row_spectra(n, 1, table, kind, polarity, out)
 }
 
-// "1 to 8 inputs": the entries and the bytes of the largest table.
-const MAX_ENTRIES: usize = 256;
-
-const MAX_TABLE_BYTES: usize = 32;
+// The entries of the largest table.
+const MAX_ENTRIES: usize = 1 << job::MAX_INPUTS;
 
 // The parity of number (m xor k); past the last number 0.
 fn parity(numbers: &[u16], m: usize, k: usize) -> u8

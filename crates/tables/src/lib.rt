@@ -14,6 +14,7 @@ use bits::Refusal;
 use circuit::Forms;
 use circuit::Places;
 use job::Job;
+use job::MAX_FAULTS;
 use job::MAX_GATES;
 use job::MAX_INPUTS;
 use rows::Shape;
@@ -21,8 +22,11 @@ use rows::Shape;
 mod circuit;
 mod rows;
 
-// The bytes of the largest table, (2 to the power 8 + 7) div 8.
-const MAX_TABLE_BYTES: usize = 32;
+// The bytes of the largest table, "(N+7) div 8".
+pub const MAX_TABLE_BYTES: usize = ((1 << MAX_INPUTS) + 7) / 8;
+
+// The tables of the most circuits: the good one and each fault.
+pub const ALL_TABLES_BYTES: usize = (MAX_FAULTS + 1) * MAX_TABLE_BYTES;
 
 // A row for each line of the good circuit, and one for each of a faulty one.
 const ROW_BYTES: usize = 2 * (MAX_INPUTS + MAX_GATES) * MAX_TABLE_BYTES;
