@@ -6,7 +6,7 @@
 --   bridge-outside, bridge-above, bridge-order, bridge-found   the same of a bridge; 7 is for line a or line b
 use Prim.Native.Nat.{ℕ, zero, suc, _≤_, _<_}
 use native.Mathlib.Omega.{arith}
-use mathlib.Core.Path.{_≡_, refl, sym, ap, ap₂, _∙_}
+use mathlib.Core.Path.{_≡_, refl, ap, ap₂, _∙_}
 use mathlib.Core.Bool.{Bool, true, false, _&&_, cond}
 use mathlib.Core.List.{List}
 use borrow.Author.Tests.{lt-ltb, le-ltb, eq-eqb, ne-eqb}
@@ -22,9 +22,6 @@ use Rattle.job.specs.Layout.{faultKindBits}
 use Rattle.job.specs.Record.{faultOf}
 use Rattle.job.specs.declared.Fault.{Fault}
 use Rattle.reading.specs.Reading.{entryFields, faultLinesOk, fault}
-use Rattle.reading.specs.Told.{entryTold, LinesFit}
-use Rattle.reading.specs.declared.EntryRead.{EntryRead}
-use Rattle.reading.specs.declared.EntryRead.the-variants.{Fields}
 
 stuck-line : (kind a b n count : ℕ) → kind < 2 → faultLineOk n count (faultOf kind a b) ≡ ltb a count
 stuck-line zero a b n count h = refl
@@ -43,15 +40,15 @@ stuck-lines kind a b h = ap (λ (t : Bool). cond t (eqb b a) (ltb a b)) (lt-ltb 
 bridge-lines : (kind a b : ℕ) → 2 ≤ kind → faultLinesOk kind a b ≡ ltb a b
 bridge-lines kind a b h = ap (λ (t : Bool). cond t (eqb b a) (ltb a b)) (le-ltb kind 2 h)
 
-module _ (s : List ℕ) (at : Cursor) (n count : ℕ) {kind a b : ℕ} {next : Cursor} {r : EntryRead}
-    (fields : r ≡ Fields kind a b next) (entry : (entryTold s r ≡ entryFields faultKindBits (from s at)) × LinesFit r) where
+module _ (s : List ℕ) (at : Cursor) (n count : ℕ) {kind a b : ℕ} {rest : List ℕ}
+    (entry : entryFields faultKindBits (from s at) ≡ parsed (record { kind = kind; a = a; b = b }) rest) where
   -- what stands there, from its two tests
   tested : (u v : Bool) → faultLineOk n count (faultOf kind a b) ≡ u → faultLinesOk kind a b ≡ v
-      → unless u 7 (unless v 8 (parsed (record { fault = faultOf kind a b }) (from s next))) ≡ fault n count (from s at)
+      → unless u 7 (unless v 8 (parsed (record { fault = faultOf kind a b }) rest)) ≡ fault n count (from s at)
   unfolding fault
-  tested true true p q = simp (sym (entry .0) ∙ ap (entryTold s) fields, p, q)
-  tested true false p q = simp (sym (entry .0) ∙ ap (entryTold s) fields, p, q)
-  tested false v p q = simp (sym (entry .0) ∙ ap (entryTold s) fields, p)
+  tested true true p q = simp (entry, p, q)
+  tested true false p q = simp (entry, p, q)
+  tested false v p q = simp (entry, p)
 
   pub stuck-outside : kind < 2 → count ≤ a → refused 7 ≡ fault n count (from s at)
   stuck-outside k h = tested false (faultLinesOk kind a b) (stuck-line kind a b n count k ∙ le-ltb a count h) refl
@@ -59,9 +56,9 @@ module _ (s : List ℕ) (at : Cursor) (n count : ℕ) {kind a b : ℕ} {next : C
   pub stuck-unlike : kind < 2 → a < count → (b ≡ a → ⊥) → refused 8 ≡ fault n count (from s at)
   stuck-unlike k h d = tested true false (stuck-line kind a b n count k ∙ lt-ltb a count h) (stuck-lines kind a b k ∙ ne-eqb b a d)
 
-  pub stuck-found : {x : Fault} → kind < 2 → a < count → b ≡ a → x ≡ faultOf kind a b → parsed (record { fault = x }) (from s next) ≡ fault n count (from s at)
+  pub stuck-found : {x : Fault} → kind < 2 → a < count → b ≡ a → x ≡ faultOf kind a b → parsed (record { fault = x }) rest ≡ fault n count (from s at)
   stuck-found k h e f =
-      ap (λ (y : Fault). parsed (record { fault = y }) (from s next)) f
+      ap (λ (y : Fault). parsed (record { fault = y }) rest) f
       ∙ tested true true (stuck-line kind a b n count k ∙ lt-ltb a count h) (stuck-lines kind a b k ∙ eq-eqb b a e)
 
   pub bridge-outside : 2 ≤ kind → n ≤ a → refused 7 ≡ fault n count (from s at)
@@ -73,7 +70,7 @@ module _ (s : List ℕ) (at : Cursor) (n count : ℕ) {kind a b : ℕ} {next : C
   pub bridge-order : 2 ≤ kind → a < n → b < n → b ≤ a → refused 8 ≡ fault n count (from s at)
   bridge-order k h l o = tested true false (bridge-line kind a b n count k ∙ and-i (lt-ltb a n h) (lt-ltb b n l)) (bridge-lines kind a b k ∙ le-ltb a b o)
 
-  pub bridge-found : {x : Fault} → 2 ≤ kind → a < n → b < n → a < b → x ≡ faultOf kind a b → parsed (record { fault = x }) (from s next) ≡ fault n count (from s at)
+  pub bridge-found : {x : Fault} → 2 ≤ kind → a < n → b < n → a < b → x ≡ faultOf kind a b → parsed (record { fault = x }) rest ≡ fault n count (from s at)
   bridge-found k h l o f =
-      ap (λ (y : Fault). parsed (record { fault = y }) (from s next)) f
+      ap (λ (y : Fault). parsed (record { fault = y }) rest) f
       ∙ tested true true (bridge-line kind a b n count k ∙ and-i (lt-ltb a n h) (lt-ltb b n l)) (bridge-lines kind a b k ∙ lt-ltb a b o)

@@ -1,4 +1,5 @@
 pub mod Entries
+pub mod EntryFields
 pub mod FaultKinds
 pub mod Parts
 pub mod Refusals

@@ -1,9 +1,8 @@
 -- What the operation `read` and its steps tell, and what they are to tell, in the document's numbers.
 --
 --   told, due     the answer, and the record beside it
---   entryTold, gateTold, faultTold   what stands where three fields, a gate or a fault are due
---   LinesFit      lines that were read fit their fields
-use Prim.Native.Nat.{ℕ, _^_, _<_}
+--   gateTold, faultTold   what stands where a gate or a fault is due
+use Prim.Native.Nat.{ℕ}
 use mathlib.Core.List.{List}
 use Rattle.bits.specs.Answer.{Answer, number}
 use Rattle.bits.specs.Answer.Answer.{gives, refused}
@@ -15,10 +14,6 @@ use Rattle.job.specs.Record.{emptyJob}
 use Rattle.job.specs.declared.Job.{Job}
 use Rattle.job.specs.declared.FaultEntry.{FaultEntry}
 use Rattle.job.specs.declared.GateEntry.{GateEntry}
-use Rattle.job.specs.Layout.{lineBits}
-use Rattle.reading.specs.Reading.{Entry}
-use Rattle.reading.specs.declared.EntryRead.{EntryRead}
-use Rattle.reading.specs.declared.EntryRead.the-variants.{Fields, Cut}
 use Rattle.reading.specs.declared.FaultRead.{FaultRead}
 use Rattle.reading.specs.declared.FaultRead.the-variants as fault-read
 use Rattle.reading.specs.declared.GateRead.{GateRead}
@@ -51,11 +46,3 @@ gateTold s (gate-read.Refused e) = refused (number e)
 abbrev pub faultTold : List ℕ → FaultRead → Answer (Parsed FaultEntry)
 faultTold s (fault-read.Found x c) = parsed (record { fault = x }) (from s c)
 faultTold s (fault-read.Refused e) = refused (number e)
-
-abbrev pub entryTold : List ℕ → EntryRead → Answer (Parsed Entry)
-entryTold s (Fields kind a b c) = parsed (record { kind = kind; a = a; b = b }) (from s c)
-entryTold s Cut = refused 1
-
-abbrev pub LinesFit : EntryRead → Type 0
-LinesFit (Fields kind a b c) = (a < 2 ^ lineBits) × (b < 2 ^ lineBits)
-LinesFit Cut = Unit {0}

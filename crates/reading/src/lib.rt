@@ -1,13 +1,12 @@
 // Reading a job from any bytes (document 01, "Job layout" and "Refusal by operation").
 ghost use mathlib.Core.Path.{_≡_};
-ghost use mathlib.Core.Bool.{true};
 ghost use Prim.Native.Nat.{_≤_};
 ghost use Rattle.bits.specs.Answer.{number};
 ghost use Rattle.bits.specs.Answer.Answer.{refused};
-ghost use Rattle.bits.specs.Field.{from, isWidth};
+ghost use Rattle.bits.specs.Field.{from};
 ghost use Rattle.job.specs.Layout.{maxGates, maxFaults};
-ghost use Rattle.reading.specs.Reading.{reading, valueRead, entryFields, unaryLinesOk, gate, fault, fromGates, fromOutput, fromFaultCount, fromFaults, fromEnd};
-ghost use Rattle.reading.specs.Told.{told, due, entryTold, LinesFit, gateTold, faultTold};
+ghost use Rattle.reading.specs.Reading.{reading, valueRead, unaryLinesOk, gate, fault, fromGates, fromOutput, fromFaultCount, fromFaults, fromEnd};
+ghost use Rattle.reading.specs.Told.{told, due, gateTold, faultTold};
 use bits::Cursor;
 use bits::Field;
 use bits::Outcome;
@@ -67,28 +66,6 @@ pub fn read(s: &[u8]) -> Reading
     read_gates(s, d, job)
 }
 
-// What stands where a gate or a fault is due: its kind, line a, line b and the place behind them.
-enum EntryRead {
-    Fields(usize, usize, usize, Cursor),
-    Cut,
-}
-
-fn read_entry(s: &[u8], at: Cursor, kind_bits: usize) -> EntryRead
-    requires { ⌜ isWidth «kind_bits» ≡ true ⌝ }
-    ensures { λ r. ⌜ (entryTold (now (s .entry)) r ≡ entryFields «kind_bits» (from (now (s .entry)) at)) × LinesFit r ⌝ }
-{
-    let Field::Value(kind, c) = bits::read_field(s, at, kind_bits) else {
-        return EntryRead::Cut;
-    };
-    let Field::Value(a, d) = bits::read_field(s, c, LINE_BITS) else {
-        return EntryRead::Cut;
-    };
-    let Field::Value(b, e) = bits::read_field(s, d, LINE_BITS) else {
-        return EntryRead::Cut;
-    };
-    EntryRead::Fields(kind, a, b, e)
-}
-
 // What stands where a gate is due.
 enum GateRead {
     Found(Gate, Cursor),
@@ -106,7 +83,13 @@ fn unary_lines_ok(kind: usize, a: usize, b: usize) -> bool
 fn read_gate(s: &[u8], at: Cursor, own: usize) -> GateRead
     ensures { λ r. ⌜ gateTold (now (s .entry)) r ≡ gate own (from (now (s .entry)) at) ⌝ }
 {
-    let EntryRead::Fields(kind, a, b, c) = read_entry(s, at, GATE_KIND_BITS) else {
+    let Field::Value(kind, c) = bits::read_field(s, at, GATE_KIND_BITS) else {
+        return GateRead::Refused(Refusal::FieldCut);
+    };
+    let Field::Value(a, d) = bits::read_field(s, c, LINE_BITS) else {
+        return GateRead::Refused(Refusal::FieldCut);
+    };
+    let Field::Value(b, e) = bits::read_field(s, d, LINE_BITS) else {
         return GateRead::Refused(Refusal::FieldCut);
     };
     if own <= a {
@@ -118,7 +101,7 @@ fn read_gate(s: &[u8], at: Cursor, own: usize) -> GateRead
     if !unary_lines_ok(kind, a, b) {
         return GateRead::Refused(Refusal::UnaryLines);
     }
-    GateRead::Found(job::gate_of(kind, a as u8, b as u8), c)
+    GateRead::Found(job::gate_of(kind, a as u8, b as u8), e)
 }
 
 // The rest of a job from its gates on.
@@ -183,7 +166,13 @@ enum FaultRead {
 fn read_fault(s: &[u8], at: Cursor, inputs: usize, lines: usize) -> FaultRead
     ensures { λ r. ⌜ faultTold (now (s .entry)) r ≡ fault inputs lines (from (now (s .entry)) at) ⌝ }
 {
-    let EntryRead::Fields(kind, a, b, c) = read_entry(s, at, FAULT_KIND_BITS) else {
+    let Field::Value(kind, c) = bits::read_field(s, at, FAULT_KIND_BITS) else {
+        return FaultRead::Refused(Refusal::FieldCut);
+    };
+    let Field::Value(a, d) = bits::read_field(s, c, LINE_BITS) else {
+        return FaultRead::Refused(Refusal::FieldCut);
+    };
+    let Field::Value(b, e) = bits::read_field(s, d, LINE_BITS) else {
         return FaultRead::Refused(Refusal::FieldCut);
     };
     if kind < 2 {
@@ -193,7 +182,7 @@ fn read_fault(s: &[u8], at: Cursor, inputs: usize, lines: usize) -> FaultRead
         if b != a {
             return FaultRead::Refused(Refusal::FaultOrder);
         }
-        return FaultRead::Found(job::fault_of(kind, a as u8, b as u8), c);
+        return FaultRead::Found(job::fault_of(kind, a as u8, b as u8), e);
     }
     if inputs <= a {
         return FaultRead::Refused(Refusal::FaultLine);
@@ -204,7 +193,7 @@ fn read_fault(s: &[u8], at: Cursor, inputs: usize, lines: usize) -> FaultRead
     if b <= a {
         return FaultRead::Refused(Refusal::FaultOrder);
     }
-    FaultRead::Found(job::fault_of(kind, a as u8, b as u8), c)
+    FaultRead::Found(job::fault_of(kind, a as u8, b as u8), e)
 }
 
 // The rest of a job from its faults on.

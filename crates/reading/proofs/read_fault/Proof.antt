@@ -1,18 +1,18 @@
 -- `reading::read_fault` meets its contract.
 use native.Mathlib.Omega.{arith}
-use mathlib.Core.Path.{refl, sym, ap, subst, _∙_}
+use mathlib.Core.Path.{refl, sym, _∙_}
 use denote.Ref.{now}
+use Rattle.bits.proofs.Fields.{field-lt}
 use Rattle.job.specs.Layout.{faultKindBits, lineBits}
 use Rattle.reading.specs.Reading.{fault}
-use Rattle.reading.specs.Told.{entryTold, LinesFit}
+use Rattle.reading.proofs.EntryFields.{entry-first, entry-second, entry-third, entry-read}
 use Rattle.reading.proofs.FaultKinds.{stuck-outside, stuck-unlike, stuck-found, bridge-outside, bridge-above, bridge-order, bridge-found}
 use borrow.Author.Needs.{needs}
 use Rattle.reading.proofs.read_fault.Statement.{statement}
 use Rattle.reading.proofs.read_fault.Tie as tie
 
-read-entry-requires : tie.Need-read-entry-requires
-unfolding lineBits
-read-entry-requires c κs = refl
+read-field-requires : tie.Need-read-field-requires
+read-field-requires c κs = search needs
 
 enum-known-kind : tie.Need-enum-known-kind
 enum-known-kind c = search needs
@@ -21,91 +21,107 @@ enum-told : tie.Need-enum-told
 enum-told c = search needs
 
 returns : tie.Need-returns
-unfolding fault faultKindBits
-returns c = simp (sym (c .before .before .read-entry .ensures .0) ∙ ap (entryTold (now (c .before .before .before .before .args .s))) (c .enum-told .given .1))
+unfolding fault faultKindBits lineBits
+returns c = simp (entry-first (now (c .before .before .before .before .args .s)) (c .before .before .before .before .args .at) 2 refl (sym (c .before .before .read-field .ensures) ∙ c .enum-told .given .1))
+
+read-field-requires-2 : tie.Need-read-field-requires-2
+read-field-requires-2 c κs = search needs
+
+enum-known-a : tie.Need-enum-known-a
+enum-known-a c = search needs
+
+enum-told-2 : tie.Need-enum-told-2
+enum-told-2 c = search needs
 
 returns-2 : tie.Need-returns-2
-unfolding faultKindBits
-returns-2 c =
-    let a = c .before .before .before .before .before .before .before .args in
-    stuck-outside (now (a .s)) (a .at) (a .inputs) (a .lines) (c .before .before .before .kind .given .1) (c .before .before .before .before .before .read-entry .ensures) (c .before .if1 .taken) (c .if2 .taken)
+unfolding fault faultKindBits lineBits
+returns-2 c = simp (entry-second (now (c .before .before .before .before .before .before .before .before .args .s)) (c .before .before .before .before .before .before .before .before .args .at) 2 (sym (c .before .before .before .before .before .before .read-field .ensures) ∙ c .before .before .before .before .kind .given .1) (sym (c .before .before .read-field2 .ensures) ∙ c .enum-told2 .given .1))
+
+read-field-requires-3 : tie.Need-read-field-requires-3
+read-field-requires-3 c κs = search needs
+
+enum-known-b : tie.Need-enum-known-b
+enum-known-b c = search needs
+
+enum-told-3 : tie.Need-enum-told-3
+enum-told-3 c = search needs
 
 returns-3 : tie.Need-returns-3
-unfolding faultKindBits
-returns-3 c =
-    let a = c .before .before .before .before .before .before .before .before .args in
-    stuck-unlike (now (a .s)) (a .at) (a .inputs) (a .lines) (c .before .before .before .before .kind .given .1) (c .before .before .before .before .before .before .read-entry .ensures) (c .before .before .if1 .taken) (c .before .if2 .left) (c .if3 .taken)
+unfolding fault faultKindBits lineBits
+returns-3 c = simp (entry-third (now (c .before .before .before .before .before .before .before .before .before .before .before .before .args .s)) (c .before .before .before .before .before .before .before .before .before .before .before .before .args .at) 2 (sym (c .before .before .before .before .before .before .before .before .before .before .read-field .ensures) ∙ c .before .before .before .before .before .before .before .before .kind .given .1) (sym (c .before .before .before .before .before .before .read-field2 .ensures) ∙ c .before .before .before .before .a .given .1) (sym (c .before .before .read-field3 .ensures) ∙ c .enum-told3 .given .1))
+
+returns-4 : tie.Need-returns-4
+unfolding faultKindBits lineBits
+returns-4 c = stuck-outside (now (c .before .before .before .before .before .before .before .before .before .before .before .before .before .before .before .args .s)) (c .before .before .before .before .before .before .before .before .before .before .before .before .before .before .before .args .at) (c .before .before .before .before .before .before .before .before .before .before .before .before .before .before .before .args .inputs) (c .before .before .before .before .before .before .before .before .before .before .before .before .before .before .before .args .lines) (entry-read (now (c .before .before .before .before .before .before .before .before .before .before .before .before .before .before .before .args .s)) (c .before .before .before .before .before .before .before .before .before .before .before .before .before .before .before .args .at) 2 (sym (c .before .before .before .before .before .before .before .before .before .before .before .before .before .read-field .ensures) ∙ c .before .before .before .before .before .before .before .before .before .before .before .kind .given .1) (sym (c .before .before .before .before .before .before .before .before .before .read-field2 .ensures) ∙ c .before .before .before .before .before .before .before .a .given .1) (sym (c .before .before .before .before .before .read-field3 .ensures) ∙ c .before .before .before .b .given .1)) (c .before .if1 .taken) (c .if2 .taken)
+
+returns-5 : tie.Need-returns-5
+unfolding faultKindBits lineBits
+returns-5 c = stuck-unlike (now (c .before .before .before .before .before .before .before .before .before .before .before .before .before .before .before .before .args .s)) (c .before .before .before .before .before .before .before .before .before .before .before .before .before .before .before .before .args .at) (c .before .before .before .before .before .before .before .before .before .before .before .before .before .before .before .before .args .inputs) (c .before .before .before .before .before .before .before .before .before .before .before .before .before .before .before .before .args .lines) (entry-read (now (c .before .before .before .before .before .before .before .before .before .before .before .before .before .before .before .before .args .s)) (c .before .before .before .before .before .before .before .before .before .before .before .before .before .before .before .before .args .at) 2 (sym (c .before .before .before .before .before .before .before .before .before .before .before .before .before .before .read-field .ensures) ∙ c .before .before .before .before .before .before .before .before .before .before .before .before .kind .given .1) (sym (c .before .before .before .before .before .before .before .before .before .before .read-field2 .ensures) ∙ c .before .before .before .before .before .before .before .before .a .given .1) (sym (c .before .before .before .before .before .before .read-field3 .ensures) ∙ c .before .before .before .before .b .given .1)) (c .before .before .if1 .taken) (c .before .if2 .left) (c .if3 .taken)
 
 cast-fault-of : tie.Need-cast-fault-of
-unfolding lineBits
-cast-fault-of c = omega (arith, subst LinesFit (c .before .before .before .before .kind .given .1) (c .before .before .before .before .before .before .read-entry .ensures .1))
+cast-fault-of c = omega (arith, field-lt (now (c .before .before .before .before .before .before .before .before .before .before .before .before .before .before .before .before .args .s)) _ 7 _ _ (sym (c .before .before .before .before .before .before .before .before .before .before .read-field2 .ensures) ∙ c .before .before .before .before .before .before .before .before .a .given .1))
 
 cast-fault-of-2 : tie.Need-cast-fault-of-2
-unfolding lineBits
-cast-fault-of-2 c = omega (arith, subst LinesFit (c .before .before .before .before .kind .given .1) (c .before .before .before .before .before .before .read-entry .ensures .1))
+cast-fault-of-2 c = omega (arith, field-lt (now (c .before .before .before .before .before .before .before .before .before .before .before .before .before .before .before .before .args .s)) _ 7 _ _ (sym (c .before .before .before .before .before .before .read-field3 .ensures) ∙ c .before .before .before .before .b .given .1))
 
 fault-of-requires : tie.Need-fault-of-requires
 fault-of-requires c κs = search needs
 
-returns-4 : tie.Need-returns-4
-unfolding faultKindBits
-returns-4 c =
-    let a = c .before .before .before .before .before .before .before .before .before .args in
-    stuck-found (now (a .s)) (a .at) (a .inputs) (a .lines) (c .before .before .before .before .before .kind .given .1) (c .before .before .before .before .before .before .before .read-entry .ensures) (c .before .before .before .if1 .taken) (c .before .before .if2 .left) (c .before .if3 .left) (c .fault-of .ensures)
-
-returns-5 : tie.Need-returns-5
-unfolding faultKindBits
-returns-5 c =
-    let a = c .before .before .before .before .before .before .before .args in
-    bridge-outside (now (a .s)) (a .at) (a .inputs) (a .lines) (c .before .before .before .kind .given .1) (c .before .before .before .before .before .read-entry .ensures) (c .before .if1 .left) (c .if4 .taken)
-
 returns-6 : tie.Need-returns-6
-unfolding faultKindBits
-returns-6 c =
-    let a = c .before .before .before .before .before .before .before .before .args in
-    bridge-above (now (a .s)) (a .at) (a .inputs) (a .lines) (c .before .before .before .before .kind .given .1) (c .before .before .before .before .before .before .read-entry .ensures) (c .before .before .if1 .left) (c .before .if4 .left) (c .if5 .taken)
+unfolding faultKindBits lineBits
+returns-6 c = stuck-found (now (c .before .before .before .before .before .before .before .before .before .before .before .before .before .before .before .before .before .args .s)) (c .before .before .before .before .before .before .before .before .before .before .before .before .before .before .before .before .before .args .at) (c .before .before .before .before .before .before .before .before .before .before .before .before .before .before .before .before .before .args .inputs) (c .before .before .before .before .before .before .before .before .before .before .before .before .before .before .before .before .before .args .lines) (entry-read (now (c .before .before .before .before .before .before .before .before .before .before .before .before .before .before .before .before .before .args .s)) (c .before .before .before .before .before .before .before .before .before .before .before .before .before .before .before .before .before .args .at) 2 (sym (c .before .before .before .before .before .before .before .before .before .before .before .before .before .before .before .read-field .ensures) ∙ c .before .before .before .before .before .before .before .before .before .before .before .before .before .kind .given .1) (sym (c .before .before .before .before .before .before .before .before .before .before .before .read-field2 .ensures) ∙ c .before .before .before .before .before .before .before .before .before .a .given .1) (sym (c .before .before .before .before .before .before .before .read-field3 .ensures) ∙ c .before .before .before .before .before .b .given .1)) (c .before .before .before .if1 .taken) (c .before .before .if2 .left) (c .before .if3 .left) (c .fault-of .ensures)
 
 returns-7 : tie.Need-returns-7
-unfolding faultKindBits
-returns-7 c =
-    let a = c .before .before .before .before .before .before .before .before .before .args in
-    bridge-order (now (a .s)) (a .at) (a .inputs) (a .lines) (c .before .before .before .before .before .kind .given .1) (c .before .before .before .before .before .before .before .read-entry .ensures) (c .before .before .before .if1 .left) (c .before .before .if4 .left) (c .before .if5 .left) (c .if6 .taken)
+unfolding faultKindBits lineBits
+returns-7 c = bridge-outside (now (c .before .before .before .before .before .before .before .before .before .before .before .before .before .before .before .args .s)) (c .before .before .before .before .before .before .before .before .before .before .before .before .before .before .before .args .at) (c .before .before .before .before .before .before .before .before .before .before .before .before .before .before .before .args .inputs) (c .before .before .before .before .before .before .before .before .before .before .before .before .before .before .before .args .lines) (entry-read (now (c .before .before .before .before .before .before .before .before .before .before .before .before .before .before .before .args .s)) (c .before .before .before .before .before .before .before .before .before .before .before .before .before .before .before .args .at) 2 (sym (c .before .before .before .before .before .before .before .before .before .before .before .before .before .read-field .ensures) ∙ c .before .before .before .before .before .before .before .before .before .before .before .kind .given .1) (sym (c .before .before .before .before .before .before .before .before .before .read-field2 .ensures) ∙ c .before .before .before .before .before .before .before .a .given .1) (sym (c .before .before .before .before .before .read-field3 .ensures) ∙ c .before .before .before .b .given .1)) (c .before .if1 .left) (c .if4 .taken)
+
+returns-8 : tie.Need-returns-8
+unfolding faultKindBits lineBits
+returns-8 c = bridge-above (now (c .before .before .before .before .before .before .before .before .before .before .before .before .before .before .before .before .args .s)) (c .before .before .before .before .before .before .before .before .before .before .before .before .before .before .before .before .args .at) (c .before .before .before .before .before .before .before .before .before .before .before .before .before .before .before .before .args .inputs) (c .before .before .before .before .before .before .before .before .before .before .before .before .before .before .before .before .args .lines) (entry-read (now (c .before .before .before .before .before .before .before .before .before .before .before .before .before .before .before .before .args .s)) (c .before .before .before .before .before .before .before .before .before .before .before .before .before .before .before .before .args .at) 2 (sym (c .before .before .before .before .before .before .before .before .before .before .before .before .before .before .read-field .ensures) ∙ c .before .before .before .before .before .before .before .before .before .before .before .before .kind .given .1) (sym (c .before .before .before .before .before .before .before .before .before .before .read-field2 .ensures) ∙ c .before .before .before .before .before .before .before .before .a .given .1) (sym (c .before .before .before .before .before .before .read-field3 .ensures) ∙ c .before .before .before .before .b .given .1)) (c .before .before .if1 .left) (c .before .if4 .left) (c .if5 .taken)
+
+returns-9 : tie.Need-returns-9
+unfolding faultKindBits lineBits
+returns-9 c = bridge-order (now (c .before .before .before .before .before .before .before .before .before .before .before .before .before .before .before .before .before .args .s)) (c .before .before .before .before .before .before .before .before .before .before .before .before .before .before .before .before .before .args .at) (c .before .before .before .before .before .before .before .before .before .before .before .before .before .before .before .before .before .args .inputs) (c .before .before .before .before .before .before .before .before .before .before .before .before .before .before .before .before .before .args .lines) (entry-read (now (c .before .before .before .before .before .before .before .before .before .before .before .before .before .before .before .before .before .args .s)) (c .before .before .before .before .before .before .before .before .before .before .before .before .before .before .before .before .before .args .at) 2 (sym (c .before .before .before .before .before .before .before .before .before .before .before .before .before .before .before .read-field .ensures) ∙ c .before .before .before .before .before .before .before .before .before .before .before .before .before .kind .given .1) (sym (c .before .before .before .before .before .before .before .before .before .before .before .read-field2 .ensures) ∙ c .before .before .before .before .before .before .before .before .before .a .given .1) (sym (c .before .before .before .before .before .before .before .read-field3 .ensures) ∙ c .before .before .before .before .before .b .given .1)) (c .before .before .before .if1 .left) (c .before .before .if4 .left) (c .before .if5 .left) (c .if6 .taken)
 
 cast-fault-of-3 : tie.Need-cast-fault-of-3
-unfolding lineBits
-cast-fault-of-3 c = omega (arith, subst LinesFit (c .before .before .before .before .before .kind .given .1) (c .before .before .before .before .before .before .before .read-entry .ensures .1))
+cast-fault-of-3 c = omega (arith, field-lt (now (c .before .before .before .before .before .before .before .before .before .before .before .before .before .before .before .before .before .args .s)) _ 7 _ _ (sym (c .before .before .before .before .before .before .before .before .before .before .before .read-field2 .ensures) ∙ c .before .before .before .before .before .before .before .before .before .a .given .1))
 
 cast-fault-of-4 : tie.Need-cast-fault-of-4
-unfolding lineBits
-cast-fault-of-4 c = omega (arith, subst LinesFit (c .before .before .before .before .before .kind .given .1) (c .before .before .before .before .before .before .before .read-entry .ensures .1))
+cast-fault-of-4 c = omega (arith, field-lt (now (c .before .before .before .before .before .before .before .before .before .before .before .before .before .before .before .before .before .args .s)) _ 7 _ _ (sym (c .before .before .before .before .before .before .before .read-field3 .ensures) ∙ c .before .before .before .before .before .b .given .1))
 
 fault-of-requires-2 : tie.Need-fault-of-requires-2
 fault-of-requires-2 c κs = search needs
 
-returns-8 : tie.Need-returns-8
-unfolding faultKindBits
-returns-8 c =
-    let a = c .before .before .before .before .before .before .before .before .before .before .args in
-    bridge-found (now (a .s)) (a .at) (a .inputs) (a .lines) (c .before .before .before .before .before .before .kind .given .1) (c .before .before .before .before .before .before .before .before .read-entry .ensures) (c .before .before .before .before .if1 .left) (c .before .before .before .if4 .left) (c .before .before .if5 .left) (c .before .if6 .left) (c .fault-of2 .ensures)
+returns-10 : tie.Need-returns-10
+unfolding faultKindBits lineBits
+returns-10 c = bridge-found (now (c .before .before .before .before .before .before .before .before .before .before .before .before .before .before .before .before .before .before .args .s)) (c .before .before .before .before .before .before .before .before .before .before .before .before .before .before .before .before .before .before .args .at) (c .before .before .before .before .before .before .before .before .before .before .before .before .before .before .before .before .before .before .args .inputs) (c .before .before .before .before .before .before .before .before .before .before .before .before .before .before .before .before .before .before .args .lines) (entry-read (now (c .before .before .before .before .before .before .before .before .before .before .before .before .before .before .before .before .before .before .args .s)) (c .before .before .before .before .before .before .before .before .before .before .before .before .before .before .before .before .before .before .args .at) 2 (sym (c .before .before .before .before .before .before .before .before .before .before .before .before .before .before .before .before .read-field .ensures) ∙ c .before .before .before .before .before .before .before .before .before .before .before .before .before .before .kind .given .1) (sym (c .before .before .before .before .before .before .before .before .before .before .before .before .read-field2 .ensures) ∙ c .before .before .before .before .before .before .before .before .before .before .a .given .1) (sym (c .before .before .before .before .before .before .before .before .read-field3 .ensures) ∙ c .before .before .before .before .before .before .b .given .1)) (c .before .before .before .before .if1 .left) (c .before .before .before .if4 .left) (c .before .before .if5 .left) (c .before .if6 .left) (c .fault-of2 .ensures)
 
 pub read-fault-spec : {M : Type 1} → statement M
 read-fault-spec =
     tie.close
     (tie.spec
-    read-entry-requires
+    read-field-requires
     enum-known-kind
     enum-told
     returns
+    read-field-requires-2
+    enum-known-a
+    enum-told-2
     returns-2
+    read-field-requires-3
+    enum-known-b
+    enum-told-3
     returns-3
+    returns-4
+    returns-5
     cast-fault-of
     cast-fault-of-2
     fault-of-requires
-    returns-4
-    returns-5
     returns-6
     returns-7
+    returns-8
+    returns-9
     cast-fault-of-3
     cast-fault-of-4
     fault-of-requires-2
-    returns-8)
+    returns-10)

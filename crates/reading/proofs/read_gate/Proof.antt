@@ -1,18 +1,18 @@
 -- `reading::read_gate` meets its contract.
 use native.Mathlib.Omega.{arith}
-use mathlib.Core.Path.{sym, ap, subst, _∙_}
+use mathlib.Core.Path.{refl, sym, _∙_}
 use denote.Ref.{now}
+use Rattle.bits.proofs.Fields.{field-lt}
 use borrow.Author.Tests.{lt-ltb, le-ltb, not-true, not-false}
 use Rattle.job.specs.Layout.{gateKindBits, lineBits}
 use Rattle.reading.specs.Reading.{gate}
-use Rattle.reading.specs.Told.{entryTold, LinesFit}
+use Rattle.reading.proofs.EntryFields.{entry-first, entry-second, entry-third, entry-read}
 use borrow.Author.Needs.{needs}
 use Rattle.reading.proofs.read_gate.Statement.{statement}
 use Rattle.reading.proofs.read_gate.Tie as tie
 
-read-entry-requires : tie.Need-read-entry-requires
-unfolding lineBits
-read-entry-requires c κs = search needs
+read-field-requires : tie.Need-read-field-requires
+read-field-requires c κs = search needs
 
 enum-known-kind : tie.Need-enum-known-kind
 enum-known-kind c = search needs
@@ -21,52 +21,84 @@ enum-told : tie.Need-enum-told
 enum-told c = search needs
 
 returns : tie.Need-returns
-unfolding gate gateKindBits
-returns c = simp (sym (c .before .before .read-entry .ensures .0) ∙ ap (entryTold (now (c .before .before .before .before .args .s))) (c .enum-told .given .1))
+unfolding gate gateKindBits lineBits
+returns c = simp (entry-first (now (c .before .before .before .before .args .s)) (c .before .before .before .before .args .at) 3 refl (sym (c .before .before .read-field .ensures) ∙ c .enum-told .given .1))
+
+read-field-requires-2 : tie.Need-read-field-requires-2
+read-field-requires-2 c κs = search needs
+
+enum-known-a : tie.Need-enum-known-a
+enum-known-a c = search needs
+
+enum-told-2 : tie.Need-enum-told-2
+enum-told-2 c = search needs
 
 returns-2 : tie.Need-returns-2
-unfolding gate gateKindBits
-returns-2 c = simp (sym (c .before .before .before .before .read-entry .ensures .0) ∙ ap (entryTold (now (c .before .before .before .before .before .before .args .s))) (c .before .before .kind .given .1), le-ltb _ _ (c .if1 .taken))
+unfolding gate gateKindBits lineBits
+returns-2 c = simp (entry-second (now (c .before .before .before .before .before .before .before .before .args .s)) (c .before .before .before .before .before .before .before .before .args .at) 3 (sym (c .before .before .before .before .before .before .read-field .ensures) ∙ c .before .before .before .before .kind .given .1) (sym (c .before .before .read-field2 .ensures) ∙ c .enum-told2 .given .1))
+
+read-field-requires-3 : tie.Need-read-field-requires-3
+read-field-requires-3 c κs = search needs
+
+enum-known-b : tie.Need-enum-known-b
+enum-known-b c = search needs
+
+enum-told-3 : tie.Need-enum-told-3
+enum-told-3 c = search needs
 
 returns-3 : tie.Need-returns-3
-unfolding gate gateKindBits
-returns-3 c = simp (sym (c .before .before .before .before .before .read-entry .ensures .0) ∙ ap (entryTold (now (c .before .before .before .before .before .before .before .args .s))) (c .before .before .before .kind .given .1), lt-ltb _ _ (c .before .if1 .left), le-ltb _ _ (c .if2 .taken))
+unfolding gate gateKindBits lineBits
+returns-3 c = simp (entry-third (now (c .before .before .before .before .before .before .before .before .before .before .before .before .args .s)) (c .before .before .before .before .before .before .before .before .before .before .before .before .args .at) 3 (sym (c .before .before .before .before .before .before .before .before .before .before .read-field .ensures) ∙ c .before .before .before .before .before .before .before .before .kind .given .1) (sym (c .before .before .before .before .before .before .read-field2 .ensures) ∙ c .before .before .before .before .a .given .1) (sym (c .before .before .read-field3 .ensures) ∙ c .enum-told3 .given .1))
+
+returns-4 : tie.Need-returns-4
+unfolding gate gateKindBits lineBits
+returns-4 c = simp (entry-read (now (c .before .before .before .before .before .before .before .before .before .before .before .before .before .before .args .s)) (c .before .before .before .before .before .before .before .before .before .before .before .before .before .before .args .at) 3 (sym (c .before .before .before .before .before .before .before .before .before .before .before .before .read-field .ensures) ∙ c .before .before .before .before .before .before .before .before .before .before .kind .given .1) (sym (c .before .before .before .before .before .before .before .before .read-field2 .ensures) ∙ c .before .before .before .before .before .before .a .given .1) (sym (c .before .before .before .before .read-field3 .ensures) ∙ c .before .before .b .given .1), le-ltb _ _ (c .if1 .taken))
+
+returns-5 : tie.Need-returns-5
+unfolding gate gateKindBits lineBits
+returns-5 c = simp (entry-read (now (c .before .before .before .before .before .before .before .before .before .before .before .before .before .before .before .args .s)) (c .before .before .before .before .before .before .before .before .before .before .before .before .before .before .before .args .at) 3 (sym (c .before .before .before .before .before .before .before .before .before .before .before .before .before .read-field .ensures) ∙ c .before .before .before .before .before .before .before .before .before .before .before .kind .given .1) (sym (c .before .before .before .before .before .before .before .before .before .read-field2 .ensures) ∙ c .before .before .before .before .before .before .before .a .given .1) (sym (c .before .before .before .before .before .read-field3 .ensures) ∙ c .before .before .before .b .given .1), lt-ltb _ _ (c .before .if1 .left), le-ltb _ _ (c .if2 .taken))
 
 unary-lines-ok-requires : tie.Need-unary-lines-ok-requires
 unary-lines-ok-requires c κs = search needs
 
-returns-4 : tie.Need-returns-4
-unfolding gate gateKindBits
-returns-4 c = simp (sym (c .before .before .before .before .before .before .before .read-entry .ensures .0) ∙ ap (entryTold (now (c .before .before .before .before .before .before .before .before .before .args .s))) (c .before .before .before .before .before .kind .given .1), lt-ltb _ _ (c .before .before .before .if1 .left), lt-ltb _ _ (c .before .before .if2 .left), sym (c .before .unary-lines-ok .ensures) ∙ not-true _ (c .if3 .taken))
+returns-6 : tie.Need-returns-6
+unfolding gate gateKindBits lineBits
+returns-6 c = simp (entry-read (now (c .before .before .before .before .before .before .before .before .before .before .before .before .before .before .before .before .before .args .s)) (c .before .before .before .before .before .before .before .before .before .before .before .before .before .before .before .before .before .args .at) 3 (sym (c .before .before .before .before .before .before .before .before .before .before .before .before .before .before .before .read-field .ensures) ∙ c .before .before .before .before .before .before .before .before .before .before .before .before .before .kind .given .1) (sym (c .before .before .before .before .before .before .before .before .before .before .before .read-field2 .ensures) ∙ c .before .before .before .before .before .before .before .before .before .a .given .1) (sym (c .before .before .before .before .before .before .before .read-field3 .ensures) ∙ c .before .before .before .before .before .b .given .1), lt-ltb _ _ (c .before .before .before .if1 .left), lt-ltb _ _ (c .before .before .if2 .left), sym (c .before .unary-lines-ok .ensures) ∙ not-true _ (c .if3 .taken))
 
 cast-gate-of : tie.Need-cast-gate-of
-unfolding lineBits
-cast-gate-of c = omega (arith, subst LinesFit (c .before .before .before .before .before .kind .given .1) (c .before .before .before .before .before .before .before .read-entry .ensures .1))
+cast-gate-of c = omega (arith, field-lt (now (c .before .before .before .before .before .before .before .before .before .before .before .before .before .before .before .before .before .args .s)) _ 7 _ _ (sym (c .before .before .before .before .before .before .before .before .before .before .before .read-field2 .ensures) ∙ c .before .before .before .before .before .before .before .before .before .a .given .1))
 
 cast-gate-of-2 : tie.Need-cast-gate-of-2
-unfolding lineBits
-cast-gate-of-2 c = omega (arith, subst LinesFit (c .before .before .before .before .before .kind .given .1) (c .before .before .before .before .before .before .before .read-entry .ensures .1))
+cast-gate-of-2 c = omega (arith, field-lt (now (c .before .before .before .before .before .before .before .before .before .before .before .before .before .before .before .before .before .args .s)) _ 7 _ _ (sym (c .before .before .before .before .before .before .before .read-field3 .ensures) ∙ c .before .before .before .before .before .b .given .1))
 
 gate-of-requires : tie.Need-gate-of-requires
 gate-of-requires c κs = search needs
 
-returns-5 : tie.Need-returns-5
-unfolding gate gateKindBits
-returns-5 c = simp (sym (c .before .before .before .before .before .before .before .before .read-entry .ensures .0) ∙ ap (entryTold (now (c .before .before .before .before .before .before .before .before .before .before .args .s))) (c .before .before .before .before .before .before .kind .given .1), lt-ltb _ _ (c .before .before .before .before .if1 .left), lt-ltb _ _ (c .before .before .before .if2 .left), sym (c .before .before .unary-lines-ok .ensures) ∙ not-false _ (c .before .if3 .left), c .gate-of .ensures)
+returns-7 : tie.Need-returns-7
+unfolding gate gateKindBits lineBits
+returns-7 c = simp (entry-read (now (c .before .before .before .before .before .before .before .before .before .before .before .before .before .before .before .before .before .before .args .s)) (c .before .before .before .before .before .before .before .before .before .before .before .before .before .before .before .before .before .before .args .at) 3 (sym (c .before .before .before .before .before .before .before .before .before .before .before .before .before .before .before .before .read-field .ensures) ∙ c .before .before .before .before .before .before .before .before .before .before .before .before .before .before .kind .given .1) (sym (c .before .before .before .before .before .before .before .before .before .before .before .before .read-field2 .ensures) ∙ c .before .before .before .before .before .before .before .before .before .before .a .given .1) (sym (c .before .before .before .before .before .before .before .before .read-field3 .ensures) ∙ c .before .before .before .before .before .before .b .given .1), lt-ltb _ _ (c .before .before .before .before .if1 .left), lt-ltb _ _ (c .before .before .before .if2 .left), sym (c .before .before .unary-lines-ok .ensures) ∙ not-false _ (c .before .if3 .left), c .gate-of .ensures)
 
 pub read-gate-spec : {M : Type 1} → statement M
 read-gate-spec =
     tie.close
     (tie.spec
-    read-entry-requires
+    read-field-requires
     enum-known-kind
     enum-told
     returns
+    read-field-requires-2
+    enum-known-a
+    enum-told-2
     returns-2
+    read-field-requires-3
+    enum-known-b
+    enum-told-3
     returns-3
-    unary-lines-ok-requires
     returns-4
+    returns-5
+    unary-lines-ok-requires
+    returns-6
     cast-gate-of
     cast-gate-of-2
     gate-of-requires
-    returns-5)
+    returns-7)
