@@ -1,6 +1,5 @@
 -- `spectra::undo` meets its contract: each way out is one of undoing.
 use native.Mathlib.Omega.{arith}
-use borrow.Author.Needs.{needs}
 use denote.Ref.{now}
 use lib.ListN.{length-take}
 use Rattle.job.specs.Layout.{maxInputs}
@@ -51,10 +50,10 @@ unfolding maxInputs
 undo-in-requires c κs = let m = entries-most (c .before .before .before .before .before .places .ensures) (c .before .before .before .before .before .before .if2 .left) in (c .before .before .before .before .before .before .before .if1 .left, lent-of (c .before .before .before .before .before .places .ensures) (c .before .before .before .before .before .before .if2 .left) (c .before .before .before .before .if3 .left) (c .before .before .before .if4 .left) (simp length-take (omega arith)) (simp length-take (omega arith)))
 
 same-length : tie.Need-same-length
-same-length c = search needs
+same-length c = c .before .before .before .before .undo-in .kept .1 .1 .1 .1 .1 .1 .0
 
 returns-5 : tie.Need-returns-5
-returns-5 c = search needs
+returns-5 c = c .before .before .before .before .undo-in .ensures
 
 pub undo-spec : {M : Type 1} → statement M
 undo-spec =
