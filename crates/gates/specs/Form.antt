@@ -1,7 +1,7 @@
 -- The gate step over packed bytes: a gate's answers as a polynomial over xor and and.
 --
 --   tableBytes    the bytes of a table of n inputs
---   placesOf      the entries of a table of n inputs, as many as a word holds
+--   placesOf      the entries of a table of n inputs, if a word holds their number
 --   tableBytesOf  the bytes of a packed table of so many entries
 --   keepOf        the bits of each of its bytes that are entries
 --   step          eight answers, for two bytes of eight entries each
@@ -26,7 +26,7 @@ tableBytes n = (2 ^ n + 7) / 8
 unfoldable pub placesOf : ℕ → ℕ
 placesOf n = cond (ltb n 64) (2 ^ n) 0
 
--- 0 where there are no entries
+-- as above, for so many entries: 0 where there are none
 abbrev pub tableBytesOf : ℕ → ℕ
 tableBytesOf n = (placesOf n + 7) / 8
 

@@ -47,7 +47,7 @@ pub fn form_of(gate: Gate, keep: u8) -> Form
     }
 }
 
-// The bits of a word, each by its own shift: a shift by so many or more is none.
+// The bits of a word: a shift must be by fewer.
 const WORD_BITS: usize = 64;
 
 // The entries of a table of n inputs, which are as many as its coefficients; 0 where no word holds their number.

@@ -4,7 +4,6 @@ use Prim.Native.Nat.{_-_}
 use lib.ListN.{length}
 use denote.Ref.{now}
 use borrow.Author.Count.{falls}
-use borrow.Author.Needs.{needs}
 use Rattle.gates.proofs.Sized.{places-exact, fifteen-few}
 use Rattle.locating.proofs.Indexed.{Indexing, indexing-none, indexing-stop, indexing-next, indexing-all}
 use Rattle.locating.proofs.indices_ok.Statement.{statement}

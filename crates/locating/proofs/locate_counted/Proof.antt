@@ -6,7 +6,6 @@ use denote.Ref.{now}
 use Rattle.job.specs.Layout.{maxInputs, maxFaults}
 use Rattle.gates.proofs.Sized.{table-bytes-exact, inputs-few}
 use Rattle.locating.proofs.Handed.{rows-end, rows-length, rows-taken}
-use borrow.Author.Needs.{needs}
 use Rattle.locating.proofs.locate_counted.Statement.{statement}
 use Rattle.locating.proofs.locate_counted.Tie as tie
 
@@ -28,7 +27,7 @@ unfolding maxInputs
 locate-rows-requires c κs = omega (arith, c .before .before .before .before .before .before .before .before .pre .few)
 
 same-length : tie.Need-same-length
-same-length c = search needs
+same-length c = c .before .before .locate-rows .kept .1 .1 .1 .1 .1 .1 .1 .0
 
 returns : tie.Need-returns
 returns c = let a = c .before .before .before .before .before .before .before .before .before .before .before .args in c .before .before .locate-rows .ensures ∙ rows-taken (a .counts .inputs) (a .counts .faults + 1) (now (a .packed)) (a .kind) (a .polarity) (now (a .indices)) (now (a .readings)) (now (a .work)) (table-bytes-exact (inputs-few (c .before .before .before .before .before .before .before .before .before .before .before .pre .few)) (c .before .before .before .before .before .table-bytes .ensures))

@@ -1,7 +1,6 @@
 -- `spectra::transform` meets its contract. Its measure is the number of inputs. The halves come back one after the other, and combined they are the spectrum.
 use Prim.Native.Nat.{ℕ, _-_, _/_, _<_}
 use native.Mathlib.Nat.{le-refl, pos-of-ne-zero}
-use native.Mathlib.Omega.{arith}
 use mathlib.Core.Path.{sym, _∙_}
 use denote.Ref.{now}
 use lib.Dec.{lit≤}
