@@ -1,6 +1,5 @@
 -- Laws of a table's shape (specs/Form.antt).
 --
---   size-fits         a table's size fits, with what rounding adds
 --   at-least-three    a number that is not 0, 1 or 2
 --   keep-rest         from three inputs on the mask has every bit
 --   keep-lt           the mask is a byte
@@ -16,15 +15,9 @@ use mathlib.Core.Logic.{⊎-elim}
 use borrow.Author.Tests.{lt-ltb}
 use lib.Dec.{ltb, eqb, ltb→lt, eqb→eq}
 use lib.ListN.{List·getD-eq-default}
-use lib.Pow.{pow-mono, pow-add}
-use mir.Syntax.{w64}
-use mir.Val.{Fits}
+use lib.Pow.{pow-add}
 use Rattle.bits.proofs.Below.{lt-or-ge, allBelow, all-below, equal-below}
-use Rattle.bits.proofs.Fields.{shift-exact}
 use Rattle.gates.specs.Form.{tableBytes, keepOf}
-
-pub size-fits : (n : ℕ) → n < 64 → Fits w64 (1 * 2 ^ n % 2 ^ 64 + 7)
-size-fits n h = rw shift-exact (omega (arith, pow-mono {i = n} {j = 63} (omega arith)))
 
 pub at-least-three : {n : ℕ} → (n ≡ 0 → ⊥) → (n ≡ 1 → ⊥) → (n ≡ 2 → ⊥) → 3 ≤ n
 at-least-three h0 h1 h2 = omega arith

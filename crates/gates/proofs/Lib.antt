@@ -3,5 +3,6 @@ pub mod Fitting
 pub mod Kept
 pub mod Polynomial
 pub mod Rows
+pub mod Sized
 pub mod Splice
 pub mod Tabled

@@ -1,6 +1,8 @@
 -- The gate step over packed bytes: a gate's answers as a polynomial over xor and and.
 --
 --   tableBytes    the bytes of a table of n inputs
+--   placesOf      the entries of a table of n inputs, if a word holds their number
+--   tableBytesOf  the bytes of a packed table of so many entries
 --   keepOf        the bits of each of its bytes that are entries
 --   step          eight answers, for two bytes of eight entries each
 --   combined      byte i of a table of answers, for the tables at two places
@@ -8,7 +10,9 @@
 --   kindForm      the polynomial of a kind of gate
 --   alternating   byte i of the table of an input from the fourth on: eight copies of a bit of i
 use Prim.Native.Nat.{ℕ, _+_, _*_, _/_, _%_, _^_}
+use mathlib.Core.Bool.{cond}
 use mathlib.Core.List.{List, [], _∷_}
+use lib.Dec.{ltb}
 use lib.ListN.{getD}
 use lib.Bits.{bitAnd, bitXor}
 use Rattle.gates.specs.Answers.{answers}
@@ -17,6 +21,14 @@ use Rattle.gates.specs.declared.Form.{Form}
 -- "(N+7) div 8 bytes", with N = 2 to the power n
 abbrev pub tableBytes : ℕ → ℕ
 tableBytes n = (2 ^ n + 7) / 8
+
+-- 2 to the power n where a word of 64 bits holds it, else 0
+unfoldable pub placesOf : ℕ → ℕ
+placesOf n = cond (ltb n 64) (2 ^ n) 0
+
+-- as above, for so many entries: 0 where there are none
+abbrev pub tableBytesOf : ℕ → ℕ
+tableBytesOf n = (placesOf n + 7) / 8
 
 -- the bits of a table's bytes that are no spare bits: one, two and four of n 0, 1 and 2, else all
 abbrev pub keepOf : ℕ → ℕ

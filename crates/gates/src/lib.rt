@@ -2,11 +2,11 @@
 // should, and else does nothing.
 ghost use mathlib.Core.Path.{_≡_};
 ghost use mathlib.Core.Bool.{cond};
-ghost use Prim.Native.Nat.{_+_, _^_, _≤_, _<_};
+ghost use Prim.Native.Nat.{_+_, _≤_, _<_};
 ghost use lib.ListN.{length};
 ghost use Rattle.bits.specs.Packed.{tabulate};
 ghost use Rattle.job.specs.Record.{gateKind};
-ghost use Rattle.gates.specs.Form.{alternating, combined, kindForm, tableBytes};
+ghost use Rattle.gates.specs.Form.{alternating, combined, kindForm, placesOf, tableBytesOf};
 ghost use Rattle.gates.specs.Rows.{splice, hasRoom, stepFits, alternateFits};
 use job::Gate;
 
@@ -47,18 +47,22 @@ pub fn form_of(gate: Gate, keep: u8) -> Form
     }
 }
 
-// The entries of a table of n inputs, which are as many as its coefficients.
+// The bits of a word: a shift must be by fewer.
+const WORD_BITS: usize = 64;
+
+// The entries of a table of n inputs, which are as many as its coefficients; 0 where no word holds their number.
 pub fn places(n: usize) -> usize
-    requires { ⌜ n < 64 ⌝ }
-    ensures { λ r. ⌜ r ≡ 2 ^ n ⌝ }
+    ensures { λ r. ⌜ r ≡ placesOf n ⌝ }
 {
+    if WORD_BITS <= n {
+        return 0;
+    }
     1 << n
 }
 
-// The bytes of a packed table of n inputs.
+// The bytes of a packed table of n inputs; 0 where no word holds the number of its entries.
 pub fn table_bytes(n: usize) -> usize
-    requires { ⌜ n < 64 ⌝ }
-    ensures { λ r. ⌜ r ≡ tableBytes n ⌝ }
+    ensures { λ r. ⌜ r ≡ tableBytesOf n ⌝ }
 {
     (places(n) + 7) / 8
 }
@@ -134,7 +138,7 @@ pub fn alternate(rows: &mut [u8], to: usize, count: usize, bit: usize)
     if !has_room(rows.len(), to, count) {
         return;
     }
-    if 64 <= bit {
+    if WORD_BITS <= bit {
         return;
     }
     alternate_bytes(rows, to, count, bit);

@@ -19,7 +19,8 @@ use Rattle.job.specs.Layout.{maxInputs, maxFaults}
 use Rattle.job.specs.declared.Job.{Job}
 use Rattle.reading.specs.Reading.{reading}
 use Rattle.reading.proofs.Valid.{reading-valid}
-use Rattle.gates.specs.Form.{tableBytes}
+use Rattle.gates.specs.Form.{tableBytes, tableBytesOf}
+use Rattle.gates.proofs.Sized.{table-bytes-exact, inputs-few}
 use Rattle.tables.specs.Operations.{tablesOf, tablesTold, countsOf}
 use Rattle.tables.specs.declared.Counts.{Counts}
 use Rattle.tables.specs.declared.TablesAnswer.{TablesAnswer}
@@ -54,9 +55,9 @@ tables-listed {room} s out after r counts size promise e =
     subst (λ (x : Counts). Listed x room) (gave .2)
     (subst (Listed (gave .0 .value)) size (tables-gave s (length out) (gave .0) (gave .1)))
 
-pub all-inside : {counts : Counts} {bytes size room : ℕ} → Listed counts room → bytes ≡ tableBytes (counts .inputs) → size ≡ room
+pub all-inside : {counts : Counts} {bytes size room : ℕ} → Listed counts room → bytes ≡ tableBytesOf (counts .inputs) → size ≡ room
     → (counts .faults + 1) * bytes ≤ size
-all-inside l e h = rw (e, h) (l .fits)
+all-inside l e h = rw (table-bytes-exact (inputs-few (l .few)) e, h) (l .fits)
 
 pub table-inside : (c circuits bytes room : ℕ) → c < circuits → circuits * bytes ≤ room → c * bytes + bytes ≤ room
 table-inside c circuits bytes room h fits =

@@ -6,11 +6,11 @@
 --   row-part            a row as it is lent
 --   row-whole           the one row of a table is the table
 --   one-row             the spectra of one row are the spectrum of the table
---   Filling             the spectra of the rows below r are put
+--   Filling             the spectra of the rows below r are put, and the sizes are those of a spectrum and of a table
 --   filling-start       nothing is put yet
 --   filling-length      the memory is as long as before
 --   filling-room        there is room for one spectrum more
---   filling-place       the same of a size that equals 2 ^ n
+--   filling-place       the same in the size that the code has
 --   filling-part        the part of the memory that is lent has 2 ^ n places
 --   row-ready           the row that is lent has the entries of a table
 --   size-fits           the entries of a table fit a usize
@@ -78,16 +78,19 @@ one-row kind n k s start bytes places e =
     ∙ ap₂ _++_ (ap (λ (l : List ℕ). spectrum kind n k (entry l)) (row-whole n s bytes)) (drop-of-length-le start {i = 1 * 2 ^ n} (omega arith))
     ∙ append-nil (spectrum kind n k (entry s))
 
-pub record Filling (kind : Kind) (n k : ℕ) (s start : List ℕ) (rows : ℕ) (work : List ℕ) (r : ℕ) : Type 0 where
+pub record Filling (kind : Kind) (n k : ℕ) (s start : List ℕ) (rows size bytes : ℕ) (work : List ℕ) (r : ℕ) : Type 0 where
+  pub sized : size ≡ 2 ^ n
+  pub wide : bytes ≡ tableBytes n
   pub room : rows * 2 ^ n ≤ length start
   pub within : r ≤ rows
   pub done : work ≡ rowSpectra kind n k s r ++ drop (r * 2 ^ n) start
 
-pub filling-start : (kind : Kind) (n k : ℕ) (s start : List ℕ) (rows : ℕ) → rows * 2 ^ n ≤ length start → Filling kind n k s start rows start 0
+pub filling-start : (kind : Kind) (n k : ℕ) (s start : List ℕ) (rows : ℕ) {size bytes : ℕ} → size ≡ 2 ^ n → bytes ≡ tableBytes n → rows * 2 ^ n ≤ length start
+    → Filling kind n k s start rows size bytes start 0
 unfolding rowSpectra
-filling-start kind n k s start rows h = record { room = h; within = omega arith; done = ap (λ (x : ℕ). drop x start) (sym (zero-mul (2 ^ n))) }
+filling-start kind n k s start rows e d h = record { sized = e; wide = d; room = h; within = omega arith; done = ap (λ (x : ℕ). drop x start) (sym (zero-mul (2 ^ n))) }
 
-module _ {kind : Kind} {n k : ℕ} {s start : List ℕ} {rows : ℕ} {work : List ℕ} {r : ℕ} (f : Filling kind n k s start rows work r) where
+module _ {kind : Kind} {n k : ℕ} {s start : List ℕ} {rows size bytes : ℕ} {work : List ℕ} {r : ℕ} (f : Filling kind n k s start rows size bytes work r) where
   fits : r * 2 ^ n ≤ length start
   fits = le-trans (mul-le-mul-right (2 ^ n) (f .within)) (f .room)
 
@@ -100,8 +103,8 @@ module _ {kind : Kind} {n k : ℕ} {s start : List ℕ} {rows : ℕ} {work : Lis
   pub filling-room : r < rows → r * 2 ^ n + 2 ^ n ≤ length work
   filling-room h = rw filling-length (row-within r rows (2 ^ n) (length start) h (f .room))
 
-  pub filling-place : {size : ℕ} → size ≡ 2 ^ n → r < rows → r * size + size ≤ length start
-  filling-place e h = row-place e h (f .room)
+  pub filling-place : r < rows → r * size + size ≤ length start
+  filling-place h = row-place (f .sized) h (f .room)
 
   more : (new : List ℕ) → length new ≡ 2 ^ n
       → take (r * 2 ^ n) work ++ (new ++ drop (r * 2 ^ n + 2 ^ n) work) ≡ (rowSpectra kind n k s r ++ new) ++ drop (suc r * 2 ^ n) start
@@ -117,13 +120,15 @@ module _ {kind : Kind} {n k : ℕ} {s start : List ℕ} {rows : ℕ} {work : Lis
       ∙ sym (append-assoc (rowSpectra kind n k s r) new (drop (suc r * 2 ^ n) start))
 
   pub filling-next : (new after : List ℕ) → r < rows → k < 2 ^ n → new ≡ spectrum kind n k (entriesFrom (tableRow n s r) 0)
-      → after ≡ take (r * 2 ^ n) work ++ (new ++ drop (r * 2 ^ n + 2 ^ n) work) → Filling kind n k s start rows after (r + 1)
+      → after ≡ take (r * 2 ^ n) work ++ (new ++ drop (r * 2 ^ n + 2 ^ n) work) → Filling kind n k s start rows size bytes after (r + 1)
   unfolding rowSpectra
   filling-next new after h hk e p =
       let q : new ≡ spectrum kind n k (entry (tableRow n s r)) =
       e ∙ spectrum-ext kind n k (entriesFrom (tableRow n s r) 0) (entry (tableRow n s r)) hk (λ m l. ap (entry (tableRow n s r)) (zero-add m)) in
       let l : length new ≡ 2 ^ n = ap length q ∙ length-spectrum kind n k (entry (tableRow n s r)) in
       record {
+        sized = f .sized;
+        wide = f .wide;
         room = f .room;
         within = omega arith;
         done =
@@ -132,18 +137,18 @@ module _ {kind : Kind} {n k : ℕ} {s start : List ℕ} {rows : ℕ} {work : Lis
             ∙ ap (λ (x : ℕ). rowSpectra kind n k s x ++ drop (x * 2 ^ n) start) (sym (add-one r));
       }
 
-  pub filling-part : {size : ℕ} → size ≡ 2 ^ n → r < rows → length (take (r * size + size - r * size) (drop (r * size) work)) ≡ 2 ^ n
-  filling-part {size} e h = length-part (r * size) size work (rw filling-length (filling-place e h)) ∙ e
+  pub filling-part : r < rows → length (take (r * size + size - r * size) (drop (r * size) work)) ≡ 2 ^ n
+  filling-part h = length-part (r * size) size work (rw filling-length (filling-place h)) ∙ f .sized
 
-  pub filling-lent : {size bytes : ℕ} (new : List ℕ) → size ≡ 2 ^ n → bytes ≡ tableBytes n → r < rows → k < 2 ^ n
+  pub filling-lent : (new : List ℕ) → r < rows → k < 2 ^ n
       → new ≡ spectrum kind n k (entriesFrom (take (r * bytes + bytes - r * bytes) (drop (r * bytes) s)) 0)
-      → Filling kind n k s start rows (take (r * size) work ++ (new ++ drop (r * size + size - r * size) (drop (r * size) work))) (r + 1)
-  filling-lent {size} {bytes} new e d h hk q =
+      → Filling kind n k s start rows size bytes (take (r * size) work ++ (new ++ drop (r * size + size - r * size) (drop (r * size) work))) (r + 1)
+  filling-lent new h hk q =
       filling-next new (take (r * size) work ++ (new ++ drop (r * size + size - r * size) (drop (r * size) work))) h hk
-      (q ∙ ap (λ (x : List ℕ). spectrum kind n k (entriesFrom x 0)) (row-part n s r d))
+      (q ∙ ap (λ (x : List ℕ). spectrum kind n k (entriesFrom x 0)) (row-part n s r (f .wide)))
       (ap (λ (x : ℕ). take (r * size) work ++ (new ++ drop x (drop (r * size) work))) (cut (r * size) size)
       ∙ ap (λ (x : List ℕ). take (r * size) work ++ (new ++ x)) (drop-drop size (r * size) work)
-      ∙ ap (λ (x : ℕ). take (r * x) work ++ (new ++ drop (r * x + x) work)) e)
+      ∙ ap (λ (x : ℕ). take (r * x) work ++ (new ++ drop (r * x + x) work)) (f .sized))
 
   pub filling-end : rows ≤ r → work ≡ rowSpectra kind n k s rows ++ drop (rows * 2 ^ n) start
   filling-end h = f .done ∙ ap (λ (x : ℕ). rowSpectra kind n k s x ++ drop (x * 2 ^ n) start) (le-antisymm (f .within) h)

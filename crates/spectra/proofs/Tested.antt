@@ -10,6 +10,7 @@
 --   Testing          the bytes are as many as the rows have, and the rows below r are tables
 --   testing-start    no row is tested yet
 --   testing-room     the rows lie within the bytes
+--   testing-place    and row r does
 --   testing-next     one row more is a table
 --   testing-stop     a row is none
 --   testing-end      all are
@@ -33,7 +34,7 @@ use Rattle.bits.proofs.Tests.{and-l, and-i}
 use Rattle.gates.specs.Form.{tableBytes}
 use Rattle.spectra.specs.Filling.{rowsFit}
 use Rattle.spectra.specs.Operations.{zeroFrom, tableOk, tableRow, rowsOk}
-use Rattle.spectra.proofs.Filling.{row-part}
+use Rattle.spectra.proofs.Filling.{row-place, row-part}
 
 -- ---- one table
 
@@ -101,15 +102,17 @@ pub rows-other : (n : ℕ) {bytes : ℕ} (s : List ℕ) (rows : ℕ) → bytes �
 rows-other n s rows e h =
     wrong-length n s rows (λ p. h (ap₂ _/_ p e ∙ mul-div-cancel rows (bytes-pos n)))
 
-pub record Testing (n : ℕ) (s : List ℕ) (rows r : ℕ) : Type 0 where
+pub record Testing (n : ℕ) (s : List ℕ) (rows bytes r : ℕ) : Type 0 where
+  pub wide : bytes ≡ tableBytes n
   pub size : length s ≡ rows * tableBytes n
   pub within : r ≤ rows
   pub ok : rowsOk n s r ≡ true
 
-pub testing-start : {n bytes rows : ℕ} (s : List ℕ) → bytes ≡ tableBytes n → length s % bytes ≡ 0 → length s / bytes ≡ rows → Testing n s rows 0
+pub testing-start : {n bytes rows : ℕ} (s : List ℕ) → bytes ≡ tableBytes n → length s % bytes ≡ 0 → length s / bytes ≡ rows → Testing n s rows bytes 0
 unfolding rowsOk
 testing-start {n} {bytes} {rows} s e p q =
     record {
+      wide = e;
       size = sym (div-add-mod' (length s) bytes) ∙ ap₂ (λ (x y : ℕ). x * bytes + y) q p ∙ add-zero (rows * bytes) ∙ ap (λ (x : ℕ). rows * x) e;
       within = omega arith;
       ok = refl;
@@ -128,27 +131,31 @@ fails n s r (suc rows) h e =
     last true p = p
     last false p = refl
 
-module _ {n : ℕ} {s : List ℕ} {rows r : ℕ} (g : Testing n s rows r) where
+module _ {n : ℕ} {s : List ℕ} {rows bytes r : ℕ} (g : Testing n s rows bytes r) where
   pub testing-room : rows * tableBytes n ≤ length s
   testing-room = le-of-eq (sym (g .size))
 
-  pub testing-stop : {bytes : ℕ} (t : Bool) → bytes ≡ tableBytes n → r < rows
+  pub testing-place : r < rows → r * bytes + bytes ≤ length s
+  testing-place h = row-place (g .wide) h testing-room
+
+  pub testing-stop : (t : Bool) → r < rows
       → t ≡ tableOk n (take (r * bytes + bytes - r * bytes) (drop (r * bytes) s)) → not t ≡ true → false ≡ rowsFit n s rows
   unfolding rowsFit
-  testing-stop {bytes} t e h p q =
+  testing-stop t h p q =
       sym (ap₂ _&&_ (eq-eqb (length s) (rows * tableBytes n) (g .size))
-      (fails n s r rows h (sym (ap (tableOk n) (row-part n s r e)) ∙ sym p ∙ not-true t q)))
+      (fails n s r rows h (sym (ap (tableOk n) (row-part n s r (g .wide))) ∙ sym p ∙ not-true t q)))
 
-  pub testing-next : {bytes : ℕ} (t : Bool) → bytes ≡ tableBytes n → r < rows
-      → t ≡ tableOk n (take (r * bytes + bytes - r * bytes) (drop (r * bytes) s)) → not t ≡ false → Testing n s rows (r + 1)
+  pub testing-next : (t : Bool) → r < rows
+      → t ≡ tableOk n (take (r * bytes + bytes - r * bytes) (drop (r * bytes) s)) → not t ≡ false → Testing n s rows bytes (r + 1)
   unfolding rowsOk
-  testing-next {bytes} t e h p q =
+  testing-next t h p q =
       record {
+        wide = g .wide;
         size = g .size;
         within = omega arith;
         ok =
             ap (rowsOk n s) (add-one r)
-            ∙ and-i (g .ok) (sym (ap (tableOk n) (row-part n s r e)) ∙ sym p ∙ not-false t q);
+            ∙ and-i (g .ok) (sym (ap (tableOk n) (row-part n s r (g .wide))) ∙ sym p ∙ not-false t q);
       }
 
   pub testing-end : rows ≤ r → true ≡ rowsFit n s rows

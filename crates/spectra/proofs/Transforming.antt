@@ -36,6 +36,8 @@ use mir.Val.{Fits}
 use Rattle.bits.specs.Packed.{entry}
 use Rattle.bits.proofs.Below.{lt-or-ge}
 use Rattle.bits.proofs.Packed.{entry-lt}
+use Rattle.gates.specs.Form.{placesOf}
+use Rattle.gates.proofs.Sized.{places-exact}
 use Rattle.spectra.specs.Lanes.{nibbleWords, LeafAsks, Ready}
 use Rattle.spectra.specs.Spectrum.{spectrum}
 use Rattle.spectra.specs.Transform.{entriesFrom, Most, combined}
@@ -68,12 +70,13 @@ doubled n h some e =
     let s : n ≡ suc (n - 1) = omega arith in
     ap (λ (x : ℕ). 2 ^ x) s ∙ pow-double (n - 1) ∙ ap₂ _+_ (sym e) (sym e)
 
-pub parted : (out words : List ℕ) (len at n k : ℕ) {h : ℕ} → Asks (length out) words len at n k → (n ≡ 0 → ⊥) → h ≡ 2 ^ (n - 1)
+pub parted : (out words : List ℕ) (len at n k : ℕ) {h : ℕ} → Asks (length out) words len at n k → (n ≡ 0 → ⊥) → h ≡ placesOf (n - 1)
     → Parted out words len at n k h
-parted out words len at n k {h} asks ne e =
+parted out words len at n k {h} asks ne told =
     let some : 1 ≤ n = omega arith in
-    let d : 2 ^ n ≡ h + h = doubled n h some e in
     let few : n - 1 ≤ 14 = omega (arith, asks .0) in
+    let e : h ≡ 2 ^ (n - 1) = places-exact (omega arith) told in
+    let d : 2 ^ n ≡ h + h = doubled n h some e in
     let most : 2 ^ (n - 1) ≤ 2 ^ 14 = pow-mono {i = n - 1} {j = 14} few in
     let least : 0 < 2 ^ (n - 1) = pow-pos (n - 1) in
     record {

@@ -37,8 +37,9 @@ use Rattle.bits.proofs.Tests.{and-i}
 use Rattle.job.specs.Check.{inputsOk}
 use Rattle.job.proofs.Sizes.{most-inputs}
 use Rattle.job.specs.Layout.{maxInputs}
-use Rattle.gates.specs.Form.{tableBytes}
+use Rattle.gates.specs.Form.{tableBytes, placesOf}
 use Rattle.gates.specs.Rows.{splice}
+use Rattle.gates.proofs.Sized.{places-exact, inputs-few}
 use Rattle.tables.proofs.Answering.{kept, put}
 use Rattle.spectra.specs.Filling.{rowsFilled}
 use Rattle.spectra.specs.Operations.{at, sameNumbers, isSpectrum, undoneOf}
@@ -186,12 +187,13 @@ unfolding isSpectrum
 no-spectrum kind n k numbers d =
     same-lengths numbers (spectrum kind n k (recovered n k (at numbers))) (λ e. d (e ∙ length-spectrum kind n k (recovered n k (at numbers))))
 
-pub entries-most : {n size : ℕ} → size ≡ 2 ^ n → n ≤ maxInputs → size ≤ 2 ^ maxInputs
-entries-most e h = rw e (pow-mono h)
+pub entries-most : {n size : ℕ} → size ≡ placesOf n → n ≤ maxInputs → size ≤ 2 ^ maxInputs
+entries-most told h = rw (places-exact (inputs-few h) told) (pow-mono h)
 
-pub lent-of : {n k size : ℕ} {numbers table sums : List ℕ} → size ≡ 2 ^ n → n ≤ maxInputs → k < size → length numbers ≡ size
+pub lent-of : {n k size : ℕ} {numbers table sums : List ℕ} → size ≡ placesOf n → n ≤ maxInputs → k < size → length numbers ≡ size
     → length table ≡ (size + 7) / 8 → length sums ≡ size → Lent n k numbers table sums
-lent-of e few polarity count bytes places =
+lent-of told few polarity count bytes places =
+    let e = places-exact (inputs-few few) told in
     record { few = few; polarity = rw e at polarity; count = count ∙ e; bytes = bytes ∙ ap (λ (x : ℕ). (x + 7) / 8) e; places = places ∙ e }
 
 module _ (n : ℕ) (numbers : List ℕ) (kind : Kind) (k : ℕ) (out : List ℕ) where
@@ -212,16 +214,16 @@ module _ (n : ℕ) (numbers : List ℕ) (kind : Kind) (k : ℕ) (out : List ℕ)
       inputs : inputsOk n ≡ true
       inputs = and-i (le-leb 1 n low) (le-leb n maxInputs high)
 
-      pub undo-polarity : {size : ℕ} → size ≡ 2 ^ n → size ≤ k → Refuses 13
+      pub undo-polarity : {size : ℕ} → size ≡ placesOf n → size ≤ k → Refuses 13
       unfolding undoneOf
-      undo-polarity e h = kept (undoneOf n numbers kind k (length out)) 13 out (simp (inputs, le-ltb k (2 ^ n) (rw e at h)))
+      undo-polarity told h = kept (undoneOf n numbers kind k (length out)) 13 out (simp (inputs, le-ltb k (2 ^ n) (rw (places-exact (inputs-few high) told) at h)))
 
       pub undo-none : k < 2 ^ n → false ≡ isSpectrum kind n k numbers → Refuses 14
       unfolding undoneOf
       undo-none h e = kept (undoneOf n numbers kind k (length out)) 14 out (simp (inputs, lt-ltb k (2 ^ n) h, sym e))
 
-      pub undo-count : {size : ℕ} → size ≡ 2 ^ n → k < size → (length numbers ≡ size → ⊥) → Refuses 14
-      undo-count e h d = undo-none (rw e at h) (no-spectrum kind n k numbers (λ q. d (q ∙ sym e)))
+      pub undo-count : {size : ℕ} → size ≡ placesOf n → k < size → (length numbers ≡ size → ⊥) → Refuses 14
+      undo-count told h d = let e = places-exact (inputs-few high) told in undo-none (rw e at h) (no-spectrum kind n k numbers (λ q. d (q ∙ sym e)))
 
       module _ (h : k < 2 ^ n) (e : true ≡ isSpectrum kind n k numbers) {table : List ℕ} (t : table ≡ packed (2 ^ n) (recovered n k (at numbers))) where
         length-undone : length table ≡ tableBytes n

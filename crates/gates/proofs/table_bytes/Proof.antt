@@ -1,19 +1,18 @@
 -- `gates::table_bytes` meets its contract.
-use native.Mathlib.Omega.{arith}
-use Prim.Native.Nat.{_^_, _≤_}
-use lib.Pow.{pow-mono}
-use borrow.Author.Needs.{needs}
+use Prim.Native.Nat.{ℕ, _+_, _/_}
+use mathlib.Core.Path.{ap}
+use Rattle.gates.proofs.Sized.{places-fit}
 use Rattle.gates.proofs.table_bytes.Statement.{statement}
 use Rattle.gates.proofs.table_bytes.Tie as tie
 
 places-requires : tie.Need-places-requires
-places-requires c κs = search needs
+places-requires c κs = tt
 
 add-result : tie.Need-add-result
-add-result c = let p : 2 ^ (c .before .args .n) ≤ 2 ^ 63 = pow-mono {j = 63} (omega arith) in omega (arith, c .places .ensures)
+add-result c = places-fit (c .before .args .n) (c .places .ensures)
 
 returns : tie.Need-returns
-returns c = search needs
+returns c = ap (λ (x : ℕ). (x + 7) / 8) (c .places .ensures)
 
 pub table-bytes-spec : {M : Type 1} → statement M
 table-bytes-spec = tie.close (tie.spec places-requires add-result returns)

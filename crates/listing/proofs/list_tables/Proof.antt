@@ -3,7 +3,7 @@ use Prim.Native.Nat.{ℕ}
 use native.Mathlib.Omega.{arith}
 use denote.Ref.{now}
 use lib.ListN.{replicate, length-replicate}
-use Rattle.job.specs.Layout.{maxInputs, maxFaults}
+use Rattle.job.specs.Layout.{maxFaults}
 use Rattle.listing.proofs.Room.{tables-listed, all-inside}
 use borrow.Author.Needs.{needs}
 use Rattle.listing.proofs.list_tables.Statement.{statement}
@@ -29,8 +29,7 @@ unfolding maxFaults
 add-list-circuits c = omega (arith, (tables-listed (now (c .before .before .before .before .before .before .before .before .before .before .args .job)) (replicate 2048 0) _ (c .before .before .before .before .before .before .before .tables .result) (c .before .before .before .before .answer .given .0 .0) (length-replicate {A = ℕ} 2048 0) (c .before .before .before .before .before .before .before .tables .ensures) (c .before .before .before .before .answer .given .1)) .faults-few)
 
 table-bytes-requires : tie.Need-table-bytes-requires
-unfolding maxInputs
-table-bytes-requires c κs = omega (arith, (tables-listed (now (c .before .before .before .before .before .before .before .before .before .before .args .job)) (replicate 2048 0) _ (c .before .before .before .before .before .before .before .tables .result) (c .before .before .before .before .answer .given .0 .0) (length-replicate {A = ℕ} 2048 0) (c .before .before .before .before .before .before .before .tables .ensures) (c .before .before .before .before .answer .given .1)) .few)
+table-bytes-requires c κs = tt
 
 list-circuits-requires : tie.Need-list-circuits-requires
 list-circuits-requires c κs = all-inside (tables-listed (now (c .before .before .before .before .before .before .before .before .before .before .before .args .job)) (replicate 2048 0) _ (c .before .before .before .before .before .before .before .before .tables .result) (c .before .before .before .before .before .answer .given .0 .0) (length-replicate {A = ℕ} 2048 0) (c .before .before .before .before .before .before .before .before .tables .ensures) (c .before .before .before .before .before .answer .given .1)) (c .table-bytes .ensures) (c .before .before .before .before .before .before .before .packed2 .given)

@@ -4,8 +4,8 @@ use Prim.Native.Nat.{_+_}
 use mathlib.Core.Path.{_∙_}
 use denote.Ref.{now}
 use Rattle.job.specs.Layout.{maxInputs, maxFaults}
+use Rattle.gates.proofs.Sized.{table-bytes-exact, inputs-few}
 use Rattle.locating.proofs.Handed.{rows-end, rows-length, rows-taken}
-use borrow.Author.Needs.{needs}
 use Rattle.locating.proofs.locate_counted.Statement.{statement}
 use Rattle.locating.proofs.locate_counted.Tie as tie
 
@@ -14,24 +14,23 @@ unfolding maxFaults
 add-rows c = omega (arith, c .before .before .before .before .before .pre .faults-few)
 
 table-bytes-requires : tie.Need-table-bytes-requires
-unfolding maxInputs
-table-bytes-requires c κs = omega (arith, c .before .before .before .before .before .pre .few)
+table-bytes-requires c κs = tt
 
 mul-end : tie.Need-mul-end
-mul-end c = omega (arith, rows-end (c .before .before .before .before .before .before .args .counts .inputs) (c .before .before .before .before .before .before .args .counts .faults + 1) (c .table-bytes .ensures) (c .before .before .before .before .before .before .pre .fits))
+mul-end c = omega (arith, rows-end (c .before .before .before .before .before .before .args .counts .inputs) (c .before .before .before .before .before .before .args .counts .faults + 1) (table-bytes-exact (inputs-few (c .before .before .before .before .before .before .pre .few)) (c .table-bytes .ensures)) (c .before .before .before .before .before .before .pre .fits))
 
 slice-aggregate-locate-rows : tie.Need-slice-aggregate-locate-rows
-slice-aggregate-locate-rows c = let a = c .before .before .before .before .before .before .before .args in rows-length (a .counts .inputs) (a .counts .faults + 1) (now (a .packed)) (c .before .table-bytes .ensures) (c .before .before .before .before .before .before .before .pre .fits)
+slice-aggregate-locate-rows c = let a = c .before .before .before .before .before .before .before .args in rows-length (a .counts .inputs) (a .counts .faults + 1) (now (a .packed)) (table-bytes-exact (inputs-few (c .before .before .before .before .before .before .before .pre .few)) (c .before .table-bytes .ensures)) (c .before .before .before .before .before .before .before .pre .fits)
 
 locate-rows-requires : tie.Need-locate-rows-requires
 unfolding maxInputs
 locate-rows-requires c κs = omega (arith, c .before .before .before .before .before .before .before .before .pre .few)
 
 same-length : tie.Need-same-length
-same-length c = search needs
+same-length c = c .before .before .locate-rows .kept .1 .1 .1 .1 .1 .1 .1 .0
 
 returns : tie.Need-returns
-returns c = let a = c .before .before .before .before .before .before .before .before .before .before .before .args in c .before .before .locate-rows .ensures ∙ rows-taken (a .counts .inputs) (a .counts .faults + 1) (now (a .packed)) (a .kind) (a .polarity) (now (a .indices)) (now (a .readings)) (now (a .work)) (c .before .before .before .before .before .table-bytes .ensures)
+returns c = let a = c .before .before .before .before .before .before .before .before .before .before .before .args in c .before .before .locate-rows .ensures ∙ rows-taken (a .counts .inputs) (a .counts .faults + 1) (now (a .packed)) (a .kind) (a .polarity) (now (a .indices)) (now (a .readings)) (now (a .work)) (table-bytes-exact (inputs-few (c .before .before .before .before .before .before .before .before .before .before .before .pre .few)) (c .before .before .before .before .before .table-bytes .ensures))
 
 pub locate-counted-spec : {M : Type 1} → statement M
 locate-counted-spec =

@@ -4,7 +4,7 @@ use Prim.Native.Nat.{_-_}
 use mathlib.Core.Path.{_∙_}
 use denote.Ref.{now}
 use borrow.Author.Count.{falls}
-use borrow.Author.Needs.{needs}
+use Rattle.gates.proofs.Sized.{places-exact, fifteen-few}
 use Rattle.locating.specs.Scanning.{workAgrees}
 use Rattle.locating.proofs.Scanned.{Scanned, scanned-none, scanned-next, scanned-all, row-within, agreed-row}
 use Rattle.locating.proofs.scan.Statement.{statement}
@@ -17,19 +17,19 @@ abbrev μ-loop : tie.MeasureT-loop
 μ-loop work indices readings n rows size lowest₀ count₀ c₀ lowest count c = rows - c
 
 places-requires : tie.Need-places-requires Inv-loop μ-loop
-places-requires c κs = omega (arith, c .before .before .before .pre .0)
+places-requires c κs = tt
 
 loop-holds : tie.Need-loop-holds Inv-loop μ-loop
 loop-holds c = let a = c .before .before .before .before .args in scanned-none (workAgrees (now (a .work)) (a .n) (now (a .indices)) (now (a .readings))) (a .rows)
 
 mul-agrees : tie.Need-mul-agrees Inv-loop μ-loop
-mul-agrees c = omega (arith, row-within (c .before .before .before .before .before .before .args .n) (c .before .before .places .ensures) (c .loop-test .taken) (c .before .before .before .before .before .before .pre .2))
+mul-agrees c = omega (arith, row-within (c .before .before .before .before .before .before .args .n) (places-exact (fifteen-few (c .before .before .before .before .before .before .pre .0)) (c .before .before .places .ensures)) (c .loop-test .taken) (c .before .before .before .before .before .before .pre .2))
 
 agrees-requires : tie.Need-agrees-requires Inv-loop μ-loop
-agrees-requires c κs = (c .before .before .before .before .before .before .pre .1, row-within (c .before .before .before .before .before .before .args .n) (c .before .before .places .ensures) (c .loop-test .taken) (c .before .before .before .before .before .before .pre .2))
+agrees-requires c κs = (c .before .before .before .before .before .before .pre .1, row-within (c .before .before .before .before .before .before .args .n) (places-exact (fifteen-few (c .before .before .before .before .before .before .pre .0)) (c .before .before .places .ensures)) (c .loop-test .taken) (c .before .before .before .before .before .before .pre .2))
 
 lowest-of-requires : tie.Need-lowest-of-requires Inv-loop μ-loop
-lowest-of-requires c κs = search needs
+lowest-of-requires c κs = tt
 
 counted-requires : tie.Need-counted-requires Inv-loop μ-loop
 counted-requires c κs = omega (arith, c .before .before .before .loop .inv .few, c .before .before .loop-test .taken)
@@ -41,10 +41,10 @@ loop-less : tie.Need-loop-less Inv-loop μ-loop
 loop-less c = falls _ _ (c .before .before .before .loop-test .taken)
 
 loop-again : tie.Need-loop-again Inv-loop μ-loop
-loop-again c = let a = c .before .before .before .before .before .before .before .before .before .args in scanned-next (c .before .before .agrees .result) (c .before .before .before .before .loop .inv) (c .before .before .before .loop-test .taken) (agreed-row (now (a .work)) (a .n) (now (a .indices)) (now (a .readings)) (c .before .before .before .before .loop .c) (c .before .before .before .before .before .places .ensures) (c .before .before .agrees .ensures)) (c .before .lowest-of .ensures) (c .counted .ensures)
+loop-again c = let a = c .before .before .before .before .before .before .before .before .before .args in scanned-next (c .before .before .agrees .result) (c .before .before .before .before .loop .inv) (c .before .before .before .loop-test .taken) (agreed-row (now (a .work)) (a .n) (now (a .indices)) (now (a .readings)) (c .before .before .before .before .loop .c) (places-exact (fifteen-few (c .before .before .before .before .before .before .before .before .before .pre .0)) (c .before .before .before .before .before .places .ensures)) (c .before .before .agrees .ensures)) (c .before .lowest-of .ensures) (c .counted .ensures)
 
 told-requires : tie.Need-told-requires Inv-loop μ-loop
-told-requires c κs = search needs
+told-requires c κs = tt
 
 returns : tie.Need-returns Inv-loop μ-loop
 returns c = c .told .ensures ∙ scanned-all (c .before .before .loop .inv) (c .before .loop-test .left)

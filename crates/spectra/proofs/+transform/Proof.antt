@@ -1,7 +1,6 @@
 -- `spectra::transform` meets its contract. Its measure is the number of inputs. The halves come back one after the other, and combined they are the spectrum.
 use Prim.Native.Nat.{ℕ, _-_, _/_, _<_}
 use native.Mathlib.Nat.{le-refl, pos-of-ne-zero}
-use native.Mathlib.Omega.{arith}
 use mathlib.Core.Path.{sym, _∙_}
 use denote.Ref.{now}
 use lib.Dec.{lit≤}
@@ -80,7 +79,7 @@ transform-sub-places : (t : ℕ) → transform-lts.Need-sub-places (claims t) (t
 transform-sub-places t c = let a = c .before .before .before .before .before .before .args in pos-of-ne-zero (c .before .before .if1 .left)
 
 transform-places-requires : (t : ℕ) → transform-lts.Need-places-requires (claims t) (transform-at t) transform.Post
-transform-places-requires t c κs = omega (arith, c .before .before .before .before .before .before .pre .1 .0)
+transform-places-requires t c κs = tt
 
 transform-div-top : (t : ℕ) → transform-lts.Need-div-top (claims t) (transform-at t) transform.Post
 transform-div-top t c = let a = c .before .before .before .before .before .before .before .args in let p = parted (now (a .out)) (now (a .words)) (length (now (a .table))) (a .at) (a .n) (a .k) (c .before .before .before .before .before .before .before .pre .1) (c .before .before .before .if1 .left) (c .places .ensures) in p .half-some

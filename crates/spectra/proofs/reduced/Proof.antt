@@ -1,19 +1,18 @@
 -- `spectra::reduced` meets its contract.
-use borrow.Author.Needs.{needs}
 use Rattle.spectra.proofs.reduced.Statement.{statement}
 use Rattle.spectra.proofs.reduced.Tie as tie
 
 enum-told : tie.Need-enum-told
-enum-told c = search needs
+enum-told c = c .match .keys1
 
 enum-told-2 : tie.Need-enum-told-2
-enum-told-2 c = search needs
+enum-told-2 c = c .match .keys2
 
 returns : tie.Need-returns
 returns c = rw (c .enum-told .given .1)
 
 returns-2 : tie.Need-returns-2
-returns-2 c = search needs
+returns-2 c = rw (c .enum-told2 .given .1)
 
 pub reduced-spec : {M : Type 1} → statement M
 reduced-spec = tie.close (tie.spec enum-told enum-told-2 returns returns-2)

@@ -4,15 +4,14 @@ use denote.Ref.{now}
 use lib.ListN.{length}
 use Rattle.bits.specs.Answer.{Answer, Fills, leaves}
 use Rattle.spectra.proofs.Answering.{spectrum-row}
-use borrow.Author.Needs.{needs}
 use Rattle.spectra.proofs.spectrum.Statement.{statement}
 use Rattle.spectra.proofs.spectrum.Tie as tie
 
 row-spectra-requires : tie.Need-row-spectra-requires
-row-spectra-requires c κs = search needs
+row-spectra-requires c κs = tt
 
 same-length : tie.Need-same-length
-same-length c = search needs
+same-length c = c .before .before .row-spectra .kept .1 .1 .1 .1 .1 .0
 
 returns : tie.Need-returns
 returns c = let a = c .before .before .before .before .before .before .args in c .before .before .row-spectra .ensures ∙ ap (λ (x : Answer (Fills (Unit {0}))). leaves x (now (a .out))) (spectrum-row (a .n) (now (a .table)) (a .kind) (a .polarity) (length (now (a .out))))

@@ -3,71 +3,72 @@ use native.Mathlib.Omega.{arith}
 use Prim.Native.Nat.{_-_}
 use denote.Ref.{now}
 use borrow.Author.Count.{falls}
+use Rattle.gates.proofs.Sized.{places-exact, table-bytes-exact, fifteen-few}
 use Rattle.spectra.proofs.Filling.{Filling, row-place, filling-start, filling-length, filling-place, filling-part, filling-lent, filling-end, row-ready, size-fits}
 use Rattle.spectra.proofs.Transforming.{ready-start}
 use Rattle.spectra.proofs.transform_rows.Statement.{statement}
 use Rattle.spectra.proofs.transform_rows.Tie as tie
 
 abbrev Inv-loop : tie.InvT-loop
-Inv-loop work₀ words tables n rows k kind size bytes r₀ work r = Filling kind n k tables work₀ rows work r
+Inv-loop work₀ words tables n rows k kind size bytes r₀ work r = Filling kind n k tables work₀ rows size bytes work r
 
 abbrev μ-loop : tie.MeasureT-loop
 μ-loop work₀ words tables n rows k kind size bytes r₀ work r = rows - r
 
 places-requires : tie.Need-places-requires Inv-loop μ-loop
-places-requires c κs = omega (arith, c .before .before .before .pre .0)
+places-requires c κs = tt
 
 table-bytes-requires : tie.Need-table-bytes-requires Inv-loop μ-loop
-table-bytes-requires c κs = omega (arith, c .before .before .before .before .pre .0)
+table-bytes-requires c κs = tt
 
 loop-holds : tie.Need-loop-holds Inv-loop μ-loop
-loop-holds c = let a = c .before .before .before .before .before .args in filling-start (a .kind) (a .n) (a .k) (now (a .tables)) (now (a .work)) (a .rows) (c .before .before .before .before .before .pre .2)
+loop-holds c = let a = c .before .before .before .before .before .args in let few = fifteen-few (c .before .before .before .before .before .pre .0) in filling-start (a .kind) (a .n) (a .k) (now (a .tables)) (now (a .work)) (a .rows) (places-exact few (c .before .places .ensures)) (table-bytes-exact few (c .table-bytes .ensures)) (c .before .before .before .before .before .pre .2)
 
 mul-transform : tie.Need-mul-transform Inv-loop μ-loop
-mul-transform c = omega (arith, filling-place (c .before .loop .inv) (c .before .before .before .places .ensures) (c .loop-test .taken))
+mul-transform c = omega (arith, filling-place (c .before .loop .inv) (c .loop-test .taken))
 
 mul-transform-2 : tie.Need-mul-transform-2 Inv-loop μ-loop
-mul-transform-2 c = omega (arith, filling-place (c .before .loop .inv) (c .before .before .before .places .ensures) (c .loop-test .taken))
+mul-transform-2 c = omega (arith, filling-place (c .before .loop .inv) (c .loop-test .taken))
 
 add-transform : tie.Need-add-transform Inv-loop μ-loop
-add-transform c = omega (arith, filling-place (c .before .loop .inv) (c .before .before .before .places .ensures) (c .loop-test .taken))
+add-transform c = omega (arith, filling-place (c .before .loop .inv) (c .loop-test .taken))
 
 mul-transform-3 : tie.Need-mul-transform-3 Inv-loop μ-loop
-mul-transform-3 c = omega (arith, filling-place (c .before .loop .inv) (c .before .before .before .places .ensures) (c .loop-test .taken))
+mul-transform-3 c = omega (arith, filling-place (c .before .loop .inv) (c .loop-test .taken))
 
 sub-transform : tie.Need-sub-transform Inv-loop μ-loop
-sub-transform c = omega (arith, filling-place (c .before .loop .inv) (c .before .before .before .places .ensures) (c .loop-test .taken))
+sub-transform c = omega (arith, filling-place (c .before .loop .inv) (c .loop-test .taken))
 
 part-transform-start : tie.Need-part-transform-start Inv-loop μ-loop
-part-transform-start c = omega (arith, filling-place (c .before .loop .inv) (c .before .before .before .places .ensures) (c .loop-test .taken))
+part-transform-start c = omega (arith, filling-place (c .before .loop .inv) (c .loop-test .taken))
 
 part-transform-end : tie.Need-part-transform-end Inv-loop μ-loop
-part-transform-end c = omega (arith, filling-length (c .before .loop .inv), filling-place (c .before .loop .inv) (c .before .before .before .places .ensures) (c .loop-test .taken))
+part-transform-end c = omega (arith, filling-length (c .before .loop .inv), filling-place (c .before .loop .inv) (c .loop-test .taken))
 
 mul-transform-4 : tie.Need-mul-transform-4 Inv-loop μ-loop
-mul-transform-4 c = omega (arith, row-place (c .before .before .before .table-bytes .ensures) (c .before .loop-test .taken) (c .before .before .before .before .before .before .before .before .pre .3))
+mul-transform-4 c = omega (arith, row-place (c .before .before .loop .inv .wide) (c .before .loop-test .taken) (c .before .before .before .before .before .before .before .before .pre .3))
 
 mul-transform-5 : tie.Need-mul-transform-5 Inv-loop μ-loop
-mul-transform-5 c = omega (arith, row-place (c .before .before .before .table-bytes .ensures) (c .before .loop-test .taken) (c .before .before .before .before .before .before .before .before .pre .3))
+mul-transform-5 c = omega (arith, row-place (c .before .before .loop .inv .wide) (c .before .loop-test .taken) (c .before .before .before .before .before .before .before .before .pre .3))
 
 add-transform-2 : tie.Need-add-transform-2 Inv-loop μ-loop
-add-transform-2 c = omega (arith, row-place (c .before .before .before .table-bytes .ensures) (c .before .loop-test .taken) (c .before .before .before .before .before .before .before .before .pre .3))
+add-transform-2 c = omega (arith, row-place (c .before .before .loop .inv .wide) (c .before .loop-test .taken) (c .before .before .before .before .before .before .before .before .pre .3))
 
 sub-transform-2 : tie.Need-sub-transform-2 Inv-loop μ-loop
-sub-transform-2 c = omega (arith, row-place (c .before .before .before .table-bytes .ensures) (c .before .loop-test .taken) (c .before .before .before .before .before .before .before .before .pre .3))
+sub-transform-2 c = omega (arith, row-place (c .before .before .loop .inv .wide) (c .before .loop-test .taken) (c .before .before .before .before .before .before .before .before .pre .3))
 
 part-transform-start-2 : tie.Need-part-transform-start-2 Inv-loop μ-loop
-part-transform-start-2 c = omega (arith, row-place (c .before .before .before .table-bytes .ensures) (c .before .loop-test .taken) (c .before .before .before .before .before .before .before .before .pre .3))
+part-transform-start-2 c = omega (arith, row-place (c .before .before .loop .inv .wide) (c .before .loop-test .taken) (c .before .before .before .before .before .before .before .before .pre .3))
 
 part-transform-end-2 : tie.Need-part-transform-end-2 Inv-loop μ-loop
-part-transform-end-2 c = omega (arith, row-place (c .before .before .before .table-bytes .ensures) (c .before .loop-test .taken) (c .before .before .before .before .before .before .before .before .pre .3))
+part-transform-end-2 c = omega (arith, row-place (c .before .before .loop .inv .wide) (c .before .loop-test .taken) (c .before .before .before .before .before .before .before .before .pre .3))
 
 transform-requires : tie.Need-transform-requires Inv-loop μ-loop
 transform-requires c κs = (
   c .before .before .before .before .before .before .before .before .before .pre .0,
-  filling-part (c .before .before .before .loop .inv) (c .before .before .before .before .before .places .ensures) (c .before .before .loop-test .taken),
+  filling-part (c .before .before .before .loop .inv) (c .before .before .loop-test .taken),
   c .before .before .before .before .before .before .before .before .before .pre .1,
-  row-ready (c .before .before .before .before .before .before .before .before .before .args .n) (now (c .before .before .before .before .before .before .before .before .before .args .tables)) (c .before .before .before .before .table-bytes .ensures) (c .before .before .loop-test .taken) (c .before .before .before .before .before .before .before .before .before .pre .3),
+  row-ready (c .before .before .before .before .before .before .before .before .before .args .n) (now (c .before .before .before .before .before .before .before .before .before .args .tables)) (c .before .before .before .loop .inv .wide) (c .before .before .loop-test .taken) (c .before .before .before .before .before .before .before .before .before .pre .3),
   size-fits (c .before .before .before .before .before .before .before .before .before .pre .0),
   ready-start (c .before .before .before .before .before .before .before .before .before .args .n) (c .before .before .before .before .before .before .before .before .before .args .k) (c .before .before .before .before .before .before .before .before .before .pre .4),
 )
@@ -80,7 +81,7 @@ loop-less c = falls _ _ (c .before .before .before .before .before .loop-test .t
 
 loop-again : tie.Need-loop-again Inv-loop μ-loop
 loop-again c =
-    filling-lent (c .before .before .before .before .before .before .loop .inv) (c .before .before .transform .last .0) (c .before .before .before .before .before .before .before .before .places .ensures) (c .before .before .before .before .before .before .before .table-bytes .ensures) (c .before .before .before .before .before .loop-test .taken) (c .before .before .before .before .before .before .before .before .before .before .before .before .pre .1) (c .before .before .transform .ensures)
+    filling-lent (c .before .before .before .before .before .before .loop .inv) (c .before .before .transform .last .0) (c .before .before .before .before .before .loop-test .taken) (c .before .before .before .before .before .before .before .before .before .before .before .before .pre .1) (c .before .before .transform .ensures)
 
 same-length : tie.Need-same-length Inv-loop μ-loop
 same-length c = filling-length (c .before .loop .inv)

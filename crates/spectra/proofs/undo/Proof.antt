@@ -1,9 +1,9 @@
 -- `spectra::undo` meets its contract: each way out is one of undoing.
 use native.Mathlib.Omega.{arith}
-use borrow.Author.Needs.{needs}
 use denote.Ref.{now}
 use lib.ListN.{length-take}
 use Rattle.job.specs.Layout.{maxInputs}
+use Rattle.gates.proofs.Sized.{places-fit}
 use Rattle.spectra.proofs.Undoing.{entries-most, lent-of, undo-low, undo-high, undo-polarity, undo-count}
 use Rattle.spectra.proofs.undo.Statement.{statement}
 use Rattle.spectra.proofs.undo.Tie as tie
@@ -16,7 +16,7 @@ unfolding maxInputs
 returns-2 c = let a = c .before .before .before .before .args in undo-high (a .n) (now (a .numbers)) (a .kind) (a .polarity) (now (a .out)) (c .before .if1 .left) (c .if2 .taken)
 
 places-requires : tie.Need-places-requires
-places-requires c κs = search needs
+places-requires c κs = tt
 
 returns-3 : tie.Need-returns-3
 unfolding maxInputs
@@ -27,7 +27,7 @@ unfolding maxInputs
 returns-4 c = let a = c .before .before .before .before .before .before .before .args in undo-count (a .n) (now (a .numbers)) (a .kind) (a .polarity) (now (a .out)) (c .before .before .before .before .if1 .left) (c .before .before .before .if2 .left) (c .before .before .places .ensures) (c .before .if3 .left) (c .if4 .taken)
 
 add-bytes : tie.Need-add-bytes
-add-bytes c = search needs
+add-bytes c = places-fit (c .before .before .before .before .before .before .before .args .n) (c .before .before .places .ensures)
 
 array-borrow-prefix-table : tie.Need-array-borrow-prefix-table
 unfolding maxInputs
@@ -50,10 +50,10 @@ unfolding maxInputs
 undo-in-requires c κs = let m = entries-most (c .before .before .before .before .before .places .ensures) (c .before .before .before .before .before .before .if2 .left) in (c .before .before .before .before .before .before .before .if1 .left, lent-of (c .before .before .before .before .before .places .ensures) (c .before .before .before .before .before .before .if2 .left) (c .before .before .before .before .if3 .left) (c .before .before .before .if4 .left) (simp length-take (omega arith)) (simp length-take (omega arith)))
 
 same-length : tie.Need-same-length
-same-length c = search needs
+same-length c = c .before .before .before .before .undo-in .kept .1 .1 .1 .1 .1 .1 .0
 
 returns-5 : tie.Need-returns-5
-returns-5 c = search needs
+returns-5 c = c .before .before .before .before .undo-in .ensures
 
 pub undo-spec : {M : Type 1} → statement M
 undo-spec =

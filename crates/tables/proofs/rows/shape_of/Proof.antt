@@ -5,7 +5,8 @@ use mathlib.Core.Logic.{⊎-elim}
 use borrow.Author.Needs.{needs}
 use Rattle.gates.specs.Form.{keepOf}
 use Rattle.bits.proofs.Fields.{shift-exact}
-use Rattle.gates.proofs.Kept.{at-least-three, keep-rest, size-fits}
+use Rattle.gates.proofs.Kept.{at-least-three, keep-rest}
+use Rattle.gates.proofs.Sized.{places-some, places-fit}
 use Rattle.tables.proofs.rows.shape_of.Statement.{statement}
 use Rattle.tables.proofs.rows.shape_of.Tie as tie
 
@@ -13,7 +14,7 @@ shl-t4 : tie.Need-shl-t4
 shl-t4 c = search needs
 
 add-t5 : tie.Need-add-t5
-add-t5 c = size-fits (c .before .args .inputs) (c .before .pre)
+add-t5 c = places-fit (c .before .args .inputs) (places-some (c .before .pre))
 
 kept : (c : tie.At-match-came) → c .match .keep ≡ keepOf (c .before .args .inputs)
 kept c =
