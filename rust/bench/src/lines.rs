@@ -8,6 +8,8 @@ use std::hint::black_box;
 pub enum Library {
     Proved,
     Reference,
+    /// The reference in the library's forms, where it has them.
+    Formed,
 }
 
 /// A job and the arguments of calls with it.
@@ -73,6 +75,8 @@ pub enum Line {
     Spectrum(Kind),
     Choosing(Purpose, Kind),
     Locating(Kind),
+    /// The spectra of all circuits: what choosing and locating begin with.
+    Filling(Kind),
 }
 
 #[derive(Clone, Copy, PartialEq, Eq)]
@@ -102,6 +106,10 @@ pub const LINES: [Line; 10] = [
     Line::Locating(Rm),
     Line::Locating(Mrm),
 ];
+
+/// The lines on which a form of the library's tells.
+pub const FORMED: [Line; 6] =
+    [Line::Reading, Line::Table, Line::Spectrum(Rm), Line::Spectrum(Mrm), Line::Filling(Rm), Line::Filling(Mrm)];
 
 impl Kind {
     fn proved(self) -> horncurlew::Kind {
@@ -145,6 +153,8 @@ impl Line {
             Line::Choosing(Detecting, Mrm) => "detecting MRM",
             Line::Locating(Rm) => "locating RM",
             Line::Locating(Mrm) => "locating MRM",
+            Line::Filling(Rm) => "filling RM",
+            Line::Filling(Mrm) => "filling MRM",
         }
     }
 
@@ -154,6 +164,7 @@ impl Line {
         match library {
             Library::Proved => self.run_proved(case, memory),
             Library::Reference => self.run_reference(case, memory),
+            Library::Formed => self.run_formed(case, memory),
         }
         black_box(memory);
     }
@@ -181,6 +192,10 @@ impl Line {
                 let located = locate(bytes, kind.proved(), case.polarity, &list.entries, &list.readings, work);
                 let _ = black_box(located);
             }
+            Line::Filling(kind) => {
+                let work = &mut numbers[..case.work];
+                let _ = black_box(locate(bytes, kind.proved(), case.polarity, &[], &[], work));
+            }
         }
     }
 
@@ -206,6 +221,32 @@ impl Line {
                 let (list, work) = (&case.lists[kind as usize], &mut numbers[..case.work]);
                 black_box(locate(bytes, kind.reference(), case.polarity, &list.indices, &list.readings, work));
             }
+            Line::Filling(kind) => {
+                let work = &mut numbers[..case.work];
+                black_box(locate(bytes, kind.reference(), case.polarity, &[], &[], work));
+            }
+        }
+    }
+
+    fn run_formed(self, case: &Case, memory: &mut Memory) {
+        use crate::formed::{fill, read, spectrum, table};
+        let bytes = &case.bytes[..];
+        let (out, numbers) = (&mut memory.bytes[..], &mut memory.numbers[..]);
+        match self {
+            Line::Reading => {
+                let _ = black_box(read(bytes));
+            }
+            Line::Table => {
+                black_box(table(bytes, case.circuit, out).is_ok());
+            }
+            Line::Spectrum(kind) => {
+                black_box(spectrum(case.inputs, &case.table, kind.reference(), case.polarity, numbers).is_ok());
+            }
+            Line::Filling(kind) => {
+                let work = &mut numbers[..case.work];
+                black_box(fill(bytes, kind.reference(), case.polarity, work).is_ok());
+            }
+            Line::Choosing(..) | Line::Locating(_) => unreachable!("no line of FORMED"),
         }
     }
 }

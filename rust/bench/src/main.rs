@@ -6,13 +6,14 @@
 
 #![forbid(unsafe_code)]
 
+mod formed;
 mod instructions;
 mod lines;
 mod measure;
 
 use differential::jobs::full_job;
 use differential::random::Random;
-use lines::{Case, Kind, Library, Line, Memory, Purpose, LINES};
+use lines::{Case, Kind, Library, Line, Memory, Purpose, FORMED, LINES};
 use measure::{ratio, Timed};
 
 const MOST_GATES: usize = 64;
@@ -26,6 +27,7 @@ fn main() {
     }
     let mut memory = Memory::new();
     ratios(&mut memory);
+    forms(&mut memory);
     growth(&mut memory);
 }
 
@@ -59,6 +61,23 @@ fn ratios(memory: &mut Memory) {
     }
     if !counts {
         println!("(instructions are counted where valgrind is there)");
+    }
+}
+
+/// What the forms cost that the library is held to: the reference written in them by the reference, and the library by that.
+fn forms(memory: &mut Memory) {
+    println!();
+    println!("Forms: the reference in the library's forms by the reference, and the library by that");
+    println!();
+    println!("inputs  line          forms  library by forms");
+    for inputs in [8, 6, 4] {
+        let cases = cases(inputs, MOST_GATES, MOST_FAULTS);
+        for line in FORMED {
+            let timed = |library| Timed { line, library, cases: &cases };
+            let cost = ratio(timed(Library::Formed), timed(Library::Reference), memory).median;
+            let proved = ratio(timed(Library::Proved), timed(Library::Formed), memory).median;
+            println!("{inputs:>6}  {:<12}  {cost:>5.2}  {proved:>5.2}", line.name());
+        }
     }
 }
 

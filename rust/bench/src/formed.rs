@@ -1,0 +1,377 @@
+//! Parts of the reference written again in the forms that the proved library is held to, to see what a form costs: each
+//! field read by itself, value with cursor or refusal; tables gate by gate, a byte of entries at a step; the spectrum
+//! from those of its two halves, by calls. The circuits stand side by side, as they do in the library.
+
+use reference::{Fault, Gate, Job, Kind, Refusal, MOST_FAULTS, MOST_GATES, MOST_INPUTS};
+
+const MOST_LINES: usize = MOST_INPUTS + MOST_GATES;
+/// The bytes of a line's tables that stand side by side.
+const BLOCK: usize = 512;
+type Block = [u8; BLOCK];
+/// The packed tables of all circuits, 32 bytes each.
+type Tables = [[u8; 32]; MOST_FAULTS + 1];
+
+/// The field of `width` bits at a place, and the place behind it.
+#[inline]
+fn field(bytes: &[u8], at: usize, width: usize) -> Option<(u32, usize)> {
+    let end = at + width;
+    if end > 8 * bytes.len() {
+        return None;
+    }
+    let rest = &bytes[at / 8..];
+    let mut four = [0; 4];
+    match rest.get(..4) {
+        Some(bytes) => four.copy_from_slice(bytes),
+        None => four[..rest.len()].copy_from_slice(rest),
+    }
+    Some(((u32::from_be_bytes(four) << (at % 8)) >> (32 - width), end))
+}
+
+/// The job that these bytes are, each field read by itself.
+pub fn read(bytes: &[u8]) -> Result<Job, Refusal> {
+    let Some((inputs, at)) = field(bytes, 0, 4) else { return Err(1) };
+    if inputs == 0 || inputs as usize > MOST_INPUTS {
+        return Err(2);
+    }
+    let Some((gate_count, mut at)) = field(bytes, at, 7) else { return Err(1) };
+    if gate_count as usize > MOST_GATES {
+        return Err(3);
+    }
+    let lines = inputs + gate_count;
+    let mut gates = [Gate::Buf(0); MOST_GATES];
+    for (place, own) in gates.iter_mut().zip(inputs..lines) {
+        let (gate, next) = read_gate(bytes, at, own)?;
+        (*place, at) = (gate, next);
+    }
+    let Some((output, at)) = field(bytes, at, 7) else { return Err(1) };
+    if output >= lines {
+        return Err(6);
+    }
+    let Some((fault_count, mut at)) = field(bytes, at, 6) else { return Err(1) };
+    let mut faults = [Fault::Stuck(0, false); MOST_FAULTS];
+    for place in &mut faults[..fault_count as usize] {
+        let (fault, next) = read_fault(bytes, at, inputs, lines)?;
+        (*place, at) = (fault, next);
+    }
+    let whole = at.div_ceil(8);
+    if bytes.len() > whole || bytes[whole - 1] & ((1u16 << (8 * whole - at)) - 1) as u8 != 0 {
+        return Err(9);
+    }
+    let [inputs, gate_count, output, fault_count] = [inputs, gate_count, output, fault_count].map(|count| count as u8);
+    Ok(Job { inputs, gate_count, gates, output, fault_count, faults })
+}
+
+#[inline]
+fn read_gate(bytes: &[u8], at: usize, own: u32) -> Result<(Gate, usize), Refusal> {
+    let Some((kind, at)) = field(bytes, at, 3) else { return Err(1) };
+    let Some((a, at)) = field(bytes, at, 7) else { return Err(1) };
+    let Some((b, at)) = field(bytes, at, 7) else { return Err(1) };
+    if a >= own || b >= own {
+        return Err(4);
+    }
+    if kind >= 6 && a != b {
+        return Err(5);
+    }
+    let (a, b) = (a as u8, b as u8);
+    let gate = match kind {
+        0 => Gate::And(a, b),
+        1 => Gate::Or(a, b),
+        2 => Gate::Nand(a, b),
+        3 => Gate::Nor(a, b),
+        4 => Gate::Xor(a, b),
+        5 => Gate::Xnor(a, b),
+        6 => Gate::Not(a),
+        _ => Gate::Buf(a),
+    };
+    Ok((gate, at))
+}
+
+#[inline]
+fn read_fault(bytes: &[u8], at: usize, inputs: u32, lines: u32) -> Result<(Fault, usize), Refusal> {
+    let Some((kind, at)) = field(bytes, at, 2) else { return Err(1) };
+    let Some((a, at)) = field(bytes, at, 7) else { return Err(1) };
+    let Some((b, at)) = field(bytes, at, 7) else { return Err(1) };
+    if kind < 2 {
+        if a >= lines {
+            return Err(7);
+        }
+        if a != b {
+            return Err(8);
+        }
+        return Ok((Fault::Stuck(a as u8, kind == 1), at));
+    }
+    if a >= inputs || b >= inputs {
+        return Err(7);
+    }
+    if a >= b {
+        return Err(8);
+    }
+    Ok((Fault::Bridge(a as u8, b as u8, kind == 2), at))
+}
+
+/// A gate's lines and masks: its answer on 00, and whether 01 and 11 change it.
+fn masks(gate: Gate) -> (usize, usize, [u8; 3]) {
+    let (a, b, masks) = match gate {
+        Gate::And(a, b) => (a, b, [0, 0, 255]),
+        Gate::Or(a, b) => (a, b, [0, 255, 255]),
+        Gate::Nand(a, b) => (a, b, [255, 0, 255]),
+        Gate::Nor(a, b) => (a, b, [255, 255, 255]),
+        Gate::Xor(a, b) => (a, b, [0, 255, 0]),
+        Gate::Xnor(a, b) => (a, b, [255, 255, 0]),
+        Gate::Not(a) => (a, a, [255, 0, 255]),
+        Gate::Buf(a) => (a, a, [0, 0, 255]),
+    };
+    (a.into(), b.into(), masks)
+}
+
+/// Byte i of an input's table.
+fn input_byte(line: usize, i: usize) -> u8 {
+    match line {
+        0 => 0x55,
+        1 => 0x33,
+        2 => 0x0f,
+        _ => 0u8.wrapping_sub((i as u8) >> (line - 3) & 1),
+    }
+}
+
+/// The bits of a table's byte that are entries.
+fn entry_bits(inputs: usize) -> u8 {
+    !(0xffu16 >> (1usize << inputs.min(3))) as u8
+}
+
+/// The tables of so many circuits from one on, side by side, each at its place of the output's block.
+fn side_by_side(job: &Job, first: usize, count: usize, lines: &mut [Block; MOST_LINES]) {
+    let (inputs, gates) = (usize::from(job.inputs), usize::from(job.gate_count));
+    let bytes = (1usize << inputs).div_ceil(8);
+    let fixed = fixed_lines(job, first, count);
+    for line in 0..inputs + gates {
+        let (below, from) = lines.split_at_mut(line);
+        let block = &mut from[0][..count * bytes];
+        if line < inputs {
+            for (i, byte) in block.iter_mut().enumerate() {
+                *byte = input_byte(line, i);
+            }
+        } else {
+            let (a, b, [zero, single, both]) = masks(job.gates[line - inputs]);
+            for ((byte, a), b) in block.iter_mut().zip(&below[a]).zip(&below[b]) {
+                *byte = zero ^ single & (a ^ b) ^ both & a & b;
+            }
+        }
+        let mut left = fixed[line];
+        while left != 0 {
+            let i = left.trailing_zeros() as usize;
+            left &= left - 1;
+            fix(job.faults[first + i - 1], &mut block[i * bytes..(i + 1) * bytes]);
+        }
+    }
+}
+
+/// Per line the circuits, of so many from one on, whose fault fixes it, a bit each.
+fn fixed_lines(job: &Job, first: usize, count: usize) -> [u64; MOST_LINES] {
+    let mut fixed = [0; MOST_LINES];
+    for i in usize::from(first == 0)..count {
+        let (low, high) = match job.faults[first + i - 1] {
+            Fault::Stuck(line, _) => (line, line),
+            Fault::Bridge(low, high, _) => (low, high),
+        };
+        fixed[usize::from(low)] |= 1 << i;
+        fixed[usize::from(high)] |= 1 << i;
+    }
+    fixed
+}
+
+/// Puts what a fault fixes its lines at; those of a bridge are inputs.
+#[inline]
+fn fix(fault: Fault, table: &mut [u8]) {
+    match fault {
+        Fault::Stuck(_, level) => table.fill(if level { 255 } else { 0 }),
+        Fault::Bridge(low, high, is_and) => {
+            for (i, byte) in table.iter_mut().enumerate() {
+                let (a, b) = (input_byte(low.into(), i), input_byte(high.into(), i));
+                *byte = if is_and { a & b } else { a | b };
+            }
+        }
+    }
+}
+
+/// The table of one circuit.
+pub fn table(bytes: &[u8], circuit: usize, out: &mut [u8]) -> Result<(), Refusal> {
+    let job = read(bytes)?;
+    if circuit > usize::from(job.fault_count) {
+        return Err(11);
+    }
+    let size = (1usize << job.inputs).div_ceil(8);
+    let out = out.get_mut(..size).ok_or(10)?;
+    let mut lines = [[0; BLOCK]; MOST_LINES];
+    side_by_side(&job, circuit, 1, &mut lines);
+    out.copy_from_slice(&lines[usize::from(job.output)][..size]);
+    out[0] &= entry_bits(job.inputs.into());
+    Ok(())
+}
+
+fn all_tables(job: &Job, tables: &mut Tables) {
+    let bytes = (1usize << job.inputs).div_ceil(8);
+    let circuits = usize::from(job.fault_count) + 1;
+    let mut lines = [[0; BLOCK]; MOST_LINES];
+    let side = BLOCK / bytes;
+    for first in (0..circuits).step_by(side) {
+        let count = side.min(circuits - first);
+        side_by_side(job, first, count, &mut lines);
+        let block = lines[usize::from(job.output)].chunks_exact(bytes);
+        for (table, part) in tables[first..first + count].iter_mut().zip(block) {
+            table[..bytes].copy_from_slice(part);
+            table[0] &= entry_bits(job.inputs.into());
+        }
+    }
+}
+
+/// For each byte of a table the eight sums of a spectrum of three inputs at polarity 0.
+const SUMS: [[u16; 8]; 256] = {
+    let mut sums = [[0; 8]; 256];
+    let mut byte = 0;
+    while byte < 256 {
+        let mut j = 0;
+        while j < 8 {
+            let mut t = 0;
+            while t < 8 {
+                if t & !j == 0 {
+                    sums[byte][j] += (byte >> (7 - t) & 1) as u16;
+                }
+                t += 1;
+            }
+            j += 1;
+        }
+        byte += 1;
+    }
+    sums
+};
+
+/// The byte with its entries in the order of a polarity below 8.
+#[inline]
+fn reordered(mut byte: u8, polarity: usize) -> u8 {
+    for (variable, ones) in [0x55u8, 0x33, 0x0f].into_iter().enumerate() {
+        if polarity >> variable & 1 == 1 {
+            byte = (byte & ones) << (1 << variable) | byte >> (1 << variable) & ones;
+        }
+    }
+    byte
+}
+
+/// The sums of a table: those of its halves, by two calls, then the lower added to the upper. Tables of three and of five
+/// inputs are looked up, a byte at a time.
+fn sums(table: &[u8], polarity: usize, out: &mut [u16]) {
+    match *table {
+        [byte] => {
+            let sums = &SUMS[usize::from(reordered(byte, polarity))];
+            return out.copy_from_slice(&sums[..out.len()]);
+        }
+        [_, _, _, _] => return sums_of_four(table, polarity, out),
+        _ => {}
+    }
+    let half = out.len() / 2;
+    let (mut first, mut second) = table.split_at(table.len() / 2);
+    if polarity >= half {
+        (first, second) = (second, first);
+    }
+    let (lower, upper) = out.split_at_mut(half);
+    sums(first, polarity % half, lower);
+    sums(second, polarity % half, upper);
+    add(upper, lower);
+}
+
+fn sums_of_four(table: &[u8], polarity: usize, out: &mut [u16]) {
+    for (eight, part) in out.chunks_exact_mut(8).enumerate().map(|(i, eight)| (eight, i ^ polarity / 8)) {
+        eight.copy_from_slice(&SUMS[usize::from(reordered(table[part], polarity % 8))]);
+    }
+    for block in out.chunks_exact_mut(16) {
+        let (lower, upper) = block.split_at_mut(8);
+        add(upper, lower);
+    }
+    let (lower, upper) = out.split_at_mut(16);
+    add(upper, lower);
+}
+
+#[inline]
+fn add(upper: &mut [u16], lower: &[u16]) {
+    for (upper, lower) in upper.iter_mut().zip(lower) {
+        *upper += *lower;
+    }
+}
+
+fn transform(table: &[u8], kind: Kind, polarity: usize, out: &mut [u16]) {
+    sums(table, polarity, out);
+    if kind == Kind::Rm {
+        out.iter_mut().for_each(|number| *number %= 2);
+    }
+}
+
+/// The spectrum of a packed table.
+pub fn spectrum(inputs: usize, table: &[u8], kind: Kind, polarity: usize, out: &mut [u16]) -> Result<(), Refusal> {
+    if inputs == 0 || inputs > MOST_INPUTS {
+        return Err(2);
+    }
+    if table.len() != (1usize << inputs).div_ceil(8) || table[0] & !entry_bits(inputs) != 0 {
+        return Err(12);
+    }
+    if polarity >> inputs != 0 {
+        return Err(13);
+    }
+    let out = out.get_mut(..1 << inputs).ok_or(10)?;
+    transform(table, kind, polarity, out);
+    Ok(())
+}
+
+/// The spectra of all circuits of the job that the bytes are: what choosing and locating begin with.
+pub fn fill(bytes: &[u8], kind: Kind, polarity: usize, work: &mut [u16]) -> Result<(), Refusal> {
+    let job = read(bytes)?;
+    if polarity >> job.inputs != 0 {
+        return Err(13);
+    }
+    let work = work.get_mut(..(usize::from(job.fault_count) + 1) << job.inputs).ok_or(10)?;
+    let mut tables = [[0; 32]; MOST_FAULTS + 1];
+    all_tables(&job, &mut tables);
+    let size = (1usize << job.inputs).div_ceil(8);
+    for (table, row) in tables.iter().zip(work.chunks_exact_mut(1 << job.inputs)) {
+        transform(&table[..size], kind, polarity, row);
+    }
+    Ok(())
+}
+
+#[cfg(test)]
+mod tests {
+    use super::*;
+    use differential::jobs::{encode, sized_job};
+    use differential::random::Random;
+
+    /// The forms change no answer, of whole jobs and of damaged ones.
+    #[test]
+    fn answers_of_the_reference() {
+        let mut random = Random::new(1);
+        for _ in 0..3000 {
+            let mut bytes = encode(&sized_job(&mut random));
+            if random.once_in(4) {
+                let at = random.below(bytes.len());
+                bytes[at] ^= 1 << random.below(8);
+            }
+            assert_eq!(read(&bytes), reference::read(&bytes));
+            let Ok(job) = read(&bytes) else { continue };
+            let (inputs, circuits) = (usize::from(job.inputs), usize::from(job.fault_count) + 1);
+            let (circuit, polarity) = (random.below(circuits), random.below(1 << inputs));
+            let (mut table, mut same) = ([7; 32], [7; 32]);
+            super::table(&bytes, circuit, &mut table).expect("a table");
+            reference::table(&bytes, circuit, &mut same).expect("a table");
+            assert_eq!(table, same);
+            let size = (1usize << inputs).div_ceil(8);
+            for kind in [Kind::Rm, Kind::Mrm] {
+                let (mut work, mut same) = (vec![7; circuits << inputs], vec![7; circuits << inputs]);
+                fill(&bytes, kind, polarity, &mut work).expect("spectra");
+                reference::locate(&bytes, kind, polarity, &[], &[], &mut same);
+                assert_eq!(work, same);
+                let (mut numbers, mut same) = ([7; 256], [7; 256]);
+                spectrum(inputs, &table[..size], kind, polarity, &mut numbers).expect("a spectrum");
+                reference::spectrum(inputs, &table[..size], kind, polarity, &mut same).expect("a spectrum");
+                assert_eq!(numbers, same);
+            }
+        }
+    }
+}
