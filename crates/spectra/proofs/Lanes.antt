@@ -14,7 +14,7 @@
 --   words-2 .. words-8   a sum of two to eight words fits a u64
 --   table-words      the words that a leaf has are sixteen, and small
 --   nibble-fits, nibble-asked   what looking up the word of a nibble of the leaf asks
---   leaf-written     the lanes of the sums of a leaf's words are its spectrum
+--   leaf-written     the lanes of the sums of a leaf's words are its MRM spectrum
 --   eight-asked      what the sums of eight words ask for
 --   length-wordSums  how many they are
 use Prim.Native.Nat.{ℕ, zero, suc, _+_, _-_, _*_, _/_, _%_, _^_, _≤_, _<_}
@@ -35,9 +35,8 @@ use Rattle.bits.proofs.Below.{lt-or-ge}
 use Rattle.bits.proofs.Digits.{digit-above}
 use Rattle.bits.proofs.Packed.{entry-lt, length-tabulate, tabulate-at, tabulate-past, tabulate-ext}
 use Rattle.spectra.specs.Lanes.{nibble, bitOf, lanes, lane, nibbleWord, nibbleWords, wordAt, wordSums, laneNumbers, LeafAsks}
-use Rattle.spectra.specs.Spectrum.{inside, sumTo, subsetSum, reduce, coefficient, spectrum}
+use Rattle.spectra.specs.Spectrum.{inside, sumTo, subsetSum, coefficient, spectrum}
 use Rattle.spectra.specs.Transform.{entriesFrom, Most}
-use Rattle.spectra.specs.declared.Kind.{Kind}
 use Rattle.spectra.specs.declared.Kind.the-variants.{Mrm}
 use Rattle.spectra.proofs.Blocks.{subset-blocks, subset-plus, subset-times}
 use Rattle.spectra.proofs.Bounds.{coefficient-le, subset-ext, length-spectrum, spectrum-at}
@@ -299,15 +298,14 @@ module _ (a places : ℕ) (words s : List ℕ) (at k : ℕ) (asks : LeafAsks a p
         (λ r _. let l = subset-le (a + 2) k table (j / 4 * 4 + r) (λ m. entry-lt s (at + m)) (asks .polarity) in omega arith)
         ∙ ap (subsetSum (a + 2) k table) (div-add-mod' j 4)
 
-    lanes-spectrum : (kind : Kind) → laneNumbers kind (2 ^ (a + 2)) (wordSums a (k / 4) words s (at / 4)) ≡ spectrum kind (a + 2) k table
+    lanes-spectrum : laneNumbers (2 ^ (a + 2)) (wordSums a (k / 4) words s (at / 4)) ≡ spectrum Mrm (a + 2) k table
     unfolding spectrum coefficient
-    lanes-spectrum kind =
-        tabulate-ext (2 ^ (a + 2)) (λ j. reduce kind (lane (getD (wordSums a (k / 4) words s (at / 4)) (j / 4) 0) (j % 4)))
-        (λ j. reduce kind (subsetSum (a + 2) k table j)) (λ j h. ap (reduce kind) (lane-whole j h))
+    lanes-spectrum =
+        tabulate-ext (2 ^ (a + 2)) (λ j. lane (getD (wordSums a (k / 4) words s (at / 4)) (j / 4) 0) (j % 4)) (subsetSum (a + 2) k table) lane-whole
 
-    pub leaf-written : (kind : Kind) {sums out : List ℕ} → sums ≡ wordSums a (k / 4) words s (at / 4) → out ≡ laneNumbers kind (2 ^ (a + 2)) sums
-        → out ≡ spectrum kind (a + 2) k table
-    leaf-written kind es eo = eo ∙ ap (laneNumbers kind (2 ^ (a + 2))) es ∙ lanes-spectrum kind
+    pub leaf-written : {sums out : List ℕ} → sums ≡ wordSums a (k / 4) words s (at / 4) → out ≡ laneNumbers (2 ^ (a + 2)) sums
+        → out ≡ spectrum Mrm (a + 2) k table
+    leaf-written es eo = eo ∙ ap (laneNumbers (2 ^ (a + 2))) es ∙ lanes-spectrum
 
 pub eight-asked : (places : ℕ) (words s : List ℕ) (at k : ℕ) → LeafAsks 3 places words (length s) at k
     → (length words ≡ 16) × Most (2 ^ 60) words × (k / 4 < 8) × (at / 4 + 8 ≤ 2 * length s) × (at / 4 + 8 < 2 ^ 64)

@@ -8,7 +8,7 @@
 --   nibbleWords   these words, for each nibble
 --   wordAt        the word of nibble i of packed bytes
 --   wordSums      the MRM spectrum of a inputs whose entries are the words of nibbles
---   laneNumbers   the lanes of words, as the kind has them
+--   laneNumbers   the lanes of words, one after the other
 --   LeafAsks      what a leaf of a + 2 inputs asks for
 --   Ready         what the transform asks of the place and of the words
 use Prim.Native.Nat.{ℕ, _+_, _-_, _*_, _/_, _%_, _^_, _≤_, _<_}
@@ -16,8 +16,7 @@ use mathlib.Core.List.{List}
 use mathlib.Core.Path.{_≡_}
 use lib.ListN.{getD}
 use Rattle.bits.specs.Packed.{tabulate}
-use Rattle.spectra.specs.Spectrum.{subsetSum, reduce, spectrum}
-use Rattle.spectra.specs.declared.Kind.{Kind}
+use Rattle.spectra.specs.Spectrum.{subsetSum, spectrum}
 use Rattle.spectra.specs.declared.Kind.the-variants.{Mrm}
 
 unfoldable pub nibble : List ℕ → ℕ → ℕ
@@ -44,8 +43,8 @@ wordAt words s i = getD words (nibble s i) 0
 abbrev pub wordSums : ℕ → ℕ → List ℕ → List ℕ → ℕ → List ℕ
 wordSums a k words s at = spectrum Mrm a k (λ u. wordAt words s (at + u))
 
-abbrev pub laneNumbers : Kind → ℕ → List ℕ → List ℕ
-laneNumbers kind count sums = tabulate count (λ j. reduce kind (lane (getD sums (j / 4) 0) (j % 4)))
+abbrev pub laneNumbers : ℕ → List ℕ → List ℕ
+laneNumbers count sums = tabulate count (λ j. lane (getD sums (j / 4) 0) (j % 4))
 
 -- a leaf has the place and the words that the transform of three inputs or more asks for
 pub record LeafAsks (a places : ℕ) (words : List ℕ) (len at k : ℕ) : Type 0 where

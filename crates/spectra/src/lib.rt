@@ -7,8 +7,9 @@ ghost use Rattle.spectra.specs.Filling.{Counted, rowsFilled, spectraFill
 ghost use Rattle.spectra.specs.Lanes.{nibble, bitOf, nibbleWord, nibbleWords, wordAt, wordSums, laneNumbers, LeafAsks, Ready};
 ghost use Rattle.spectra.specs.Operations.{spectrumOf, undoneOf, rowsOf, jobSpectraOf, tableOk, at, sameNumbers};
 ghost use Rattle.spectra.specs.Packing.{parityAt, Closed, Packs, Lent};
-ghost use Rattle.spectra.specs.Spectrum.{spectrum, reduce, recovered};
-ghost use Rattle.spectra.specs.Transform.{entriesFrom, Most, combined};
+ghost use Rattle.spectra.specs.Spectrum.{spectrum, recovered};
+ghost use Rattle.spectra.specs.declared.Kind.the-variants.{Rm, Mrm};
+ghost use Rattle.spectra.specs.Transform.{entriesFrom, Most, combined, allReduced};
 ghost use Rattle.gates.specs.Form.{tableBytes};
 ghost use Rattle.gates.specs.Rows.{splice};
 ghost use Rattle.tables.specs.Operations.{tablesTold};
@@ -36,24 +37,14 @@ fn entry_at(table: &[u8], m: usize) -> u16
     (table[m / 8] as u16 >> (7 - m % 8)) % 2
 }
 
-// A sum of coefficients as the kind has it.
-fn reduced(sum: u16, kind: Kind) -> u16
-    ensures { λ r. ⌜ r ≡ reduce kind sum ⌝ }
-{
-    match kind {
-        Kind::Rm => sum % 2,
-        Kind::Mrm => sum,
-    }
-}
-
 // Combines the spectra of the two halves: the upper half becomes the sum of both. The numbers are small enough that their sums fit.
-fn combine(out: &mut [u16], half: usize, kind: Kind)
+fn combine(out: &mut [u16], half: usize)
     requires { ⌜ (half + half ≡ length (now out)) × Most (2 ^ 14) (now out) ⌝ }
-    ensures { λ r. ⌜ now (out .exit) ≡ combined kind half (take half (now (out .entry))) (drop half (now (out .entry))) ⌝ }
+    ensures { λ r. ⌜ now (out .exit) ≡ combined half (take half (now (out .entry))) (drop half (now (out .entry))) ⌝ }
 {
     let mut i = 0;
     while i < half {
-        out[half + i] = reduced(out[i] + out[half + i], kind);
+        out[half + i] = out[i] + out[half + i];
         i += 1;
     }
 }
@@ -135,76 +126,60 @@ fn eight_words(words: &[u64], table: &[u8], at: usize, k: usize) -> [u64; 8]
     ]
 }
 
-// Writes the lanes of words, as the kind has them.
-fn put_lanes(out: &mut [u16], sums: &[u64], count: usize, kind: Kind)
+// Writes the lanes of words.
+fn put_lanes(out: &mut [u16], sums: &[u64], count: usize)
     requires { ⌜ (length (now out) ≡ count) × (count ≡ length (now sums) * 4) × (count ≤ 32) ⌝ }
-    ensures { λ r. ⌜ now (out .exit) ≡ laneNumbers kind count (now (sums .entry)) ⌝ }
+    ensures { λ r. ⌜ now (out .exit) ≡ laneNumbers count (now (sums .entry)) ⌝ }
 {
     let mut j = 0;
     while j < count {
-        out[j] = reduced(((sums[j / 4] >> (16 * (j % 4))) % 65536) as u16, kind);
+        out[j] = ((sums[j / 4] >> (16 * (j % 4))) % 65536) as u16;
         j += 1;
     }
 }
 
-// The spectrum of three inputs, from the words of its two nibbles.
-fn leaf(out: &mut [u16], words: &[u64], table: &[u8], at: usize, k: usize, kind: Kind)
+// The MRM spectrum of three inputs, from the words of its two nibbles.
+fn leaf(out: &mut [u16], words: &[u64], table: &[u8], at: usize, k: usize)
     requires { ⌜ LeafAsks 1 (length (now out)) (now words) (length (now table)) at k ⌝ }
-    ensures { λ r. ⌜ now (out .exit) ≡ spectrum kind 3 k (entriesFrom (now (table .entry)) at) ⌝ }
+    ensures { λ r. ⌜ now (out .exit) ≡ spectrum Mrm 3 k (entriesFrom (now (table .entry)) at) ⌝ }
 {
     let w0 = word_at(words, table, at / 4 + k / 4);
     let w1 = word_at(words, table, at / 4 + (1 ^ (k / 4)));
     let sums = [w0, w0 + w1];
-    put_lanes(out, &sums, 8, kind);
+    put_lanes(out, &sums, 8);
 }
 
-// The spectrum of five inputs, from the words of its eight nibbles.
-fn wide_leaf(out: &mut [u16], words: &[u64], table: &[u8], at: usize, k: usize, kind: Kind)
+// The MRM spectrum of five inputs, from the words of its eight nibbles.
+fn wide_leaf(out: &mut [u16], words: &[u64], table: &[u8], at: usize, k: usize)
     requires { ⌜ LeafAsks 3 (length (now out)) (now words) (length (now table)) at k ⌝ }
-    ensures { λ r. ⌜ now (out .exit) ≡ spectrum kind 5 k (entriesFrom (now (table .entry)) at) ⌝ }
+    ensures { λ r. ⌜ now (out .exit) ≡ spectrum Mrm 5 k (entriesFrom (now (table .entry)) at) ⌝ }
 {
     let sums = eight_words(words, table, at / 4, k / 4);
-    put_lanes(out, &sums, 32, kind);
+    put_lanes(out, &sums, 32);
 }
 
-// The spectrum of the 2 to the power n entries from `at` on. "The spectrum of n inputs is combined from those of its two halves; the
+// The MRM spectrum of the 2 to the power n entries from `at` on. "The spectrum of n inputs is combined from those of its two halves; the
 // halves change places where the top bit of k is 1."
-fn transform(
-    out: &mut [u16],
-    words: &[u64],
-    table: &[u8],
-    at: usize,
-    n: usize,
-    k: usize,
-    kind: Kind,
-)
+fn transform(out: &mut [u16], words: &[u64], table: &[u8], at: usize, n: usize, k: usize)
     requires { ⌜ (n ≤ 15) × (length (now out) ≡ 2 ^ n) × (k < 2 ^ n) × (at + 2 ^ n ≤ 8 * length (now table)) × (at + 2 ^ n < 2 ^ 64) × Ready n at k (now words) ⌝ }
-    ensures { λ r. ⌜ now (out .exit) ≡ spectrum kind n k (entriesFrom (now (table .entry)) at) ⌝ }
+    ensures { λ r. ⌜ now (out .exit) ≡ spectrum Mrm n k (entriesFrom (now (table .entry)) at) ⌝ }
 {
     if n == 0 {
         out[0] = entry_at(table, at);
         return;
     }
     if n == 3 {
-        leaf(out, words, table, at, k, kind);
+        leaf(out, words, table, at, k);
         return;
     }
     if n == 5 {
-        wide_leaf(out, words, table, at, k, kind);
+        wide_leaf(out, words, table, at, k);
         return;
     }
     let half = gates::places(n - 1);
     let top = k / half;
     let rest = k % half;
-    transform(
-        &mut out[..half],
-        words,
-        table,
-        at + top * half,
-        n - 1,
-        rest,
-        kind,
-    );
+    transform(&mut out[..half], words, table, at + top * half, n - 1, rest);
     transform(
         &mut out[half..],
         words,
@@ -212,9 +187,31 @@ fn transform(
         at + (1 - top) * half,
         n - 1,
         rest,
-        kind,
     );
-    combine(out, half, kind);
+    combine(out, half);
+}
+
+// "The Reed-Muller (RM) coefficient is that sum modulo 2."
+fn parities(sums: &mut [u16])
+    ensures { λ r. ⌜ now (sums .exit) ≡ allReduced Rm (now (sums .entry)) ⌝ }
+{
+    let mut j = 0;
+    while j < sums.len() {
+        sums[j] = sums[j] % 2;
+        j += 1;
+    }
+}
+
+// The spectrum of one table. Its sums come first, and the kind is a matter of the whole row.
+fn transform_row(out: &mut [u16], words: &[u64], table: &[u8], n: usize, k: usize, kind: Kind)
+    requires { ⌜ (n ≤ 15) × (length (now out) ≡ 2 ^ n) × (k < 2 ^ n) × (2 ^ n ≤ 8 * length (now table)) × (now words ≡ nibbleWords (k % 4)) ⌝ }
+    ensures { λ r. ⌜ now (out .exit) ≡ spectrum kind n k (entriesFrom (now (table .entry)) 0) ⌝ }
+{
+    transform(out, words, table, 0, n, k);
+    match kind {
+        Kind::Rm => parities(out),
+        Kind::Mrm => {}
+    }
 }
 
 // The spectra of tables that stand row after row, with the words of the polarity.
@@ -234,11 +231,10 @@ fn transform_rows(
     let bytes = gates::table_bytes(n);
     let mut r = 0;
     while r < rows {
-        transform(
+        transform_row(
             &mut work[r * size..r * size + size],
             words,
             &tables[r * bytes..r * bytes + bytes],
-            0,
             n,
             k,
             kind,
