@@ -101,13 +101,15 @@ times-le x h l = subst (λ (y : ℕ). x * h ≤ y) (one-mul h) (mul-le-mul-right
 pub ready-start : (n k : ℕ) {words : List ℕ} → words ≡ nibbleWords (k % 4) → Ready n 0 k words
 ready-start n k e three = (refl, e)
 
--- a half of a multiple of 4 begins at one, and its polarity has the same two lowest bits
+-- a half of a multiple of 8 begins at one, and its polarity has the same two lowest bits
 ready-half : (words : List ℕ) (at n k h x : ℕ) → h ≡ 2 ^ (n - 1) → Ready n at k words → Ready (n - 1) (at + x * h) (k % h) words
 ready-half words at n k h x e ready three =
     let w = ready (omega arith) in
     let up : n - 1 ≡ (n - 3) + 2 = omega arith in
     let fours : h ≡ 2 ^ ((n - 3) + 2) = e ∙ ap (λ (y : ℕ). 2 ^ y) up in
-    let place : x * h ≡ x * 2 ^ (n - 3) * 4 = ap (λ (y : ℕ). x * y) (fours ∙ pow-add 2 (n - 3) 2) ∙ sym (mul-assoc x (2 ^ (n - 3)) 4) in
+    let over : n - 1 ≡ (n - 4) + 3 = omega arith in
+    let eights : h ≡ 2 ^ ((n - 4) + 3) = e ∙ ap (λ (y : ℕ). 2 ^ y) over in
+    let place : x * h ≡ x * 2 ^ (n - 4) * 8 = ap (λ (y : ℕ). x * y) (eights ∙ pow-add 2 (n - 4) 3) ∙ sym (mul-assoc x (2 ^ (n - 4)) 8) in
     (omega (arith, w .0), w .1 ∙ ap nibbleWords (sym (ap (λ (y : ℕ). k % y % 4) fours ∙ mod-mod-pow k (n - 3) 2)))
 
 module _ {out words : List ℕ} {len at n k h : ℕ} (p : Parted out words len at n k h) where
@@ -277,6 +279,6 @@ module _ (out words : List ℕ) (len at n k : ℕ) (asks : Asks (length out) wor
         polarity = omega (arith, asks .2);
         within = omega (arith, asks .3);
         fits = omega (arith, asks .4);
-        fours = w .0;
+        eights = w .0;
         worded = w .1;
       }

@@ -6,6 +6,7 @@
 --   lane          number r of a word
 --   nibbleWord    the word of the subset sums of a nibble's four entries in a polarity
 --   nibbleWords   these words, for each nibble
+--   wordIn        the word of the nibble that a shift leaves of a byte
 --   wordAt        the word of nibble i of packed bytes
 --   wordSums      the MRM spectrum of a inputs whose entries are the words of nibbles
 --   laneNumbers   the lanes of words, one after the other
@@ -37,8 +38,11 @@ nibbleWord k v = lanes (subsetSum 2 k (bitOf v))
 unfoldable pub nibbleWords : ℕ → List ℕ
 nibbleWords k = tabulate 16 (nibbleWord k)
 
-unfoldable pub wordAt : List ℕ → List ℕ → ℕ → ℕ
-wordAt words s i = getD words (nibble s i) 0
+unfoldable pub wordIn : List ℕ → List ℕ → ℕ → ℕ → ℕ
+wordIn words s byte shift = getD words (getD s byte 0 / 2 ^ shift % 16) 0
+
+abbrev pub wordAt : List ℕ → List ℕ → ℕ → ℕ
+wordAt words s i = wordIn words s (i / 2) (4 - 4 * (i % 2))
 
 abbrev pub wordSums : ℕ → ℕ → List ℕ → List ℕ → ℕ → List ℕ
 wordSums a k words s at = spectrum Mrm a k (λ u. wordAt words s (at + u))
@@ -52,9 +56,9 @@ pub record LeafAsks (a places : ℕ) (words : List ℕ) (len at k : ℕ) : Type 
   pub polarity : k < 2 ^ (a + 2)
   pub within : at + 2 ^ (a + 2) ≤ 8 * len
   pub fits : at + 2 ^ (a + 2) < 2 ^ 64
-  pub fours : at % 4 ≡ 0
+  pub eights : at % 8 ≡ 0
   pub worded : words ≡ nibbleWords (k % 4)
 
--- a place that is a multiple of 4, and the words for the polarity's two lowest bits
+-- a place that is a multiple of 8, and the words for the polarity's two lowest bits
 abbrev pub Ready : ℕ → ℕ → ℕ → List ℕ → Type 0
-Ready n at k words = 3 ≤ n → (at % 4 ≡ 0) × (words ≡ nibbleWords (k % 4))
+Ready n at k words = 3 ≤ n → (at % 8 ≡ 0) × (words ≡ nibbleWords (k % 4))

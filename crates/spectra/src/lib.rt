@@ -4,7 +4,7 @@ ghost use Rattle.bits.specs.Answer.{outcome, leaves};
 ghost use Rattle.bits.specs.Bits.{valueFrom};
 ghost use Rattle.bits.specs.Packed.{entry, packed, tabulate};
 ghost use Rattle.spectra.specs.Filling.{Counted, rowsFilled, spectraFilled, rowsFit};
-ghost use Rattle.spectra.specs.Lanes.{nibble, bitOf, nibbleWord, nibbleWords, wordAt, wordSums, laneNumbers, LeafAsks, Ready};
+ghost use Rattle.spectra.specs.Lanes.{bitOf, nibbleWord, nibbleWords, wordIn, wordAt, wordSums, laneNumbers, LeafAsks, Ready};
 ghost use Rattle.spectra.specs.Operations.{spectrumOf, undoneOf, rowsOf, jobSpectraOf, tableOk, at, sameNumbers};
 ghost use Rattle.spectra.specs.Packing.{parityAt, Closed, Packs, Lent};
 ghost use Rattle.spectra.specs.Spectrum.{spectrum, recovered};
@@ -49,14 +49,6 @@ fn combine(out: &mut [u16], half: usize)
     }
 }
 
-// Four entries from entry 4 i on as a number, the first its highest bit.
-fn nibble_at(table: &[u8], i: usize) -> usize
-    requires { ⌜ i < 2 * length (now table) ⌝ }
-    ensures { λ r. ⌜ r ≡ nibble (now (table .entry)) i ⌝ }
-{
-    (table[i / 2] as usize >> (4 - 4 * (i % 2))) % 16
-}
-
 // Entry t of a nibble.
 fn bit_of(nibble: usize, t: usize) -> u64
     requires { ⌜ t < 4 ⌝ }
@@ -93,27 +85,42 @@ fn fill_words(words: &mut [u64], k: usize)
     }
 }
 
-// The word of the nibble at i.
+// The word of the nibble that the shift leaves of a byte.
+fn word_in(words: &[u64], table: &[u8], byte: usize, shift: usize) -> u64
+    requires { ⌜ (length (now words) ≡ 16) × (byte < length (now table)) × (shift ≤ 4) ⌝ }
+    ensures { λ r. ⌜ r ≡ wordIn (now (words .entry)) (now (table .entry)) byte shift ⌝ }
+{
+    words[(table[byte] as usize >> shift) % 16]
+}
+
+// The word of the nibble at i, which has entries 4 i to 4 i + 3.
 fn word_at(words: &[u64], table: &[u8], i: usize) -> u64
     requires { ⌜ (length (now words) ≡ 16) × (i < 2 * length (now table)) ⌝ }
     ensures { λ r. ⌜ r ≡ wordAt (now (words .entry)) (now (table .entry)) i ⌝ }
 {
-    words[nibble_at(table, i)]
+    word_in(words, table, i / 2, 4 - 4 * (i % 2))
 }
 
-// The sums of eight words, as the spectrum of three inputs has them.
+// The sums of eight words, as the spectrum of three inputs has them. The nibbles are two of each of four bytes: the lowest bit of k says which
+// of a byte comes first.
 fn eight_words(words: &[u64], table: &[u8], at: usize, k: usize) -> [u64; 8]
-    requires { ⌜ (length (now words) ≡ 16) × Most (2 ^ 60) (now words) × (k < 8) × (at + 8 ≤ 2 * length (now table)) × (at + 8 < 2 ^ 64) ⌝ }
+    requires { ⌜ (length (now words) ≡ 16) × Most (2 ^ 60) (now words) × (k < 8) × (at + 8 ≤ 2 * length (now table)) × (at + 8 < 2 ^ 64) × (at % 2 ≡ 0) ⌝ }
     ensures { λ r. ⌜ r ≡ wordSums 3 k (now (words .entry)) (now (table .entry)) at ⌝ }
 {
-    let w0 = word_at(words, table, at + k);
-    let w1 = word_at(words, table, at + (1 ^ k));
-    let w2 = word_at(words, table, at + (2 ^ k));
-    let w3 = word_at(words, table, at + (3 ^ k));
-    let w4 = word_at(words, table, at + (4 ^ k));
-    let w5 = word_at(words, table, at + (5 ^ k));
-    let w6 = word_at(words, table, at + (6 ^ k));
-    let w7 = word_at(words, table, at + (7 ^ k));
+    let first = 4 - 4 * (k % 2);
+    let second = 4 * (k % 2);
+    let b0 = at / 2 + k / 2;
+    let b1 = at / 2 + (1 ^ (k / 2));
+    let b2 = at / 2 + (2 ^ (k / 2));
+    let b3 = at / 2 + (3 ^ (k / 2));
+    let w0 = word_in(words, table, b0, first);
+    let w1 = word_in(words, table, b0, second);
+    let w2 = word_in(words, table, b1, first);
+    let w3 = word_in(words, table, b1, second);
+    let w4 = word_in(words, table, b2, first);
+    let w5 = word_in(words, table, b2, second);
+    let w6 = word_in(words, table, b3, first);
+    let w7 = word_in(words, table, b3, second);
     [
         w0,
         w0 + w1,

@@ -23,7 +23,7 @@ word-at-requires-2 : tie.Need-word-at-requires-2
 word-at-requires-2 c κs = let a = c .before .before .before .before .args in nibble-asked 1 (length (now (a .out))) (now (a .words)) (now (a .table)) (a .at) (a .k) (c .before .before .before .before .pre) 1 (lit< tt)
 
 add-t13 : tie.Need-add-t13
-add-t13 c = let a = c .before .before .before .before .before .args in let m = table-words 1 (length (now (a .out))) (now (a .words)) (now (a .table)) (a .at) (a .k) (c .before .before .before .before .before .pre) .1 in words-2 (word-small _ _ _ m (c .before .word-at .ensures)) (word-small _ _ _ m (c .word-at2 .ensures))
+add-t13 c = let a = c .before .before .before .before .before .args in let m = table-words 1 (length (now (a .out))) (now (a .words)) (now (a .table)) (a .at) (a .k) (c .before .before .before .before .before .pre) .1 in words-2 (word-small _ _ _ _ m (c .before .word-at .ensures)) (word-small _ _ _ _ m (c .word-at2 .ensures))
 
 slice-aggregate-put-lanes : tie.Need-slice-aggregate-put-lanes
 slice-aggregate-put-lanes c = refl
