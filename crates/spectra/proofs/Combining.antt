@@ -18,9 +18,7 @@ use Rattle.bits.specs.Packed.{tabulate}
 use Rattle.bits.proofs.Packed.{length-tabulate}
 use Rattle.gates.specs.Rows.{splice}
 use Rattle.gates.proofs.Splice.{Written, written-none, written-more, written-before, written-all}
-use Rattle.spectra.specs.Spectrum.{reduce}
 use Rattle.spectra.specs.Transform.{Most, combined}
-use Rattle.spectra.specs.declared.Kind.{Kind}
 
 splice-after : (rows : List ℕ) (to : ℕ) (new : List ℕ) (j : ℕ) → to ≤ length rows → to + length new ≤ j → getD (splice rows to new) j 0 ≡ getD rows j 0
 splice-after rows to new j h l =
@@ -39,17 +37,17 @@ written-after {start} {to} {count} {f} {rows} {i} w j l =
     ∙ splice-after start to (tabulate i f) j (omega (arith, w .room)) (rw length-tabulate l)
 
 -- the sum that belongs into the upper half
-abbrev sumAt : Kind → ℕ → List ℕ → ℕ → ℕ
-sumAt kind half start n = reduce kind (getD (take half start) n 0 + getD (drop half start) n 0)
+abbrev sumAt : ℕ → List ℕ → ℕ → ℕ
+sumAt half start n = getD (take half start) n 0 + getD (drop half start) n 0
 
-abbrev pub Combining : Kind → ℕ → List ℕ → List ℕ → ℕ → Type 0
-Combining kind half start out i = Written start half half (λ n. reduce kind (getD (take half start) n 0 + getD (drop half start) n 0)) out i
+abbrev pub Combining : ℕ → List ℕ → List ℕ → ℕ → Type 0
+Combining half start out i = Written start half half (λ n. getD (take half start) n 0 + getD (drop half start) n 0) out i
 
-module _ (kind : Kind) {half : ℕ} {start : List ℕ} where
-  pub combining-none : half + half ≡ length start → Combining kind half start start 0
+module _ {half : ℕ} {start : List ℕ} where
+  pub combining-none : half + half ≡ length start → Combining half start start 0
   combining-none e = written-none (omega arith)
 
-  module _ {out : List ℕ} {i : ℕ} (w : Combining kind half start out i) (h : i < half) where
+  module _ {out : List ℕ} {i : ℕ} (w : Combining half start out i) (h : i < half) where
     lower : getD out i 0 ≡ getD (take half start) i 0
     lower = written-before w i h ∙ sym (getD-take half start i 0 h)
 
@@ -62,13 +60,13 @@ module _ (kind : Kind) {half : ℕ} {start : List ℕ} where
         let b : getD out (half + i) 0 ≡ getD start (half + i) 0 = written-after w (half + i) (omega arith) in
         omega (arith, small i, small (half + i))
 
-    pub combining-more : (v : ℕ) → v ≡ reduce kind (getD out i 0 + getD out (half + i) 0) → Combining kind half start (set out (half + i) v) (i + 1)
-    combining-more v e = written-more w v h (e ∙ ap₂ (λ (x y : ℕ). reduce kind (x + y)) lower upper)
+    pub combining-more : Combining half start (set out (half + i) (getD out i 0 + getD out (half + i) 0)) (i + 1)
+    combining-more = written-more w (getD out i 0 + getD out (half + i) 0) h (ap₂ _+_ lower upper)
 
-  pub combining-all : {out : List ℕ} {i : ℕ} → Combining kind half start out i → half + half ≡ length start → half ≤ i
-      → out ≡ combined kind half (take half start) (drop half start)
+  pub combining-all : {out : List ℕ} {i : ℕ} → Combining half start out i → half + half ≡ length start → half ≤ i
+      → out ≡ combined half (take half start) (drop half start)
   combining-all w e h =
       written-all w h
-      ∙ ap (λ (l : List ℕ). take half start ++ tabulate half (sumAt kind half start) ++ l)
-      (drop-of-length-le start {i = half + length (tabulate half (sumAt kind half start))} (rw length-tabulate (omega arith)))
-      ∙ append-nil (take half start ++ tabulate half (sumAt kind half start))
+      ∙ ap (λ (l : List ℕ). take half start ++ tabulate half (sumAt half start) ++ l)
+      (drop-of-length-le start {i = half + length (tabulate half (sumAt half start))} (rw length-tabulate (omega arith)))
+      ∙ append-nil (take half start ++ tabulate half (sumAt half start))

@@ -1,32 +1,76 @@
 -- The MRM spectra of one and of three inputs, from their entries (specs/Spectrum.antt).
 --
---   entry-inside    a place that differs from k in its three lowest bits lies within the table
---   place-fits      such a place fits a usize
+--   byte-inside     the byte of two of eight nibbles lies within the table
+--   byte-fits       its place fits a usize
+--   first-le, second-le, second-fits   the two shifts are at most 4
+--   word-first, word-second   the words of a byte's two nibbles, in the order that the lowest bit of k gives
 --   two-added       an entry and the sum of both are the spectrum of one input
 --   eight-added     eight sums are the spectrum of three inputs
-use Prim.Native.Nat.{ℕ, _+_, _^_, _≤_, _<_}
+use Prim.Native.Nat.{ℕ, zero, suc, _+_, _-_, _*_, _/_, _%_, _^_, _≤_, _<_}
+use native.Mathlib.Nat.{mod-lt}
 use native.Mathlib.Omega.{arith}
-use mathlib.Core.Path.{_≡_, refl, sym, ap, _∙_}
+use mathlib.Core.Path.{_≡_, refl, sym, ap, ap₂, _∙_}
 use mathlib.Core.Bool.{cond}
 use mathlib.Core.List.{List, [], _∷_}
-use lib.Bits.{bitXor, xor-lt, xor-zero-l}
+use lib.Bits.{bitXor, xor-lt, xor-zero-l, xor-shr, xor-mod}
+use lib.Dec.{lit<}
 use mir.Syntax.{w64}
 use mir.Val.{Fits}
 use Rattle.bits.specs.Packed.{tabulate}
+use Rattle.spectra.specs.Lanes.{wordIn, wordAt}
 use Rattle.spectra.specs.Spectrum.{inside, sumTo, subsetSum, coefficient, spectrum}
 use Rattle.spectra.specs.declared.Kind.the-variants.{Mrm}
 
-pub entry-inside : (at k t size : ℕ) → k < 8 → t < 8 → at + 8 ≤ size → at + bitXor t k < size
-entry-inside at k t size hk ht h = below (bitXor t k) (xor-lt 3 t k ht hk)
-  where
-    below : (x : ℕ) → x < 8 → at + x < size
-    below x l = omega arith
+module _ (at k p : ℕ) (hk : k < 8) (hp : p < 4) where
+  byte-lt : bitXor p (k / 2) < 4
+  byte-lt = xor-lt 2 p (k / 2) hp (omega arith)
 
-pub place-fits : (at k t : ℕ) → k < 8 → t < 8 → at + 8 < 2 ^ 64 → Fits w64 (at + bitXor t k)
-place-fits at k t hk ht h = below (bitXor t k) (xor-lt 3 t k ht hk)
-  where
-    below : (x : ℕ) → x < 8 → Fits w64 (at + x)
-    below x l = omega arith
+  pub byte-inside : (len : ℕ) → at + 8 ≤ 2 * len → at / 2 + bitXor p (k / 2) < len
+  byte-inside len h = let l = byte-lt in omega arith
+
+  pub byte-fits : at + 8 < 2 ^ 64 → Fits w64 (at / 2 + bitXor p (k / 2))
+  byte-fits h = let l = byte-lt in omega arith
+
+module _ (k : ℕ) where
+  pub first-le : 4 - 4 * (k % 2) ≤ 4
+  first-le = omega arith
+
+  pub second-le : 4 * (k % 2) ≤ 4
+  second-le = omega arith
+
+  pub second-fits : Fits w64 (4 * (k % 2))
+  second-fits = omega arith
+
+-- the nibble at a place that is even and u more
+place-even : (words s : List ℕ) (at u : ℕ) → at % 2 ≡ 0 → wordAt words s (at + u) ≡ wordIn words s (at / 2 + u / 2) (4 - 4 * (u % 2))
+place-even words s at u h =
+    let byte : (at + u) / 2 ≡ at / 2 + u / 2 = omega arith in
+    let bit : (at + u) % 2 ≡ u % 2 = omega arith in
+    ap₂ (λ (x y : ℕ). wordIn words s x (4 - 4 * y)) byte bit
+
+bit-flip : (b : ℕ) → b < 2 → 4 - 4 * bitXor 1 b ≡ 4 * b
+bit-flip zero h = refl
+bit-flip (suc zero) h = refl
+bit-flip (suc (suc b)) h = absurd (omega arith)
+
+module _ (words s : List ℕ) (at k p : ℕ) (h : at % 2 ≡ 0) where
+  pub word-first : wordIn words s (at / 2 + bitXor p (k / 2)) (4 - 4 * (k % 2)) ≡ wordAt words s (at + bitXor (p * 2) k)
+  word-first =
+      let half : p * 2 / 2 ≡ p = omega arith in
+      let even : p * 2 % 2 ≡ 0 = omega arith in
+      sym (place-even words s at (bitXor (p * 2) k) h
+      ∙ ap₂ (λ (x y : ℕ). wordIn words s (at / 2 + x) (4 - 4 * y))
+      (xor-shr (p * 2) k 1 ∙ ap (λ (x : ℕ). bitXor x (k / 2)) half)
+      (xor-mod (p * 2) k 1 ∙ ap (λ (x : ℕ). bitXor x (k % 2)) even))
+
+  pub word-second : wordIn words s (at / 2 + bitXor p (k / 2)) (4 * (k % 2)) ≡ wordAt words s (at + bitXor (p * 2 + 1) k)
+  word-second =
+      let half : (p * 2 + 1) / 2 ≡ p = omega arith in
+      let odd : (p * 2 + 1) % 2 ≡ 1 = omega arith in
+      sym (place-even words s at (bitXor (p * 2 + 1) k) h
+      ∙ ap₂ (λ (x y : ℕ). wordIn words s (at / 2 + x) y)
+      (xor-shr (p * 2 + 1) k 1 ∙ ap (λ (x : ℕ). bitXor x (k / 2)) half)
+      (ap (λ (y : ℕ). 4 - 4 * y) (xor-mod (p * 2 + 1) k 1 ∙ ap (λ (x : ℕ). bitXor x (k % 2)) odd) ∙ bit-flip (k % 2) (mod-lt k (lit< tt))))
 
 -- the sum of the numbers of a function at the t inside j
 abbrev partSum : ℕ → (ℕ → ℕ) → ℕ → ℕ

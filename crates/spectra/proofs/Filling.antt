@@ -1,4 +1,4 @@
--- The loop that fills memory with the spectra of tables, row after row (the function `fill_rows`).
+-- The loop that fills memory with the spectra of tables, row after row (the function `transform_rows`).
 --
 --   length-rowSpectra   the spectra of r rows have r * 2 ^ n numbers
 --   row-within          row r of rows that lie within a list lies within it
@@ -13,6 +13,7 @@
 --   filling-place       the same in the size that the code has
 --   filling-part        the part of the memory that is lent has 2 ^ n places
 --   row-ready           the row that is lent has the entries of a table
+--   from-start          so it has those from entry 0 on
 --   size-fits           the entries of a table fit a usize
 --   filling-next        one spectrum more is put
 --   filling-lent        the same, as the part and the row are lent
@@ -59,10 +60,13 @@ pub row-part : (n : ℕ) {bytes : ℕ} (s : List ℕ) (r : ℕ) → bytes ≡ ta
 row-part n {bytes} s r e = ap (λ (x : ℕ). take x (drop (r * bytes) s)) (cut (r * bytes) bytes) ∙ ap (λ (x : ℕ). take x (drop (r * x) s)) e
 
 pub row-ready : (n : ℕ) {bytes r rows : ℕ} (s : List ℕ) → bytes ≡ tableBytes n → r < rows → rows * tableBytes n ≤ length s
-    → 0 + 2 ^ n ≤ 8 * length (take (r * bytes + bytes - r * bytes) (drop (r * bytes) s))
+    → 2 ^ n ≤ 8 * length (take (r * bytes + bytes - r * bytes) (drop (r * bytes) s))
 row-ready n {bytes} {r} {rows} s e h fits =
     let l : length (take (r * bytes + bytes - r * bytes) (drop (r * bytes) s)) ≡ bytes = length-part (r * bytes) bytes s (row-place e h fits) in
     rw (l, e) (omega arith)
+
+pub from-start : {x y : ℕ} → x ≤ y → 0 + x ≤ y
+from-start {x} {y} h = subst (λ (z : ℕ). z ≤ y) (sym (zero-add x)) h
 
 pub size-fits : {n : ℕ} → n ≤ 15 → 0 + 2 ^ n < 2 ^ 64
 size-fits {n} h = let p : 2 ^ n ≤ 2 ^ 15 = pow-mono h in omega arith

@@ -14,7 +14,7 @@
 --   words-2 .. words-8   a sum of two to eight words fits a u64
 --   table-words      the words that a leaf has are sixteen, and small
 --   nibble-fits, nibble-asked   what looking up the word of a nibble of the leaf asks
---   leaf-written     the lanes of the sums of a leaf's words are its spectrum
+--   leaf-written     the lanes of the sums of a leaf's words are its MRM spectrum
 --   eight-asked      what the sums of eight words ask for
 --   length-wordSums  how many they are
 use Prim.Native.Nat.{ℕ, zero, suc, _+_, _-_, _*_, _/_, _%_, _^_, _≤_, _<_}
@@ -34,10 +34,9 @@ use Rattle.bits.specs.Packed.{entry}
 use Rattle.bits.proofs.Below.{lt-or-ge}
 use Rattle.bits.proofs.Digits.{digit-above}
 use Rattle.bits.proofs.Packed.{entry-lt, length-tabulate, tabulate-at, tabulate-past, tabulate-ext}
-use Rattle.spectra.specs.Lanes.{nibble, bitOf, lanes, lane, nibbleWord, nibbleWords, wordAt, wordSums, laneNumbers, LeafAsks}
-use Rattle.spectra.specs.Spectrum.{inside, sumTo, subsetSum, reduce, coefficient, spectrum}
+use Rattle.spectra.specs.Lanes.{nibble, bitOf, lanes, lane, nibbleWord, nibbleWords, wordIn, wordAt, wordSums, laneNumbers, LeafAsks}
+use Rattle.spectra.specs.Spectrum.{inside, sumTo, subsetSum, coefficient, spectrum}
 use Rattle.spectra.specs.Transform.{entriesFrom, Most}
-use Rattle.spectra.specs.declared.Kind.{Kind}
 use Rattle.spectra.specs.declared.Kind.the-variants.{Mrm}
 use Rattle.spectra.proofs.Blocks.{subset-blocks, subset-plus, subset-times}
 use Rattle.spectra.proofs.Bounds.{coefficient-le, subset-ext, length-spectrum, spectrum-at}
@@ -140,7 +139,7 @@ module _ (words : List ℕ) (c : ℕ) (e : words ≡ nibbleWords c) (hc : c < 4)
       (lt-or-ge v 16)
 
   pub word-entries : (s : List ℕ) (i : ℕ) → wordAt words s i ≡ lanes (subsetSum 2 c (λ t. entry s (i * 4 + t)))
-  unfolding wordAt nibbleWord
+  unfolding wordIn nibble nibbleWord
   word-entries s i =
       words-at (nibble s i) (nibble-lt s i)
       ∙ lanes-ext (subsetSum 2 c (bitOf (nibble s i))) (subsetSum 2 c (λ t. entry s (i * 4 + t)))
@@ -205,9 +204,9 @@ module _ {a b c d : ℕ} (ha : a < 2) (hb : b < 2) (hc : c < 2) (hd : d < 2) whe
 
 -- ---- sums of words
 
-pub word-small : {x : ℕ} (words s : List ℕ) (i : ℕ) → Most (2 ^ 60) words → x ≡ wordAt words s i → x ≤ 2 ^ 60
-unfolding wordAt
-word-small words s i most e = rw e (most (nibble s i))
+pub word-small : {x : ℕ} (words s : List ℕ) (byte shift : ℕ) → Most (2 ^ 60) words → x ≡ wordIn words s byte shift → x ≤ 2 ^ 60
+unfolding wordIn
+word-small words s byte shift most e = rw e (most (getD s byte 0 / 2 ^ shift % 16))
 
 -- so many words, summed from the left
 module _ {a b : ℕ} (ha : a ≤ 2 ^ 60) (hb : b ≤ 2 ^ 60) where
@@ -239,7 +238,7 @@ module _ {a b : ℕ} (ha : a ≤ 2 ^ 60) (hb : b ≤ 2 ^ 60) where
 
 -- ---- the spectrum of a + 2 inputs
 
-place-four : (at u t : ℕ) → at % 4 ≡ 0 → (at / 4 + u) * 4 + t ≡ at + (u * 4 + t)
+place-four : (at u t : ℕ) → at % 8 ≡ 0 → (at / 4 + u) * 4 + t ≡ at + (u * 4 + t)
 place-four at u t h = omega arith
 
 module _ (a places : ℕ) (words s : List ℕ) (at k : ℕ) (asks : LeafAsks a places words (length s) at k) where
@@ -274,7 +273,7 @@ module _ (a places : ℕ) (words s : List ℕ) (at k : ℕ) (asks : LeafAsks a p
       word-entries words (k % 4) (asks .worded) low-lt s (at / 4 + u)
       ∙ lanes-ext (subsetSum 2 (k % 4) (λ t. entry s ((at / 4 + u) * 4 + t))) (four-sum u)
       (λ r _. subset-ext 2 (k % 4) (λ t. entry s ((at / 4 + u) * 4 + t)) (λ t. table (u * 4 + t)) r low-lt
-      (λ t _. ap (entry s) (place-four at u t (asks .fours))))
+      (λ t _. ap (entry s) (place-four at u t (asks .eights))))
 
   sum-whole : (i r : ℕ) → r < 4 → subsetSum a (k / 4) (λ u. four-sum u r) i ≡ subsetSum (a + 2) k table (i * 4 + r)
   sum-whole i r hr =
@@ -299,21 +298,20 @@ module _ (a places : ℕ) (words s : List ℕ) (at k : ℕ) (asks : LeafAsks a p
         (λ r _. let l = subset-le (a + 2) k table (j / 4 * 4 + r) (λ m. entry-lt s (at + m)) (asks .polarity) in omega arith)
         ∙ ap (subsetSum (a + 2) k table) (div-add-mod' j 4)
 
-    lanes-spectrum : (kind : Kind) → laneNumbers kind (2 ^ (a + 2)) (wordSums a (k / 4) words s (at / 4)) ≡ spectrum kind (a + 2) k table
+    lanes-spectrum : laneNumbers (2 ^ (a + 2)) (wordSums a (k / 4) words s (at / 4)) ≡ spectrum Mrm (a + 2) k table
     unfolding spectrum coefficient
-    lanes-spectrum kind =
-        tabulate-ext (2 ^ (a + 2)) (λ j. reduce kind (lane (getD (wordSums a (k / 4) words s (at / 4)) (j / 4) 0) (j % 4)))
-        (λ j. reduce kind (subsetSum (a + 2) k table j)) (λ j h. ap (reduce kind) (lane-whole j h))
+    lanes-spectrum =
+        tabulate-ext (2 ^ (a + 2)) (λ j. lane (getD (wordSums a (k / 4) words s (at / 4)) (j / 4) 0) (j % 4)) (subsetSum (a + 2) k table) lane-whole
 
-    pub leaf-written : (kind : Kind) {sums out : List ℕ} → sums ≡ wordSums a (k / 4) words s (at / 4) → out ≡ laneNumbers kind (2 ^ (a + 2)) sums
-        → out ≡ spectrum kind (a + 2) k table
-    leaf-written kind es eo = eo ∙ ap (laneNumbers kind (2 ^ (a + 2))) es ∙ lanes-spectrum kind
+    pub leaf-written : {sums out : List ℕ} → sums ≡ wordSums a (k / 4) words s (at / 4) → out ≡ laneNumbers (2 ^ (a + 2)) sums
+        → out ≡ spectrum Mrm (a + 2) k table
+    leaf-written es eo = eo ∙ ap (laneNumbers (2 ^ (a + 2))) es ∙ lanes-spectrum
 
 pub eight-asked : (places : ℕ) (words s : List ℕ) (at k : ℕ) → LeafAsks 3 places words (length s) at k
-    → (length words ≡ 16) × Most (2 ^ 60) words × (k / 4 < 8) × (at / 4 + 8 ≤ 2 * length s) × (at / 4 + 8 < 2 ^ 64)
+    → (length words ≡ 16) × Most (2 ^ 60) words × (k / 4 < 8) × (at / 4 + 8 ≤ 2 * length s) × (at / 4 + 8 < 2 ^ 64) × (at / 4 % 2 ≡ 0)
 eight-asked places words s at k asks =
     let w = table-words 3 places words s at k asks in
-    (w .0, w .1, high-lt 3 places words s at k asks, omega (arith, asks .within), omega (arith, asks .fits))
+    (w .0, w .1, high-lt 3 places words s at k asks, omega (arith, asks .within), omega (arith, asks .fits), omega (arith, asks .eights))
 
 pub length-wordSums : (a k : ℕ) (words s : List ℕ) (at : ℕ) → length (wordSums a k words s at) ≡ 2 ^ a
 length-wordSums a k words s at = length-spectrum Mrm a k (λ u. wordAt words s (at + u))

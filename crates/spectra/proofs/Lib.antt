@@ -9,6 +9,7 @@ pub mod Halves
 pub mod Inverse
 pub mod Lanes
 pub mod Packing
+pub mod Reducing
 pub mod WorkPlaces
 pub mod Subnumbers
 pub mod Sums

@@ -41,7 +41,7 @@ use Rattle.gates.proofs.Sized.{places-exact}
 use Rattle.spectra.specs.Lanes.{nibbleWords, LeafAsks, Ready}
 use Rattle.spectra.specs.Spectrum.{spectrum}
 use Rattle.spectra.specs.Transform.{entriesFrom, Most, combined}
-use Rattle.spectra.specs.declared.Kind.{Kind}
+use Rattle.spectra.specs.declared.Kind.the-variants.{Mrm}
 use Rattle.spectra.proofs.Bounds.{coefficient-le, length-spectrum, spectrum-at, spectrum-ext}
 use Rattle.spectra.proofs.Halves.{spectrum-halves, spectrum-one}
 use Rattle.spectra.proofs.Sums.{pow-double}
@@ -101,13 +101,15 @@ times-le x h l = subst (λ (y : ℕ). x * h ≤ y) (one-mul h) (mul-le-mul-right
 pub ready-start : (n k : ℕ) {words : List ℕ} → words ≡ nibbleWords (k % 4) → Ready n 0 k words
 ready-start n k e three = (refl, e)
 
--- a half of a multiple of 4 begins at one, and its polarity has the same two lowest bits
+-- a half of a multiple of 8 begins at one, and its polarity has the same two lowest bits
 ready-half : (words : List ℕ) (at n k h x : ℕ) → h ≡ 2 ^ (n - 1) → Ready n at k words → Ready (n - 1) (at + x * h) (k % h) words
 ready-half words at n k h x e ready three =
     let w = ready (omega arith) in
     let up : n - 1 ≡ (n - 3) + 2 = omega arith in
     let fours : h ≡ 2 ^ ((n - 3) + 2) = e ∙ ap (λ (y : ℕ). 2 ^ y) up in
-    let place : x * h ≡ x * 2 ^ (n - 3) * 4 = ap (λ (y : ℕ). x * y) (fours ∙ pow-add 2 (n - 3) 2) ∙ sym (mul-assoc x (2 ^ (n - 3)) 4) in
+    let over : n - 1 ≡ (n - 4) + 3 = omega arith in
+    let eights : h ≡ 2 ^ ((n - 4) + 3) = e ∙ ap (λ (y : ℕ). 2 ^ y) over in
+    let place : x * h ≡ x * 2 ^ (n - 4) * 8 = ap (λ (y : ℕ). x * y) (eights ∙ pow-add 2 (n - 4) 3) ∙ sym (mul-assoc x (2 ^ (n - 4)) 8) in
     (omega (arith, w .0), w .1 ∙ ap nibbleWords (sym (ap (λ (y : ℕ). k % y % 4) fours ∙ mod-mod-pow k (n - 3) 2)))
 
 module _ {out words : List ℕ} {len at n k h : ℕ} (p : Parted out words len at n k h) where
@@ -174,58 +176,58 @@ most-append m a b ha hb i =
     subst (λ (x : ℕ). x ≤ m) (sym (getD-append-add a b (i - length a) 0) ∙ ap (λ (x : ℕ). getD (a ++ b) x 0) e) (hb (i - length a)))
     (lt-or-ge i (length a))
 
-most-spectrum : (kind : Kind) (m r : ℕ) (s : List ℕ) (at : ℕ) → r < 2 ^ m → Most (2 ^ m) (spectrum kind m r (entriesFrom s at))
-most-spectrum kind m r s at h i =
+most-spectrum : (m r : ℕ) (s : List ℕ) (at : ℕ) → r < 2 ^ m → Most (2 ^ m) (spectrum Mrm m r (entriesFrom s at))
+most-spectrum m r s at h i =
     ⊎-elim
-    (λ l. subst (λ (x : ℕ). x ≤ 2 ^ m) (sym (spectrum-at kind m r (entriesFrom s at) i l))
-    (coefficient-le kind m r (entriesFrom s at) i (λ x _. entry-lt s (at + x)) h))
+    (λ l. subst (λ (x : ℕ). x ≤ 2 ^ m) (sym (spectrum-at Mrm m r (entriesFrom s at) i l))
+    (coefficient-le Mrm m r (entriesFrom s at) i (λ x _. entry-lt s (at + x)) h))
     (λ l. subst (λ (x : ℕ). x ≤ 2 ^ m)
-    (sym (List·getD-eq-default (spectrum kind m r (entriesFrom s at)) 0 {n = i} (rw length-spectrum l))) zero-le)
+    (sym (List·getD-eq-default (spectrum Mrm m r (entriesFrom s at)) 0 {n = i} (rw length-spectrum l))) zero-le)
     (lt-or-ge i (2 ^ m))
 
 -- ---- the spectrum of the whole
 
-module _ (kind : Kind) (s : List ℕ) (at m r : ℕ) (l : r < 2 ^ m) where
-  moved : (x : ℕ) → spectrum kind m r (λ j. entriesFrom s at (x + j)) ≡ spectrum kind m r (entriesFrom s (at + x))
-  moved x = spectrum-ext kind m r (λ j. entriesFrom s at (x + j)) (entriesFrom s (at + x)) l (λ j _. ap (entry s) (sym (add-assoc at x j)))
+module _ (s : List ℕ) (at m r : ℕ) (l : r < 2 ^ m) where
+  moved : (x : ℕ) → spectrum Mrm m r (λ j. entriesFrom s at (x + j)) ≡ spectrum Mrm m r (entriesFrom s (at + x))
+  moved x = spectrum-ext Mrm m r (λ j. entriesFrom s at (x + j)) (entriesFrom s (at + x)) l (λ j _. ap (entry s) (sym (add-assoc at x j)))
 
   halves-at : (b d : ℕ) → b + d ≡ 1
-      → spectrum kind (suc m) (b * 2 ^ m + r) (entriesFrom s at)
-      ≡ combined kind (2 ^ m) (spectrum kind m r (entriesFrom s (at + b * 2 ^ m))) (spectrum kind m r (entriesFrom s (at + d * 2 ^ m)))
+      → spectrum Mrm (suc m) (b * 2 ^ m + r) (entriesFrom s at)
+      ≡ combined (2 ^ m) (spectrum Mrm m r (entriesFrom s (at + b * 2 ^ m))) (spectrum Mrm m r (entriesFrom s (at + d * 2 ^ m)))
   halves-at b d e =
-      spectrum-halves kind m b d r (entriesFrom s at) e l
-      ∙ ap₂ (λ (x y : List ℕ). combined kind (2 ^ m) x y) (moved (b * 2 ^ m)) (moved (d * 2 ^ m))
+      spectrum-halves Mrm m b d r (entriesFrom s at) e l
+      ∙ ap₂ (λ (x y : List ℕ). combined (2 ^ m) x y) (moved (b * 2 ^ m)) (moved (d * 2 ^ m))
 
-module _ (kind : Kind) (s : List ℕ) {out words : List ℕ} {at n k h : ℕ} (p : Parted out words (length s) at n k h) where
+module _ (s : List ℕ) {out words : List ℕ} {at n k h : ℕ} (p : Parted out words (length s) at n k h) where
   -- the spectrum of half x of the table
   abbrev halfOf : ℕ → List ℕ
-  halfOf x = spectrum kind (n - 1) (k % h) (entriesFrom s (at + x * h))
+  halfOf x = spectrum Mrm (n - 1) (k % h) (entriesFrom s (at + x * h))
 
   rest-below : k % h < 2 ^ (n - 1)
   rest-below = subst (λ (x : ℕ). k % h < x) (p .half) (mod-lt k (p .half-some))
 
-  whole-spectrum : spectrum kind n k (entriesFrom s at) ≡ combined kind h (halfOf (k / h)) (halfOf (1 - k / h))
+  whole-spectrum : spectrum Mrm n k (entriesFrom s at) ≡ combined h (halfOf (k / h)) (halfOf (1 - k / h))
   whole-spectrum =
       let top = top-le p in
       let one : k / h + (1 - k / h) ≡ 1 = omega arith in
       let up : n ≡ suc (n - 1) = omega (arith, p .some) in
-      ap₂ (λ (x y : ℕ). spectrum kind x y (entriesFrom s at)) up (sym (div-add-mod' k h))
-      ∙ ap (λ (x : ℕ). spectrum kind (suc (n - 1)) (k / h * x + k % h) (entriesFrom s at)) (p .half)
-      ∙ halves-at kind s at (n - 1) (k % h) rest-below (k / h) (1 - k / h) one
+      ap₂ (λ (x y : ℕ). spectrum Mrm x y (entriesFrom s at)) up (sym (div-add-mod' k h))
+      ∙ ap (λ (x : ℕ). spectrum Mrm (suc (n - 1)) (k / h * x + k % h) (entriesFrom s at)) (p .half)
+      ∙ halves-at s at (n - 1) (k % h) rest-below (k / h) (1 - k / h) one
       ∙ ap
-      (λ (x : ℕ). combined kind x (spectrum kind (n - 1) (k % h) (entriesFrom s (at + k / h * x)))
-      (spectrum kind (n - 1) (k % h) (entriesFrom s (at + (1 - k / h) * x))))
+      (λ (x : ℕ). combined x (spectrum Mrm (n - 1) (k % h) (entriesFrom s (at + k / h * x)))
+      (spectrum Mrm (n - 1) (k % h) (entriesFrom s (at + (1 - k / h) * x))))
       (sym (p .half))
 
   module _ (whole lo hi : List ℕ) (e : whole ≡ lo ++ hi) (low : lo ≡ halfOf (k / h)) (high : hi ≡ halfOf (1 - k / h)) where
     low-length : length lo ≡ h
-    low-length = ap length low ∙ length-spectrum kind (n - 1) (k % h) (entriesFrom s (at + k / h * h)) ∙ sym (p .half)
+    low-length = ap length low ∙ length-spectrum Mrm (n - 1) (k % h) (entriesFrom s (at + k / h * h)) ∙ sym (p .half)
 
     high-length : length hi ≡ h
-    high-length = ap length high ∙ length-spectrum kind (n - 1) (k % h) (entriesFrom s (at + (1 - k / h) * h)) ∙ sym (p .half)
+    high-length = ap length high ∙ length-spectrum Mrm (n - 1) (k % h) (entriesFrom s (at + (1 - k / h) * h)) ∙ sym (p .half)
 
     most-half : (x : ℕ) → Most (2 ^ 14) (halfOf x)
-    most-half x i = let l = most-spectrum kind (n - 1) (k % h) s (at + x * h) rest-below i in omega (arith, p .half, p .half-few)
+    most-half x i = let l = most-spectrum (n - 1) (k % h) s (at + x * h) rest-below i in omega (arith, p .half, p .half-few)
 
     pub combine-asked : (h + h ≡ length whole) × Most (2 ^ 14) whole
     combine-asked = (
@@ -233,10 +235,10 @@ module _ (kind : Kind) (s : List ℕ) {out words : List ℕ} {at n k h : ℕ} (p
       subst (λ (x : List ℕ). Most (2 ^ 14) x) (sym (e ∙ ap₂ _++_ low high)) (most-append (2 ^ 14) (halfOf (k / h)) (halfOf (1 - k / h)) (most-half (k / h)) (most-half (1 - k / h))),
     )
 
-    pub transformed : (after : List ℕ) → after ≡ combined kind h (take h whole) (drop h whole) → after ≡ spectrum kind n k (entriesFrom s at)
+    pub transformed : (after : List ℕ) → after ≡ combined h (take h whole) (drop h whole) → after ≡ spectrum Mrm n k (entriesFrom s at)
     transformed after q =
         q
-        ∙ ap₂ (λ (x y : List ℕ). combined kind h x y)
+        ∙ ap₂ (λ (x y : List ℕ). combined h x y)
         (ap (take h) e ∙ take-at lo hi h low-length ∙ low) (ap (drop h) e ∙ drop-at lo hi h low-length ∙ high)
         ∙ sym whole-spectrum
 
@@ -247,20 +249,20 @@ one-number [] x e = absurd (omega arith)
 one-number (y ∷ []) x e = refl
 one-number (y ∷ z ∷ out) x e = absurd (omega arith)
 
-pub transformed-one : (kind : Kind) (s out : List ℕ) (at n k x : ℕ) → n ≡ 0 → length out ≡ 2 ^ n → k < 2 ^ n → x ≡ entry s at
-    → set out 0 x ≡ spectrum kind n k (entriesFrom s at)
-transformed-one kind s out at n k x z size below e =
+pub transformed-one : (s out : List ℕ) (at n k x : ℕ) → n ≡ 0 → length out ≡ 2 ^ n → k < 2 ^ n → x ≡ entry s at
+    → set out 0 x ≡ spectrum Mrm n k (entriesFrom s at)
+transformed-one s out at n k x z size below e =
     let size-one : length out ≡ 1 = size ∙ ap (λ (m : ℕ). 2 ^ m) z in
     let below-one : k < 1 = subst (λ (m : ℕ). k < 2 ^ m) z below in
     let none : k ≡ 0 = omega arith in
     one-number out x size-one
     ∙ ap (λ (y : ℕ). y ∷ []) (e ∙ ap (entry s) (sym (add-zero at)))
-    ∙ sym (spectrum-one kind (entriesFrom s at) (entry-lt s (at + 0)))
-    ∙ ap₂ (λ (m y : ℕ). spectrum kind m y (entriesFrom s at)) (sym z) (sym none)
+    ∙ sym (spectrum-one Mrm (entriesFrom s at) (entry-lt s (at + 0)))
+    ∙ ap₂ (λ (m y : ℕ). spectrum Mrm m y (entriesFrom s at)) (sym z) (sym none)
 
-pub transformed-leaf : (kind : Kind) (s : List ℕ) {after : List ℕ} (at n k : ℕ) {m : ℕ} → n ≡ m → after ≡ spectrum kind m k (entriesFrom s at)
-    → after ≡ spectrum kind n k (entriesFrom s at)
-transformed-leaf kind s at n k z e = e ∙ ap (λ (m : ℕ). spectrum kind m k (entriesFrom s at)) (sym z)
+pub transformed-leaf : (s : List ℕ) {after : List ℕ} (at n k : ℕ) {m : ℕ} → n ≡ m → after ≡ spectrum Mrm m k (entriesFrom s at)
+    → after ≡ spectrum Mrm n k (entriesFrom s at)
+transformed-leaf s at n k z e = e ∙ ap (λ (m : ℕ). spectrum Mrm m k (entriesFrom s at)) (sym z)
 
 module _ (out words : List ℕ) (len at n k : ℕ) (asks : Asks (length out) words len at n k) where
   pub one-asked : n ≡ 0 → (at < 8 * len) × (0 < length out)
@@ -277,6 +279,6 @@ module _ (out words : List ℕ) (len at n k : ℕ) (asks : Asks (length out) wor
         polarity = omega (arith, asks .2);
         within = omega (arith, asks .3);
         fits = omega (arith, asks .4);
-        fours = w .0;
+        eights = w .0;
         worded = w .1;
       }

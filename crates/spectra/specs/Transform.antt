@@ -2,10 +2,11 @@
 --
 --   entriesFrom   the table of the entries from one on
 --   Most          every number of a list is at most m
---   combined      a spectrum from those of its two halves
+--   combined      the sums of a table from those of its two halves
+--   allReduced    numbers as the kind has them
 use Prim.Native.Nat.{ℕ, _+_, _≤_}
 use mathlib.Core.List.{List, _++_}
-use lib.ListN.{getD}
+use lib.ListN.{length, getD}
 use Rattle.bits.specs.Packed.{entry, tabulate}
 use Rattle.spectra.specs.Spectrum.{reduce}
 use Rattle.spectra.specs.declared.Kind.{Kind}
@@ -19,5 +20,9 @@ abbrev pub Most : ℕ → List ℕ → Type 0
 Most m numbers = (i : ℕ) → getD numbers i 0 ≤ m
 
 -- the lower half as it is, and then the sums of both halves
-abbrev pub combined : Kind → ℕ → List ℕ → List ℕ → List ℕ
-combined kind half lo hi = lo ++ tabulate half (λ i. reduce kind (getD lo i 0 + getD hi i 0))
+abbrev pub combined : ℕ → List ℕ → List ℕ → List ℕ
+combined half lo hi = lo ++ tabulate half (λ i. getD lo i 0 + getD hi i 0)
+
+-- the transform works out sums, and the kind comes last
+abbrev pub allReduced : Kind → List ℕ → List ℕ
+allReduced kind numbers = tabulate (length numbers) (λ j. reduce kind (getD numbers j 0))

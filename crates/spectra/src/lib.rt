@@ -4,11 +4,12 @@ ghost use Rattle.bits.specs.Answer.{outcome, leaves};
 ghost use Rattle.bits.specs.Bits.{valueFrom};
 ghost use Rattle.bits.specs.Packed.{entry, packed, tabulate};
 ghost use Rattle.spectra.specs.Filling.{Counted, rowsFilled, spectraFilled, rowsFit};
-ghost use Rattle.spectra.specs.Lanes.{nibble, bitOf, nibbleWord, nibbleWords, wordAt, wordSums, laneNumbers, LeafAsks, Ready};
+ghost use Rattle.spectra.specs.Lanes.{bitOf, nibbleWord, nibbleWords, wordIn, wordAt, wordSums, laneNumbers, LeafAsks, Ready};
 ghost use Rattle.spectra.specs.Operations.{spectrumOf, undoneOf, rowsOf, jobSpectraOf, tableOk, at, sameNumbers};
 ghost use Rattle.spectra.specs.Packing.{parityAt, Closed, Packs, Lent};
-ghost use Rattle.spectra.specs.Spectrum.{spectrum, reduce, recovered};
-ghost use Rattle.spectra.specs.Transform.{entriesFrom, Most, combined};
+ghost use Rattle.spectra.specs.Spectrum.{spectrum, recovered};
+ghost use Rattle.spectra.specs.declared.Kind.the-variants.{Rm, Mrm};
+ghost use Rattle.spectra.specs.Transform.{entriesFrom, Most, combined, allReduced};
 ghost use Rattle.gates.specs.Form.{tableBytes};
 ghost use Rattle.gates.specs.Rows.{splice};
 ghost use Rattle.tables.specs.Operations.{tablesTold};
@@ -36,34 +37,16 @@ fn entry_at(table: &[u8], m: usize) -> u16
     (table[m / 8] as u16 >> (7 - m % 8)) % 2
 }
 
-// A sum of coefficients as the kind has it.
-fn reduced(sum: u16, kind: Kind) -> u16
-    ensures { λ r. ⌜ r ≡ reduce kind sum ⌝ }
-{
-    match kind {
-        Kind::Rm => sum % 2,
-        Kind::Mrm => sum,
-    }
-}
-
 // Combines the spectra of the two halves: the upper half becomes the sum of both. The numbers are small enough that their sums fit.
-fn combine(out: &mut [u16], half: usize, kind: Kind)
+fn combine(out: &mut [u16], half: usize)
     requires { ⌜ (half + half ≡ length (now out)) × Most (2 ^ 14) (now out) ⌝ }
-    ensures { λ r. ⌜ now (out .exit) ≡ combined kind half (take half (now (out .entry))) (drop half (now (out .entry))) ⌝ }
+    ensures { λ r. ⌜ now (out .exit) ≡ combined half (take half (now (out .entry))) (drop half (now (out .entry))) ⌝ }
 {
     let mut i = 0;
     while i < half {
-        out[half + i] = reduced(out[i] + out[half + i], kind);
+        out[half + i] = out[i] + out[half + i];
         i += 1;
     }
-}
-
-// Four entries from entry 4 i on as a number, the first its highest bit.
-fn nibble_at(table: &[u8], i: usize) -> usize
-    requires { ⌜ i < 2 * length (now table) ⌝ }
-    ensures { λ r. ⌜ r ≡ nibble (now (table .entry)) i ⌝ }
-{
-    (table[i / 2] as usize >> (4 - 4 * (i % 2))) % 16
 }
 
 // Entry t of a nibble.
@@ -102,27 +85,42 @@ fn fill_words(words: &mut [u64], k: usize)
     }
 }
 
-// The word of the nibble at i.
+// The word of the nibble that the shift leaves of a byte.
+fn word_in(words: &[u64], table: &[u8], byte: usize, shift: usize) -> u64
+    requires { ⌜ (length (now words) ≡ 16) × (byte < length (now table)) × (shift ≤ 4) ⌝ }
+    ensures { λ r. ⌜ r ≡ wordIn (now (words .entry)) (now (table .entry)) byte shift ⌝ }
+{
+    words[(table[byte] as usize >> shift) % 16]
+}
+
+// The word of the nibble at i, which has entries 4 i to 4 i + 3.
 fn word_at(words: &[u64], table: &[u8], i: usize) -> u64
     requires { ⌜ (length (now words) ≡ 16) × (i < 2 * length (now table)) ⌝ }
     ensures { λ r. ⌜ r ≡ wordAt (now (words .entry)) (now (table .entry)) i ⌝ }
 {
-    words[nibble_at(table, i)]
+    word_in(words, table, i / 2, 4 - 4 * (i % 2))
 }
 
-// The sums of eight words, as the spectrum of three inputs has them.
+// The sums of eight words, as the spectrum of three inputs has them. The nibbles are two of each of four bytes: the lowest bit of k says which
+// of a byte comes first.
 fn eight_words(words: &[u64], table: &[u8], at: usize, k: usize) -> [u64; 8]
-    requires { ⌜ (length (now words) ≡ 16) × Most (2 ^ 60) (now words) × (k < 8) × (at + 8 ≤ 2 * length (now table)) × (at + 8 < 2 ^ 64) ⌝ }
+    requires { ⌜ (length (now words) ≡ 16) × Most (2 ^ 60) (now words) × (k < 8) × (at + 8 ≤ 2 * length (now table)) × (at + 8 < 2 ^ 64) × (at % 2 ≡ 0) ⌝ }
     ensures { λ r. ⌜ r ≡ wordSums 3 k (now (words .entry)) (now (table .entry)) at ⌝ }
 {
-    let w0 = word_at(words, table, at + k);
-    let w1 = word_at(words, table, at + (1 ^ k));
-    let w2 = word_at(words, table, at + (2 ^ k));
-    let w3 = word_at(words, table, at + (3 ^ k));
-    let w4 = word_at(words, table, at + (4 ^ k));
-    let w5 = word_at(words, table, at + (5 ^ k));
-    let w6 = word_at(words, table, at + (6 ^ k));
-    let w7 = word_at(words, table, at + (7 ^ k));
+    let first = 4 - 4 * (k % 2);
+    let second = 4 * (k % 2);
+    let b0 = at / 2 + k / 2;
+    let b1 = at / 2 + (1 ^ (k / 2));
+    let b2 = at / 2 + (2 ^ (k / 2));
+    let b3 = at / 2 + (3 ^ (k / 2));
+    let w0 = word_in(words, table, b0, first);
+    let w1 = word_in(words, table, b0, second);
+    let w2 = word_in(words, table, b1, first);
+    let w3 = word_in(words, table, b1, second);
+    let w4 = word_in(words, table, b2, first);
+    let w5 = word_in(words, table, b2, second);
+    let w6 = word_in(words, table, b3, first);
+    let w7 = word_in(words, table, b3, second);
     [
         w0,
         w0 + w1,
@@ -135,76 +133,60 @@ fn eight_words(words: &[u64], table: &[u8], at: usize, k: usize) -> [u64; 8]
     ]
 }
 
-// Writes the lanes of words, as the kind has them.
-fn put_lanes(out: &mut [u16], sums: &[u64], count: usize, kind: Kind)
+// Writes the lanes of words.
+fn put_lanes(out: &mut [u16], sums: &[u64], count: usize)
     requires { ⌜ (length (now out) ≡ count) × (count ≡ length (now sums) * 4) × (count ≤ 32) ⌝ }
-    ensures { λ r. ⌜ now (out .exit) ≡ laneNumbers kind count (now (sums .entry)) ⌝ }
+    ensures { λ r. ⌜ now (out .exit) ≡ laneNumbers count (now (sums .entry)) ⌝ }
 {
     let mut j = 0;
     while j < count {
-        out[j] = reduced(((sums[j / 4] >> (16 * (j % 4))) % 65536) as u16, kind);
+        out[j] = ((sums[j / 4] >> (16 * (j % 4))) % 65536) as u16;
         j += 1;
     }
 }
 
-// The spectrum of three inputs, from the words of its two nibbles.
-fn leaf(out: &mut [u16], words: &[u64], table: &[u8], at: usize, k: usize, kind: Kind)
+// The MRM spectrum of three inputs, from the words of its two nibbles.
+fn leaf(out: &mut [u16], words: &[u64], table: &[u8], at: usize, k: usize)
     requires { ⌜ LeafAsks 1 (length (now out)) (now words) (length (now table)) at k ⌝ }
-    ensures { λ r. ⌜ now (out .exit) ≡ spectrum kind 3 k (entriesFrom (now (table .entry)) at) ⌝ }
+    ensures { λ r. ⌜ now (out .exit) ≡ spectrum Mrm 3 k (entriesFrom (now (table .entry)) at) ⌝ }
 {
     let w0 = word_at(words, table, at / 4 + k / 4);
     let w1 = word_at(words, table, at / 4 + (1 ^ (k / 4)));
     let sums = [w0, w0 + w1];
-    put_lanes(out, &sums, 8, kind);
+    put_lanes(out, &sums, 8);
 }
 
-// The spectrum of five inputs, from the words of its eight nibbles.
-fn wide_leaf(out: &mut [u16], words: &[u64], table: &[u8], at: usize, k: usize, kind: Kind)
+// The MRM spectrum of five inputs, from the words of its eight nibbles.
+fn wide_leaf(out: &mut [u16], words: &[u64], table: &[u8], at: usize, k: usize)
     requires { ⌜ LeafAsks 3 (length (now out)) (now words) (length (now table)) at k ⌝ }
-    ensures { λ r. ⌜ now (out .exit) ≡ spectrum kind 5 k (entriesFrom (now (table .entry)) at) ⌝ }
+    ensures { λ r. ⌜ now (out .exit) ≡ spectrum Mrm 5 k (entriesFrom (now (table .entry)) at) ⌝ }
 {
     let sums = eight_words(words, table, at / 4, k / 4);
-    put_lanes(out, &sums, 32, kind);
+    put_lanes(out, &sums, 32);
 }
 
-// The spectrum of the 2 to the power n entries from `at` on. "The spectrum of n inputs is combined from those of its two halves; the
+// The MRM spectrum of the 2 to the power n entries from `at` on. "The spectrum of n inputs is combined from those of its two halves; the
 // halves change places where the top bit of k is 1."
-fn transform(
-    out: &mut [u16],
-    words: &[u64],
-    table: &[u8],
-    at: usize,
-    n: usize,
-    k: usize,
-    kind: Kind,
-)
+fn transform(out: &mut [u16], words: &[u64], table: &[u8], at: usize, n: usize, k: usize)
     requires { ⌜ (n ≤ 15) × (length (now out) ≡ 2 ^ n) × (k < 2 ^ n) × (at + 2 ^ n ≤ 8 * length (now table)) × (at + 2 ^ n < 2 ^ 64) × Ready n at k (now words) ⌝ }
-    ensures { λ r. ⌜ now (out .exit) ≡ spectrum kind n k (entriesFrom (now (table .entry)) at) ⌝ }
+    ensures { λ r. ⌜ now (out .exit) ≡ spectrum Mrm n k (entriesFrom (now (table .entry)) at) ⌝ }
 {
     if n == 0 {
         out[0] = entry_at(table, at);
         return;
     }
     if n == 3 {
-        leaf(out, words, table, at, k, kind);
+        leaf(out, words, table, at, k);
         return;
     }
     if n == 5 {
-        wide_leaf(out, words, table, at, k, kind);
+        wide_leaf(out, words, table, at, k);
         return;
     }
     let half = gates::places(n - 1);
     let top = k / half;
     let rest = k % half;
-    transform(
-        &mut out[..half],
-        words,
-        table,
-        at + top * half,
-        n - 1,
-        rest,
-        kind,
-    );
+    transform(&mut out[..half], words, table, at + top * half, n - 1, rest);
     transform(
         &mut out[half..],
         words,
@@ -212,9 +194,31 @@ fn transform(
         at + (1 - top) * half,
         n - 1,
         rest,
-        kind,
     );
-    combine(out, half, kind);
+    combine(out, half);
+}
+
+// "The Reed-Muller (RM) coefficient is that sum modulo 2."
+fn parities(sums: &mut [u16])
+    ensures { λ r. ⌜ now (sums .exit) ≡ allReduced Rm (now (sums .entry)) ⌝ }
+{
+    let mut j = 0;
+    while j < sums.len() {
+        sums[j] = sums[j] % 2;
+        j += 1;
+    }
+}
+
+// The spectrum of one table. Its sums come first, and the kind is a matter of the whole row.
+fn transform_row(out: &mut [u16], words: &[u64], table: &[u8], n: usize, k: usize, kind: Kind)
+    requires { ⌜ (n ≤ 15) × (length (now out) ≡ 2 ^ n) × (k < 2 ^ n) × (2 ^ n ≤ 8 * length (now table)) × (now words ≡ nibbleWords (k % 4)) ⌝ }
+    ensures { λ r. ⌜ now (out .exit) ≡ spectrum kind n k (entriesFrom (now (table .entry)) 0) ⌝ }
+{
+    transform(out, words, table, 0, n, k);
+    match kind {
+        Kind::Rm => parities(out),
+        Kind::Mrm => {}
+    }
 }
 
 // The spectra of tables that stand row after row, with the words of the polarity.
@@ -234,11 +238,10 @@ fn transform_rows(
     let bytes = gates::table_bytes(n);
     let mut r = 0;
     while r < rows {
-        transform(
+        transform_row(
             &mut work[r * size..r * size + size],
             words,
             &tables[r * bytes..r * bytes + bytes],
-            0,
             n,
             k,
             kind,

@@ -55,7 +55,7 @@ transform-same-length : (t : ℕ) → transform-lts.Need-same-length (claims t) 
 transform-same-length t c = length-set (now (c .before .before .before .before .before .args .out)) 0 (c .entry-at .result)
 
 transform-returns : (t : ℕ) → transform-lts.Need-returns (claims t) (transform-at t) transform.Post
-transform-returns t c = let a = c .before .before .before .before .before .args in transformed-one (a .kind) (now (a .table)) (now (a .out)) (a .at) (a .n) (a .k) (c .entry-at .result) (c .before .if1 .taken) (c .before .before .before .before .before .pre .1 .1) (c .before .before .before .before .before .pre .1 .2) (c .entry-at .ensures)
+transform-returns t c = let a = c .before .before .before .before .before .args in transformed-one (now (a .table)) (now (a .out)) (a .at) (a .n) (a .k) (c .entry-at .result) (c .before .if1 .taken) (c .before .before .before .before .before .pre .1 .1) (c .before .before .before .before .before .pre .1 .2) (c .entry-at .ensures)
 
 transform-leaf-requires : (t : ℕ) → transform-lts.Need-leaf-requires (claims t) (transform-at t) transform.Post
 transform-leaf-requires t c κs = let a = c .before .before .before .before .before .before .args in leaf-asked (now (a .out)) (now (a .words)) (length (now (a .table))) (a .at) (a .n) (a .k) (c .before .before .before .before .before .before .pre .1) 1 (le-refl 1) (c .before .if2 .taken)
@@ -64,7 +64,7 @@ transform-same-length-2 : (t : ℕ) → transform-lts.Need-same-length-2 (claims
 transform-same-length-2 t c = c .before .before .leaf .kept .0
 
 transform-returns-2 : (t : ℕ) → transform-lts.Need-returns-2 (claims t) (transform-at t) transform.Post
-transform-returns-2 t c = let a = c .before .before .before .before .before .before .before .before .before .args in transformed-leaf (a .kind) (now (a .table)) (a .at) (a .n) (a .k) (c .before .before .before .before .if2 .taken) (c .before .before .leaf .ensures)
+transform-returns-2 t c = let a = c .before .before .before .before .before .before .before .before .before .args in transformed-leaf (now (a .table)) (a .at) (a .n) (a .k) (c .before .before .before .before .if2 .taken) (c .before .before .leaf .ensures)
 
 transform-wide-leaf-requires : (t : ℕ) → transform-lts.Need-wide-leaf-requires (claims t) (transform-at t) transform.Post
 transform-wide-leaf-requires t c κs = let a = c .before .before .before .before .before .before .before .args in leaf-asked (now (a .out)) (now (a .words)) (length (now (a .table))) (a .at) (a .n) (a .k) (c .before .before .before .before .before .before .before .pre .1) 3 (lit≤ tt) (c .before .if3 .taken)
@@ -73,7 +73,7 @@ transform-same-length-3 : (t : ℕ) → transform-lts.Need-same-length-3 (claims
 transform-same-length-3 t c = c .before .before .wide-leaf .kept .0
 
 transform-returns-3 : (t : ℕ) → transform-lts.Need-returns-3 (claims t) (transform-at t) transform.Post
-transform-returns-3 t c = let a = c .before .before .before .before .before .before .before .before .before .before .args in transformed-leaf (a .kind) (now (a .table)) (a .at) (a .n) (a .k) (c .before .before .before .before .if3 .taken) (c .before .before .wide-leaf .ensures)
+transform-returns-3 t c = let a = c .before .before .before .before .before .before .before .before .before .before .args in transformed-leaf (now (a .table)) (a .at) (a .n) (a .k) (c .before .before .before .before .if3 .taken) (c .before .before .wide-leaf .ensures)
 
 transform-sub-places : (t : ℕ) → transform-lts.Need-sub-places (claims t) (transform-at t) transform.Post
 transform-sub-places t c = let a = c .before .before .before .before .before .before .args in pos-of-ne-zero (c .before .before .if1 .left)
@@ -134,13 +134,13 @@ transform-transform-requires-2 : (t : ℕ) → transform-lts.Need-transform-requ
 transform-transform-requires-2 t c κs = let a = c .before .before .before .before .before .before .before .before .before .before .before .before .args in let p = parted (now (a .out)) (now (a .words)) (length (now (a .table))) (a .at) (a .n) (a .k) (c .before .before .before .before .before .before .before .before .before .before .before .before .pre .1) (c .before .before .before .before .before .before .before .before .if1 .left) (c .before .before .before .before .before .places .ensures) in let lo = c .before .before .before .transform .last .0 in let kept = c .before .before .before .transform .kept .0 in (down (p .some) (c .before .before .before .before .before .before .before .before .before .before .before .before .pre .0), part-asked p (1 - a .k / (c .before .before .before .before .before .places .result)) (other-le p) (back-size p lo kept))
 
 transform-combine-requires : (t : ℕ) → transform-lts.Need-combine-requires (claims t) (transform-at t) transform.Post
-transform-combine-requires t c κs = let a = c .before .before .before .before .before .before .before .before .before .before .before .before .before .before .before .before .args in let p = parted (now (a .out)) (now (a .words)) (length (now (a .table))) (a .at) (a .n) (a .k) (c .before .before .before .before .before .before .before .before .before .before .before .before .before .before .before .before .pre .1) (c .before .before .before .before .before .before .before .before .before .before .before .before .if1 .left) (c .before .before .before .before .before .before .before .before .before .places .ensures) in let lo = c .before .before .before .before .before .before .before .transform .last .0 in let kept = c .before .before .before .before .before .before .before .transform .kept .0 in let hi = c .before .before .before .transform2 .last .0 in let whole = whole-halves p lo kept hi (c .before .before .before .transform2 .kept .0) in combine-asked (a .kind) (now (a .table)) p _ lo hi whole (c .before .before .before .before .before .before .before .transform .ensures) (c .before .before .before .transform2 .ensures)
+transform-combine-requires t c κs = let a = c .before .before .before .before .before .before .before .before .before .before .before .before .before .before .before .before .args in let p = parted (now (a .out)) (now (a .words)) (length (now (a .table))) (a .at) (a .n) (a .k) (c .before .before .before .before .before .before .before .before .before .before .before .before .before .before .before .before .pre .1) (c .before .before .before .before .before .before .before .before .before .before .before .before .if1 .left) (c .before .before .before .before .before .before .before .before .before .places .ensures) in let lo = c .before .before .before .before .before .before .before .transform .last .0 in let kept = c .before .before .before .before .before .before .before .transform .kept .0 in let hi = c .before .before .before .transform2 .last .0 in let whole = whole-halves p lo kept hi (c .before .before .before .transform2 .kept .0) in combine-asked (now (a .table)) p _ lo hi whole (c .before .before .before .before .before .before .before .transform .ensures) (c .before .before .before .transform2 .ensures)
 
 transform-same-length-4 : (t : ℕ) → transform-lts.Need-same-length-4 (claims t) (transform-at t) transform.Post
-transform-same-length-4 t c = let a = c .before .before .before .before .before .before .before .before .before .before .before .before .before .before .before .before .before .before .before .args in let p = parted (now (a .out)) (now (a .words)) (length (now (a .table))) (a .at) (a .n) (a .k) (c .before .before .before .before .before .before .before .before .before .before .before .before .before .before .before .before .before .before .before .pre .1) (c .before .before .before .before .before .before .before .before .before .before .before .before .before .before .before .if1 .left) (c .before .before .before .before .before .before .before .before .before .before .before .before .places .ensures) in let lo = c .before .before .before .before .before .before .before .before .before .before .transform .last .0 in let kept = c .before .before .before .before .before .before .before .before .before .before .transform .kept .0 in let hi = c .before .before .before .before .before .before .transform2 .last .0 in let whole = whole-halves p lo kept hi (c .before .before .before .before .before .before .transform2 .kept .0) in c .before .before .combine .kept .0 ∙ sym (combine-asked (a .kind) (now (a .table)) p _ lo hi whole (c .before .before .before .before .before .before .before .before .before .before .transform .ensures) (c .before .before .before .before .before .before .transform2 .ensures) .0) ∙ sym (p .room)
+transform-same-length-4 t c = let a = c .before .before .before .before .before .before .before .before .before .before .before .before .before .before .before .before .before .before .before .args in let p = parted (now (a .out)) (now (a .words)) (length (now (a .table))) (a .at) (a .n) (a .k) (c .before .before .before .before .before .before .before .before .before .before .before .before .before .before .before .before .before .before .before .pre .1) (c .before .before .before .before .before .before .before .before .before .before .before .before .before .before .before .if1 .left) (c .before .before .before .before .before .before .before .before .before .before .before .before .places .ensures) in let lo = c .before .before .before .before .before .before .before .before .before .before .transform .last .0 in let kept = c .before .before .before .before .before .before .before .before .before .before .transform .kept .0 in let hi = c .before .before .before .before .before .before .transform2 .last .0 in let whole = whole-halves p lo kept hi (c .before .before .before .before .before .before .transform2 .kept .0) in c .before .before .combine .kept .0 ∙ sym (combine-asked (now (a .table)) p _ lo hi whole (c .before .before .before .before .before .before .before .before .before .before .transform .ensures) (c .before .before .before .before .before .before .transform2 .ensures) .0) ∙ sym (p .room)
 
 transform-returns-4 : (t : ℕ) → transform-lts.Need-returns-4 (claims t) (transform-at t) transform.Post
-transform-returns-4 t c = let a = c .before .before .before .before .before .before .before .before .before .before .before .before .before .before .before .before .before .before .before .args in let p = parted (now (a .out)) (now (a .words)) (length (now (a .table))) (a .at) (a .n) (a .k) (c .before .before .before .before .before .before .before .before .before .before .before .before .before .before .before .before .before .before .before .pre .1) (c .before .before .before .before .before .before .before .before .before .before .before .before .before .before .before .if1 .left) (c .before .before .before .before .before .before .before .before .before .before .before .before .places .ensures) in let lo = c .before .before .before .before .before .before .before .before .before .before .transform .last .0 in let kept = c .before .before .before .before .before .before .before .before .before .before .transform .kept .0 in let hi = c .before .before .before .before .before .before .transform2 .last .0 in let whole = whole-halves p lo kept hi (c .before .before .before .before .before .before .transform2 .kept .0) in transformed (a .kind) (now (a .table)) p _ lo hi whole (c .before .before .before .before .before .before .before .before .before .before .transform .ensures) (c .before .before .before .before .before .before .transform2 .ensures) _ (c .before .before .combine .ensures)
+transform-returns-4 t c = let a = c .before .before .before .before .before .before .before .before .before .before .before .before .before .before .before .before .before .before .before .args in let p = parted (now (a .out)) (now (a .words)) (length (now (a .table))) (a .at) (a .n) (a .k) (c .before .before .before .before .before .before .before .before .before .before .before .before .before .before .before .before .before .before .before .pre .1) (c .before .before .before .before .before .before .before .before .before .before .before .before .before .before .before .if1 .left) (c .before .before .before .before .before .before .before .before .before .before .before .before .places .ensures) in let lo = c .before .before .before .before .before .before .before .before .before .before .transform .last .0 in let kept = c .before .before .before .before .before .before .before .before .before .before .transform .kept .0 in let hi = c .before .before .before .before .before .before .transform2 .last .0 in let whole = whole-halves p lo kept hi (c .before .before .before .before .before .before .transform2 .kept .0) in transformed (now (a .table)) p _ lo hi whole (c .before .before .before .before .before .before .before .before .before .before .transform .ensures) (c .before .before .before .before .before .before .transform2 .ensures) _ (c .before .before .combine .ensures)
 
 pub +transform-spec : {M : Type 1} → statement M
 +transform-spec = close μ-transform λ t. transform-lts.spec (claims t)

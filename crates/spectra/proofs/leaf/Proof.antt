@@ -22,8 +22,8 @@ add-word-at-2 c = let a = c .before .before .before .before .args in nibble-fits
 word-at-requires-2 : tie.Need-word-at-requires-2
 word-at-requires-2 c κs = let a = c .before .before .before .before .args in nibble-asked 1 (length (now (a .out))) (now (a .words)) (now (a .table)) (a .at) (a .k) (c .before .before .before .before .pre) 1 (lit< tt)
 
-add-t14 : tie.Need-add-t14
-add-t14 c = let a = c .before .before .before .before .before .args in let m = table-words 1 (length (now (a .out))) (now (a .words)) (now (a .table)) (a .at) (a .k) (c .before .before .before .before .before .pre) .1 in words-2 (word-small _ _ _ m (c .before .word-at .ensures)) (word-small _ _ _ m (c .word-at2 .ensures))
+add-t13 : tie.Need-add-t13
+add-t13 c = let a = c .before .before .before .before .before .args in let m = table-words 1 (length (now (a .out))) (now (a .words)) (now (a .table)) (a .at) (a .k) (c .before .before .before .before .before .pre) .1 in words-2 (word-small _ _ _ _ m (c .before .word-at .ensures)) (word-small _ _ _ _ m (c .word-at2 .ensures))
 
 slice-aggregate-put-lanes : tie.Need-slice-aggregate-put-lanes
 slice-aggregate-put-lanes c = refl
@@ -35,7 +35,7 @@ same-length : tie.Need-same-length
 same-length c = c .before .before .put-lanes .kept .0
 
 returns : tie.Need-returns
-returns c = let a = c .before .before .before .before .before .before .before .before .before .before .args in leaf-written 1 (length (now (a .out))) (now (a .words)) (now (a .table)) (a .at) (a .k) (c .before .before .before .before .before .before .before .before .before .before .pre) (lit≤ tt) (a .kind) (two-added (λ u. wordAt (now (a .words)) (now (a .table)) (a .at / 4 + u)) (a .k / 4) (c .before .before .before .before .before .before .word-at .ensures) (c .before .before .before .before .before .word-at2 .ensures)) (c .before .before .put-lanes .ensures)
+returns c = let a = c .before .before .before .before .before .before .before .before .before .before .args in leaf-written 1 (length (now (a .out))) (now (a .words)) (now (a .table)) (a .at) (a .k) (c .before .before .before .before .before .before .before .before .before .before .pre) (lit≤ tt) (two-added (λ u. wordAt (now (a .words)) (now (a .table)) (a .at / 4 + u)) (a .k / 4) (c .before .before .before .before .before .before .word-at .ensures) (c .before .before .before .before .before .word-at2 .ensures)) (c .before .before .put-lanes .ensures)
 
 pub leaf-spec : {M : Type 1} → statement M
 leaf-spec =
@@ -45,7 +45,7 @@ leaf-spec =
     word-at-requires
     add-word-at-2
     word-at-requires-2
-    add-t14
+    add-t13
     slice-aggregate-put-lanes
     put-lanes-requires
     same-length

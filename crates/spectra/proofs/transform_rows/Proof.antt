@@ -4,8 +4,7 @@ use Prim.Native.Nat.{_-_}
 use denote.Ref.{now}
 use borrow.Author.Count.{falls}
 use Rattle.gates.proofs.Sized.{places-exact, table-bytes-exact, fifteen-few}
-use Rattle.spectra.proofs.Filling.{Filling, row-place, filling-start, filling-length, filling-place, filling-part, filling-lent, filling-end, row-ready, size-fits}
-use Rattle.spectra.proofs.Transforming.{ready-start}
+use Rattle.spectra.proofs.Filling.{Filling, row-place, filling-start, filling-length, filling-place, filling-part, filling-lent, filling-end, row-ready}
 use Rattle.spectra.proofs.transform_rows.Statement.{statement}
 use Rattle.spectra.proofs.transform_rows.Tie as tie
 
@@ -24,53 +23,52 @@ table-bytes-requires c κs = tt
 loop-holds : tie.Need-loop-holds Inv-loop μ-loop
 loop-holds c = let a = c .before .before .before .before .before .args in let few = fifteen-few (c .before .before .before .before .before .pre .0) in filling-start (a .kind) (a .n) (a .k) (now (a .tables)) (now (a .work)) (a .rows) (places-exact few (c .before .places .ensures)) (table-bytes-exact few (c .table-bytes .ensures)) (c .before .before .before .before .before .pre .2)
 
-mul-transform : tie.Need-mul-transform Inv-loop μ-loop
-mul-transform c = omega (arith, filling-place (c .before .loop .inv) (c .loop-test .taken))
+mul-transform-row : tie.Need-mul-transform-row Inv-loop μ-loop
+mul-transform-row c = omega (arith, filling-place (c .before .loop .inv) (c .loop-test .taken))
 
-mul-transform-2 : tie.Need-mul-transform-2 Inv-loop μ-loop
-mul-transform-2 c = omega (arith, filling-place (c .before .loop .inv) (c .loop-test .taken))
+mul-transform-row-2 : tie.Need-mul-transform-row-2 Inv-loop μ-loop
+mul-transform-row-2 c = omega (arith, filling-place (c .before .loop .inv) (c .loop-test .taken))
 
-add-transform : tie.Need-add-transform Inv-loop μ-loop
-add-transform c = omega (arith, filling-place (c .before .loop .inv) (c .loop-test .taken))
+add-transform-row : tie.Need-add-transform-row Inv-loop μ-loop
+add-transform-row c = omega (arith, filling-place (c .before .loop .inv) (c .loop-test .taken))
 
-mul-transform-3 : tie.Need-mul-transform-3 Inv-loop μ-loop
-mul-transform-3 c = omega (arith, filling-place (c .before .loop .inv) (c .loop-test .taken))
+mul-transform-row-3 : tie.Need-mul-transform-row-3 Inv-loop μ-loop
+mul-transform-row-3 c = omega (arith, filling-place (c .before .loop .inv) (c .loop-test .taken))
 
-sub-transform : tie.Need-sub-transform Inv-loop μ-loop
-sub-transform c = omega (arith, filling-place (c .before .loop .inv) (c .loop-test .taken))
+sub-transform-row : tie.Need-sub-transform-row Inv-loop μ-loop
+sub-transform-row c = omega (arith, filling-place (c .before .loop .inv) (c .loop-test .taken))
 
-part-transform-start : tie.Need-part-transform-start Inv-loop μ-loop
-part-transform-start c = omega (arith, filling-place (c .before .loop .inv) (c .loop-test .taken))
+part-transform-row-start : tie.Need-part-transform-row-start Inv-loop μ-loop
+part-transform-row-start c = omega (arith, filling-place (c .before .loop .inv) (c .loop-test .taken))
 
-part-transform-end : tie.Need-part-transform-end Inv-loop μ-loop
-part-transform-end c = omega (arith, filling-length (c .before .loop .inv), filling-place (c .before .loop .inv) (c .loop-test .taken))
+part-transform-row-end : tie.Need-part-transform-row-end Inv-loop μ-loop
+part-transform-row-end c = omega (arith, filling-length (c .before .loop .inv), filling-place (c .before .loop .inv) (c .loop-test .taken))
 
-mul-transform-4 : tie.Need-mul-transform-4 Inv-loop μ-loop
-mul-transform-4 c = omega (arith, row-place (c .before .before .loop .inv .wide) (c .before .loop-test .taken) (c .before .before .before .before .before .before .before .before .pre .3))
+mul-transform-row-4 : tie.Need-mul-transform-row-4 Inv-loop μ-loop
+mul-transform-row-4 c = omega (arith, row-place (c .before .before .loop .inv .wide) (c .before .loop-test .taken) (c .before .before .before .before .before .before .before .before .pre .3))
 
-mul-transform-5 : tie.Need-mul-transform-5 Inv-loop μ-loop
-mul-transform-5 c = omega (arith, row-place (c .before .before .loop .inv .wide) (c .before .loop-test .taken) (c .before .before .before .before .before .before .before .before .pre .3))
+mul-transform-row-5 : tie.Need-mul-transform-row-5 Inv-loop μ-loop
+mul-transform-row-5 c = omega (arith, row-place (c .before .before .loop .inv .wide) (c .before .loop-test .taken) (c .before .before .before .before .before .before .before .before .pre .3))
 
-add-transform-2 : tie.Need-add-transform-2 Inv-loop μ-loop
-add-transform-2 c = omega (arith, row-place (c .before .before .loop .inv .wide) (c .before .loop-test .taken) (c .before .before .before .before .before .before .before .before .pre .3))
+add-transform-row-2 : tie.Need-add-transform-row-2 Inv-loop μ-loop
+add-transform-row-2 c = omega (arith, row-place (c .before .before .loop .inv .wide) (c .before .loop-test .taken) (c .before .before .before .before .before .before .before .before .pre .3))
 
-sub-transform-2 : tie.Need-sub-transform-2 Inv-loop μ-loop
-sub-transform-2 c = omega (arith, row-place (c .before .before .loop .inv .wide) (c .before .loop-test .taken) (c .before .before .before .before .before .before .before .before .pre .3))
+sub-transform-row-2 : tie.Need-sub-transform-row-2 Inv-loop μ-loop
+sub-transform-row-2 c = omega (arith, row-place (c .before .before .loop .inv .wide) (c .before .loop-test .taken) (c .before .before .before .before .before .before .before .before .pre .3))
 
-part-transform-start-2 : tie.Need-part-transform-start-2 Inv-loop μ-loop
-part-transform-start-2 c = omega (arith, row-place (c .before .before .loop .inv .wide) (c .before .loop-test .taken) (c .before .before .before .before .before .before .before .before .pre .3))
+part-transform-row-start-2 : tie.Need-part-transform-row-start-2 Inv-loop μ-loop
+part-transform-row-start-2 c = omega (arith, row-place (c .before .before .loop .inv .wide) (c .before .loop-test .taken) (c .before .before .before .before .before .before .before .before .pre .3))
 
-part-transform-end-2 : tie.Need-part-transform-end-2 Inv-loop μ-loop
-part-transform-end-2 c = omega (arith, row-place (c .before .before .loop .inv .wide) (c .before .loop-test .taken) (c .before .before .before .before .before .before .before .before .pre .3))
+part-transform-row-end-2 : tie.Need-part-transform-row-end-2 Inv-loop μ-loop
+part-transform-row-end-2 c = omega (arith, row-place (c .before .before .loop .inv .wide) (c .before .loop-test .taken) (c .before .before .before .before .before .before .before .before .pre .3))
 
-transform-requires : tie.Need-transform-requires Inv-loop μ-loop
-transform-requires c κs = (
+transform-row-requires : tie.Need-transform-row-requires Inv-loop μ-loop
+transform-row-requires c κs = (
   c .before .before .before .before .before .before .before .before .before .pre .0,
   filling-part (c .before .before .before .loop .inv) (c .before .before .loop-test .taken),
   c .before .before .before .before .before .before .before .before .before .pre .1,
   row-ready (c .before .before .before .before .before .before .before .before .before .args .n) (now (c .before .before .before .before .before .before .before .before .before .args .tables)) (c .before .before .before .loop .inv .wide) (c .before .before .loop-test .taken) (c .before .before .before .before .before .before .before .before .before .pre .3),
-  size-fits (c .before .before .before .before .before .before .before .before .before .pre .0),
-  ready-start (c .before .before .before .before .before .before .before .before .before .args .n) (c .before .before .before .before .before .before .before .before .before .args .k) (c .before .before .before .before .before .before .before .before .before .pre .4),
+  c .before .before .before .before .before .before .before .before .before .pre .4,
 )
 
 add-r : tie.Need-add-r Inv-loop μ-loop
@@ -81,7 +79,7 @@ loop-less c = falls _ _ (c .before .before .before .before .before .loop-test .t
 
 loop-again : tie.Need-loop-again Inv-loop μ-loop
 loop-again c =
-    filling-lent (c .before .before .before .before .before .before .loop .inv) (c .before .before .transform .last .0) (c .before .before .before .before .before .loop-test .taken) (c .before .before .before .before .before .before .before .before .before .before .before .before .pre .1) (c .before .before .transform .ensures)
+    filling-lent (c .before .before .before .before .before .before .loop .inv) (c .before .before .transform-row .last .0) (c .before .before .before .before .before .loop-test .taken) (c .before .before .before .before .before .before .before .before .before .before .before .before .pre .1) (c .before .before .transform-row .ensures)
 
 same-length : tie.Need-same-length Inv-loop μ-loop
 same-length c = filling-length (c .before .loop .inv)
@@ -98,20 +96,20 @@ transform-rows-spec =
     places-requires
     table-bytes-requires
     loop-holds
-    mul-transform
-    mul-transform-2
-    add-transform
-    mul-transform-3
-    sub-transform
-    part-transform-start
-    part-transform-end
-    mul-transform-4
-    mul-transform-5
-    add-transform-2
-    sub-transform-2
-    part-transform-start-2
-    part-transform-end-2
-    transform-requires
+    mul-transform-row
+    mul-transform-row-2
+    add-transform-row
+    mul-transform-row-3
+    sub-transform-row
+    part-transform-row-start
+    part-transform-row-end
+    mul-transform-row-4
+    mul-transform-row-5
+    add-transform-row-2
+    sub-transform-row-2
+    part-transform-row-start-2
+    part-transform-row-end-2
+    transform-row-requires
     add-r
     loop-less
     loop-again

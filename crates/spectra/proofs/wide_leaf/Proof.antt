@@ -21,7 +21,7 @@ same-length : tie.Need-same-length
 same-length c = c .before .before .put-lanes .kept .0
 
 returns : tie.Need-returns
-returns c = let a = c .before .before .before .before .before .before .before .before .before .args in leaf-written 3 (length (now (a .out))) (now (a .words)) (now (a .table)) (a .at) (a .k) (c .before .before .before .before .before .before .before .before .before .pre) (le-refl 3) (a .kind) (c .before .before .before .before .before .eight-words .ensures) (c .before .before .put-lanes .ensures)
+returns c = let a = c .before .before .before .before .before .before .before .before .before .args in leaf-written 3 (length (now (a .out))) (now (a .words)) (now (a .table)) (a .at) (a .k) (c .before .before .before .before .before .before .before .before .before .pre) (le-refl 3) (c .before .before .before .before .before .eight-words .ensures) (c .before .before .put-lanes .ensures)
 
 pub wide-leaf-spec : {M : Type 1} → statement M
 wide-leaf-spec =
