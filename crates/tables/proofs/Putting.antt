@@ -1,57 +1,84 @@
--- The loop that puts the tables of all circuits (the function `put_tables`).
+-- What puts the tables of circuits into lent bytes (the functions `put_batch`, `put_table` and `put_tables`).
 --
+--   output-inside, output-part, output-fits   the good circuit's row of the output is its table, and lies within the rows
+--   batch-inside, batch-part   the block of the output is the tables of the batch, and lies within the rows
 --   Putting          the tables of the circuits below c are put, and the good circuit's rows stand
---   table-part       the bytes at the output's place are the circuit's table
---   table-inside     and lie within the rows
---   table-put        it is put at the start of the lent bytes
---   putting-start    nothing is put yet
---   putting-room     there is room for one table more
+--   width-some       a batch has a circuit or more
+--   putting-start    the good circuit's table is put
+--   putting-room     there is room for the tables of a batch
 --   putting-length   the lent bytes are as many as before
---   putting-next     one table more is put
+--   putting-next     the tables of a batch are put
 --   putting-end      all are put
-use Prim.Native.Nat.{ℕ, suc, _+_, _*_, _≤_, _<_}
+use Prim.Native.Nat.{ℕ, suc, _+_, _-_, _*_, _/_, _^_, _≤_, _<_}
 use native.Mathlib.Omega.{arith}
-use native.Mathlib.Nat.{le-trans, le-antisymm, suc-mul, mul-le-mul-right}
+use native.Mathlib.Nat.{le-trans, le-antisymm, suc-mul, add-mul, one-mul, mul-le-mul-right, le-div-iff-mul-le}
 use mathlib.Core.Path.{_≡_, refl, sym, ap, ap₂, subst, _∙_}
 use mathlib.Core.List.{List}
 use lib.ListN.{length}
+use Rattle.job.specs.Record.{lines}
 use Rattle.job.specs.declared.Job.{Job}
 use Rattle.gates.specs.Form.{tableBytes}
 use Rattle.gates.specs.Rows.{part, splice}
+use Rattle.tables.specs.declared.circuit.Batch.{Batch}
 use Rattle.tables.specs.declared.rows.Shape.{Shape}
 use Rattle.gates.proofs.Splice.{length-splice}
-use Rattle.tables.specs.Circuit.{circuitTable, fixingOf}
-use Rattle.tables.specs.Lines.{placeOf}
+use Rattle.tables.specs.Circuit.{circuitTable}
+use Rattle.tables.specs.Lines.{rowOf}
 use Rattle.tables.specs.Operations.{tablesTo}
-use Rattle.tables.specs.Work.{Sound, Good, Placed}
-use Rattle.tables.proofs.Delivered.{length-tablesTo, output-table, tables-more}
-use Rattle.tables.proofs.Space.{shape-bytes, sound-kept}
+use Rattle.tables.specs.Sizes.{Least}
+use Rattle.tables.specs.Work.{blockBytes, Wide, Sound, Good, Side, Faulty, tablesFrom}
+use Rattle.tables.proofs.Delivered.{length-tablesTo, good-output, side-output, tables-more, tables-one}
+use Rattle.tables.proofs.Sizes.{block-fits}
+use Rattle.tables.proofs.Space.{wide-bytes, wide-kept, shape-bytes, bytes-some, tableBytes-most, batch-good, block-inside, block-room}
 
-module _ (j : Job) (shape : Shape) (rows after places : List ℕ) (c : ℕ) (sound : Sound j shape rows) (placed : Placed (fixingOf j c) j places after) where
-  pub table-part : part (placeOf places (j .output)) (shape .bytes) after ≡ circuitTable j c
-  table-part =
-      ap (λ (k : ℕ). part (placeOf places (j .output)) k after) (shape-bytes j shape rows sound)
-      ∙ output-table j c places after (sound .valid) placed
+module _ (j : Job) (shape : Shape) (width : ℕ) (rows : List ℕ) (wide : Wide j shape width rows) where
+  pub output-inside : j .output * shape .bytes + shape .bytes ≤ length rows
+  output-inside =
+      let e : j .output * shape .bytes + shape .bytes ≤ (lines j + lines j * width) * shape .bytes
+      = omega (arith, mul-le-mul-right (shape .bytes) (wide .valid .output), suc-mul (j .output) (shape .bytes), add-mul (lines j) (lines j * width) (shape .bytes)) in
+      le-trans e (subst (λ (k : ℕ). (lines j + lines j * width) * k ≤ length rows) (sym (wide-bytes j shape width rows wide)) (wide .room))
 
-  pub table-inside : placeOf places (j .output) + shape .bytes ≤ length after
-  table-inside =
-      subst (λ (k : ℕ). placeOf places (j .output) + k ≤ length after) (sym (shape-bytes j shape rows sound))
-      (placed .inside (j .output) (sound .valid .output))
+  pub output-part : Good j rows → part (j .output * shape .bytes) (shape .bytes) rows ≡ circuitTable j 0
+  output-part good =
+      ap (λ (k : ℕ). part (j .output * k) k rows) (wide-bytes j shape width rows wide) ∙ good-output j rows (wide .valid) good
 
-  pub table-put : (out put : List ℕ) → put ≡ splice out 0 (part (placeOf places (j .output)) (shape .bytes) after) → put ≡ splice out 0 (circuitTable j c)
-  table-put out put e = e ∙ ap (splice out 0) table-part
+module _ (j : Job) (shape : Shape) (b : Batch) (rows : List ℕ) (sound : Sound j shape b rows) {at : ℕ} (is : at ≡ rowOf b (j .output) * shape .bytes) where
+  pub batch-inside : at + b .count * shape .bytes ≤ length rows
+  batch-inside = subst (λ (k : ℕ). k + b .count * shape .bytes ≤ length rows) (sym is) (block-room j shape b rows sound (j .output) (sound .valid .output))
+
+  pub batch-part : Side j b (lines j) rows → part at (b .count * shape .bytes) rows ≡ tablesFrom j (b .first) (b .count)
+  batch-part side =
+      ap (λ (k : ℕ). part k (b .count * shape .bytes) rows) is
+      ∙ ap (λ (k : ℕ). part (rowOf b (j .output) * k) (b .count * k) rows) (shape-bytes j shape b rows sound)
+      ∙ side-output j b rows (sound .valid) side (block-inside j shape b rows sound (j .output) (sound .valid .output))
 
 pub record Putting (j : Job) (shape : Shape) (start first out rows : List ℕ) (c : ℕ) : Type 0 where
-  pub sound : Sound j shape rows
+  pub wide : Wide j shape (blockBytes / tableBytes (j .inputs)) rows
   pub good : Good j rows
   pub long : length rows ≡ length first
   pub room : (j .«fault_count» + 1) * tableBytes (j .inputs) ≤ length start
+  pub some : 1 ≤ c
   pub within : c ≤ j .«fault_count» + 1
   pub done : out ≡ splice start 0 (tablesTo j c)
 
-pub putting-start : (j : Job) (shape : Shape) (out rows : List ℕ) → Sound j shape rows → Good j rows → (j .«fault_count» + 1) * tableBytes (j .inputs) ≤ length out → Putting j shape out rows out rows 0
-unfolding tablesTo
-putting-start j shape out rows s g h = record { sound = s; good = g; long = refl; room = h; within = omega arith; done = refl }
+pub putting-start : (j : Job) (shape : Shape) (start out rows : List ℕ) → Wide j shape (blockBytes / tableBytes (j .inputs)) rows → Good j rows
+    → (j .«fault_count» + 1) * tableBytes (j .inputs) ≤ length start → out ≡ splice start 0 (part (j .output * shape .bytes) (shape .bytes) rows)
+    → Putting j shape start rows out rows 1
+putting-start j shape start out rows wide good h e =
+    record {
+      wide = wide;
+      good = good;
+      long = refl;
+      room = h;
+      some = omega arith;
+      within = omega arith;
+      done = e ∙ ap (splice start 0) (output-part j shape (blockBytes / tableBytes (j .inputs)) rows wide good ∙ tables-one j);
+    }
+
+pub width-some : (j : Job) (shape : Shape) (width : ℕ) (rows : List ℕ) → Wide j shape width rows → 1 ≤ blockBytes / shape .bytes
+width-some j shape width rows wide =
+    le-div-iff-mul-le (subst (λ (k : ℕ). 0 < k) (sym (wide-bytes j shape width rows wide)) (bytes-some (j .inputs))) .1
+    (omega (arith, one-mul (shape .bytes), wide-bytes j shape width rows wide, tableBytes-most (j .inputs) (wide .valid .few), block-fits))
 
 module _ (j : Job) (shape : Shape) (start first out rows : List ℕ) (c : ℕ) (p : Putting j shape start first out rows c) where
   fits : (k : ℕ) → k ≤ j .«fault_count» + 1 → k * tableBytes (j .inputs) ≤ length start
@@ -62,26 +89,32 @@ module _ (j : Job) (shape : Shape) (start first out rows : List ℕ) (c : ℕ) (
       ap length (p .done)
       ∙ length-splice start 0 (tablesTo j c) (rw length-tablesTo (let h = fits c (p .within) in omega arith))
 
-  pub putting-room : c < j .«fault_count» + 1 → c * shape .bytes + shape .bytes ≤ length out
-  putting-room h =
-      subst (λ (k : ℕ). c * k + k ≤ length out) (sym (shape-bytes j shape rows (p .sound)))
-      (subst (λ (k : ℕ). c * tableBytes (j .inputs) + tableBytes (j .inputs) ≤ k) (sym putting-length)
-      (subst (λ (k : ℕ). k ≤ length start) (suc-mul c (tableBytes (j .inputs))) (fits (suc c) h)))
+  bytes : shape .bytes ≡ tableBytes (j .inputs)
+  bytes = wide-bytes j shape (blockBytes / tableBytes (j .inputs)) rows (p .wide)
 
-  pub putting-next : (places put after : List ℕ) → c < j .«fault_count» + 1 → Placed (fixingOf j c) j places after → length after ≡ length rows
-      → put ≡ splice out (c * shape .bytes) (part (placeOf places (j .output)) (shape .bytes) after) → Putting j shape start first put after (c + 1)
-  putting-next places put after h placed l e =
+  pub putting-faulty : (count : ℕ) → count ≤ j .«fault_count» + 1 - c → Faulty j c count
+  putting-faulty count h = record { some = p .some; within = omega (arith, p .within) }
+
+  pub putting-room : (count : ℕ) → Faulty j c count → c * shape .bytes + count * tableBytes (j .inputs) ≤ length out
+  putting-room count faulty =
+      omega (
+        arith, ap (λ (k : ℕ). c * k) bytes, add-mul c count (tableBytes (j .inputs)), fits (c + count) (faulty .within), putting-length,
+      )
+
+  pub putting-next : (put after : List ℕ) (count : ℕ) → Faulty j c count → Good j after → length after ≡ length rows
+      → put ≡ splice out (c * shape .bytes) (tablesFrom j c count) → Putting j shape start first put after (c + count)
+  putting-next put after count faulty good l e =
       record {
-        sound = sound-kept j shape rows (p .sound) after l;
-        good = placed .good;
+        wide = wide-kept j shape (blockBytes / tableBytes (j .inputs)) rows (p .wide) after l;
+        good = good;
         long = l ∙ p .long;
         room = p .room;
-        within = omega arith;
+        some = omega (arith, p .some);
+        within = faulty .within;
         done =
             e
-            ∙ ap₂ (λ (x : List ℕ) (y : List ℕ). splice x (c * shape .bytes) y) (p .done) (table-part j shape rows after places c (p .sound) placed)
-            ∙ ap (λ (k : ℕ). splice (splice start 0 (tablesTo j c)) (c * k) (circuitTable j c)) (shape-bytes j shape rows (p .sound))
-            ∙ tables-more j c start;
+            ∙ ap₂ (λ (x : List ℕ) (k : ℕ). splice x (c * k) (tablesFrom j c count)) (p .done) bytes
+            ∙ tables-more j c count start (fits c (p .within));
       }
 
   pub putting-end : j .«fault_count» + 1 ≤ c → out ≡ splice start 0 (tablesTo j (j .«fault_count» + 1))
