@@ -3,6 +3,7 @@
 --   gate-index       a gate's number is an index of the record's gates
 --   lines-most       the lines of a valid job are no more than those of the largest circuit
 --   line-index       so each of them is an index of an array of lines
+--   input-line, gate-line   inputs and gates have lines
 --   fault-number     the circuits of a batch without the good one have faults of the job
 --   fault-index      a fault's number is an index of the record's faults
 --   tableBytes-most  no table has more bytes than that of the most inputs
@@ -49,6 +50,12 @@ lines-most j valid = omega (arith, valid .few, valid .gates-few)
 
 pub line-index : (j : Job) → Valid j → {l : ℕ} → l < lines j → l < maxLines
 line-index j valid h = omega (arith, lines-most j valid)
+
+pub input-line : (j : Job) {l : ℕ} → l < j .inputs → l < lines j
+input-line j h = omega arith
+
+pub gate-line : (j : Job) {q : ℕ} → q < j .«gate_count» → j .inputs + q < lines j
+gate-line j h = omega arith
 
 pub fault-number : {first count faults i : ℕ} → 1 ≤ first → first + count ≤ faults + 1 → i < count → first - 1 + i < faults
 fault-number h within l = omega arith
