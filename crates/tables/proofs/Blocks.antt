@@ -2,9 +2,11 @@
 --
 --   tabulate-part    bytes copied one by one are a part of the rows
 --   block-ext        blocks of equal tables are equal
+--   block-append     a block behind a block
 --   length-block     a block has as many bytes as its tables together
 --   tabulate-block   bytes worked out one by one are a block of tables, each of the bytes at its own place
 --   part-block       rows that follow each other are a block
+--   splice-none      no new bytes
 --   splice-append    new bytes put behind new bytes
 --   block-row        where a block is put, each of its rows holds its table
 --   block-kept       every other row is as it was
@@ -43,6 +45,14 @@ pub block-ext : (c : ℕ) (f g : ℕ → List ℕ) → ((i : ℕ) → i < c → 
 unfolding block
 block-ext zero f g h = refl
 block-ext (suc c) f g h = ap₂ _++_ (block-ext c f g (λ i l. h i (omega arith))) (h c (omega arith))
+
+pub block-append : (a b : ℕ) (f : ℕ → List ℕ) → block a f ++ block b (λ i. f (a + i)) ≡ block (a + b) f
+unfolding block
+block-append a zero f = append-nil (block a f) ∙ ap (λ (k : ℕ). block k f) (sym (add-zero a))
+block-append a (suc b) f =
+    let e : suc (a + b) ≡ a + suc b = omega arith in
+    sym (append-assoc (block a f) (block b (λ i. f (a + i))) (f (a + b)))
+    ∙ ap (λ (l : List ℕ). l ++ f (a + b)) (block-append a b f) ∙ ap (λ (k : ℕ). block k f) e
 
 pub length-block : (w : ℕ) (f : ℕ → List ℕ) → ((i : ℕ) → length (f i) ≡ w) → (c : ℕ) → length (block c f) ≡ c * w
 unfolding block
@@ -86,7 +96,7 @@ splice-append out at a b k e h =
     long : length (take at out ++ a) ≡ k
     long = simp (length-append, length-take) (omega arith)
 
-splice-none : (rows : List ℕ) (to : ℕ) → splice rows to [] ≡ rows
+pub splice-none : (rows : List ℕ) (to : ℕ) → splice rows to [] ≡ rows
 splice-none rows to = rw (add-zero, append-nil) (take-append-drop to rows)
 
 module _ (rows : List ℕ) (r w : ℕ) (f : ℕ → List ℕ) (long : (i : ℕ) → length (f i) ≡ w) where

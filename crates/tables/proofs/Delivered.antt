@@ -9,14 +9,15 @@
 --   good-output         the good circuit's row of the output is its table
 --   side-output         the block of the output is the tables of the batch
 --   splice-start        new bytes at the start, then the rest as it was
---   tables-more         the tables put so far, and those of a batch
---   tables-one, table-single   the tables of one circuit
+--   tables-all          the good circuit's table, and then those of the faulty circuits
+--   tables-more         the tables of a batch behind those of the batches before
+--   table-single        a batch of one circuit
 use Prim.Native.Nat.{ℕ, zero, suc, _+_, _*_, _/_, _^_, _≤_, _<_}
 use native.Mathlib.Omega.{arith}
-use native.Mathlib.Nat.{lt-of-le-of-lt, zero-add, add-zero, add-le-add, add-mul, mul-add, mul-assoc, mul-one, mul-le-mul, div-mul-le-self, zero-mul, suc-mul}
+use native.Mathlib.Nat.{lt-of-le-of-lt, zero-add, add-zero, add-le-add, add-mul, mul-add, mul-assoc, mul-one, one-mul, mul-le-mul, div-mul-le-self, zero-mul, suc-mul}
 use mathlib.Core.Path.{_≡_, refl, sym, ap, ap₂, subst, _∙_}
 use mathlib.Core.Bool.{true}
-use mathlib.Core.List.{List, _++_, append-assoc, append-nil}
+use mathlib.Core.List.{List, _++_}
 use borrow.Author.Tests.{ltb-true}
 use lib.Dec.{ltb}
 use mir.Syntax.{w64}
@@ -40,7 +41,7 @@ use Rattle.tables.specs.Work.{maxTableBytes, blockBytes, rowBytes, allRo
 use Rattle.tables.specs.declared.circuit.Batch.{Batch}
 use Rattle.tables.specs.Operations.{tablesTo}
 use Rattle.tables.proofs.Sizes.{all-tables-fit}
-use Rattle.tables.proofs.Blocks.{block-ext, part-block, splice-append}
+use Rattle.tables.proofs.Blocks.{block-ext, block-append, length-block, part-block, splice-append}
 use Rattle.tables.proofs.Space.{lines-most, tableBytes-most}
 
 -- a row and a block a line
@@ -113,23 +114,33 @@ side-output j b rows valid side inside =
 pub splice-start : (out new : List ℕ) → splice out 0 new ≡ new ++ drop (length new) out
 splice-start out new = ap (λ (k : ℕ). new ++ drop k out) (zero-add (length new))
 
-tables-append : (j : Job) (c count : ℕ) → tablesTo j c ++ tablesFrom j c count ≡ tablesTo j (c + count)
+tables-block : (j : Job) (c : ℕ) → tablesTo j c ≡ block c (circuitTable j)
 unfolding tablesTo block
-tables-append j c zero = append-nil (tablesTo j c) ∙ ap (tablesTo j) (sym (add-zero c))
-tables-append j c (suc count) =
-    let e : suc (c + count) ≡ c + suc count = omega arith in
-    sym (append-assoc (tablesTo j c) (tablesFrom j c count) (circuitTable j (c + count)))
-    ∙ ap (λ (l : List ℕ). l ++ circuitTable j (c + count)) (tables-append j c count) ∙ ap (tablesTo j) e
+tables-block j zero = refl
+tables-block j (suc c) = ap (λ (l : List ℕ). l ++ circuitTable j c) (tables-block j c)
 
-pub tables-more : (j : Job) (c count : ℕ) (out : List ℕ) → c * tableBytes (j .inputs) ≤ length out
-    → splice (splice out 0 (tablesTo j c)) (c * tableBytes (j .inputs)) (tablesFrom j c count) ≡ splice out 0 (tablesTo j (c + count))
-tables-more j c count out h =
-    splice-append out 0 (tablesTo j c) (tablesFrom j c count) (c * tableBytes (j .inputs)) (zero-add (length (tablesTo j c)) ∙ length-tablesTo j c) h
-    ∙ ap (splice out 0) (tables-append j c count)
+-- the good circuit's table, and then those of the faulty circuits
+pub tables-all : (j : Job) (out : List ℕ) (faults : ℕ) → tableBytes (j .inputs) ≤ length out
+    → splice (splice out 0 (circuitTable j 0)) (tableBytes (j .inputs)) (tablesFrom j 1 faults) ≡ splice out 0 (tablesTo j (faults + 1))
+unfolding block
+tables-all j out faults h =
+    let e : 1 + faults ≡ faults + 1 = omega arith in
+    splice-append out 0 (circuitTable j 0) (tablesFrom j 1 faults) (tableBytes (j .inputs)) (zero-add (length (circuitTable j 0)) ∙ length-table j 0) h
+    ∙ ap (splice out 0) (block-append 1 faults (circuitTable j) ∙ ap (λ (k : ℕ). block k (circuitTable j)) e ∙ sym (tables-block j (faults + 1)))
 
-pub tables-one : (j : Job) → circuitTable j 0 ≡ tablesTo j 1
-unfolding tablesTo
-tables-one j = refl
+-- the tables of a batch behind those of the batches before
+pub tables-more : (j : Job) (done count : ℕ) (out : List ℕ) → (done + 1) * tableBytes (j .inputs) ≤ length out
+    → splice (splice out (tableBytes (j .inputs)) (tablesFrom j 1 done)) ((done + 1) * tableBytes (j .inputs)) (tablesFrom j (done + 1) count)
+    ≡ splice out (tableBytes (j .inputs)) (tablesFrom j 1 (done + count))
+tables-more j done count out h =
+    splice-append out (tableBytes (j .inputs)) (tablesFrom j 1 done) (tablesFrom j (done + 1) count) ((done + 1) * tableBytes (j .inputs))
+    (ap (λ (k : ℕ). tableBytes (j .inputs) + k) (length-block (tableBytes (j .inputs)) (λ i. circuitTable j (1 + i)) (λ i. length-table j (1 + i)) done)
+    ∙ (let e : tableBytes (j .inputs) + done * tableBytes (j .inputs) ≡ (done + 1) * tableBytes (j .inputs) = omega (arith, add-mul done 1 (tableBytes (j .inputs)), one-mul (tableBytes (j .inputs))) in e)) h
+    ∙ ap (splice out (tableBytes (j .inputs)))
+    (ap (λ (l : List ℕ). tablesFrom j 1 done ++ l)
+    (block-ext count (λ i. circuitTable j (done + 1 + i)) (λ i. circuitTable j (1 + (done + i)))
+    (λ i l. let e : done + 1 + i ≡ 1 + (done + i) = omega arith in ap (circuitTable j) e))
+    ∙ block-append done count (λ i. circuitTable j (1 + i)))
 
 pub table-single : (j : Job) (c : ℕ) → tablesFrom j c 1 ≡ circuitTable j c
 unfolding block

@@ -11,7 +11,7 @@
 --   times-some       a factor of a product that fits a word fits one
 --   batch-good, batch-faulty   where there are rows for a batch, a batch is sound
 --   wide-kept, wide-fewer      so for rows of the same length, and for fewer circuits
---   shape-bytes      the shape has the table's bytes
+--   shape-bytes, wide-bytes   the shape has the table's bytes, one or more (shape-some, wide-some)
 --   sound-kept       rows of the same length stay sound
 --   block-before     a line's block ends before those of later lines
 --   row-before       the rows of a line's block are before those of later lines
@@ -102,6 +102,9 @@ module _ (j : Job) (shape : Shape) (width : ℕ) (rows : List ℕ) (wide : Wide 
 
   pub wide-bytes : shape .bytes ≡ tableBytes (j .inputs)
   wide-bytes = ap (λ (s : Shape). s .bytes) (wide .shaped)
+
+  pub wide-some : 1 ≤ shape .bytes
+  wide-some = subst (λ (k : ℕ). 1 ≤ k) (sym wide-bytes) (bytes-some (j .inputs))
 
 -- a line's block ends before those of later lines
 pub block-before : (b : Batch) (k l bytes : ℕ) → k < l → rowOf b k * bytes + b .count * bytes ≤ rowOf b l * bytes

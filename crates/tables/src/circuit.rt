@@ -190,14 +190,7 @@ fn gate_block(rows: &mut [u8], gate: Gate, form: Form, batch: Batch, line: usize
 }
 
 // The fixed tables of a line, if there are any.
-fn fix_touched(
-    rows: &mut [u8],
-    touched: bool,
-    job: Job,
-    batch: Batch,
-    line: usize,
-    shape: Shape,
-)
+fn fix_touched(rows: &mut [u8], touched: bool, job: Job, batch: Batch, line: usize, shape: Shape)
     requires { ⌜ Sound job shape batch (now rows) × Made job batch line (now rows) × (line < lines job) × Loosened job batch line touched ⌝ }
     ensures { λ r. ⌜ Side job batch (line + 1) (now (rows .exit)) ⌝ }
 {

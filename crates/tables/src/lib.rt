@@ -157,21 +157,31 @@ fn put_table(out: &mut [u8], rows: &mut [u8], job: Job, circuit: usize, shape: S
     }
 }
 
-// The tables of all circuits, from the start of the lent bytes on: the good circuit's, then batch after batch.
+// The tables of all circuits, from the start of the lent bytes on.
 fn put_tables(out: &mut [u8], rows: &mut [u8], job: Job, shape: Shape)
     requires { ⌜ Wide job shape (blockBytes / tableBytes (job .inputs)) (now rows) × ((job .«fault_count» + 1) * tableBytes (job .inputs) ≤ length (now out)) ⌝ }
     ensures { λ r. ⌜ now (out .exit) ≡ splice (now (out .entry)) 0 (tablesTo job (job .«fault_count» + 1)) ⌝ }
 {
-    let circuits = job.fault_count as usize + 1;
     let bytes = shape.bytes;
-    let most = BLOCK_BYTES / bytes;
     let forms = circuit::forms_of(job, shape.keep);
     circuit::good_circuit(rows, job, forms, shape);
     copy(out, 0, rows, job.output as usize * bytes, bytes);
-    let mut c = 1;
-    while c < circuits {
-        let count = least(most, circuits - c);
-        put_batch(out, c * bytes, rows, job, forms, c, count, shape);
-        c += count;
+    put_faulty(out, rows, job, forms, shape);
+}
+
+// The tables of all faulty circuits behind the good circuit's, batch after batch.
+fn put_faulty(out: &mut [u8], rows: &mut [u8], job: Job, forms: Forms, shape: Shape)
+    requires { ⌜ Wide job shape (blockBytes / tableBytes (job .inputs)) (now rows) × Formed job (shape .keep) forms × Good job (now rows) × ((job .«fault_count» + 1) * tableBytes (job .inputs) ≤ length (now out)) ⌝ }
+    ensures { λ r. ⌜ now (out .exit) ≡ splice (now (out .entry)) (tableBytes (job .inputs)) (tablesFrom job 1 (job .«fault_count»)) ⌝ }
+{
+    let faults = job.fault_count as usize;
+    let bytes = shape.bytes;
+    let most = BLOCK_BYTES / bytes;
+    let mut done = 0;
+    while done < faults {
+        let count = least(most, faults - done);
+        let first = done + 1;
+        put_batch(out, first * bytes, rows, job, forms, first, count, shape);
+        done += count;
     }
 }

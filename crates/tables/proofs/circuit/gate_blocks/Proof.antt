@@ -85,9 +85,10 @@ loop-less : tie.Need-loop-less Inv-loop μ-loop
 loop-less c = falls _ _ (c .before .before .before .before .before .before .before .before .before .before .before .loop-test .taken)
 
 loop-again : tie.Need-loop-again Inv-loop μ-loop
-loop-again c =
-    (c .before .before .fix-touched .kept .0 ∙ c .before .before .before .before .before .before .gate-block .kept .0 ∙ c .before .before .before .before .before .before .before .before .before .before .before .before .loop .inv .0,
-    side-fewer (c .before .before .before .before .before .before .before .before .before .before .before .before .before .before .args .t2) (c .before .before .before .before .before .before .before .before .before .before .before .before .before .before .args .batch) _ _ (c .before .before .fix-touched .last .0) (omega arith) (c .before .before .fix-touched .ensures))
+loop-again c = (
+  c .before .before .fix-touched .kept .0 ∙ c .before .before .before .before .before .before .gate-block .kept .0 ∙ c .before .before .before .before .before .before .before .before .before .before .before .before .loop .inv .0,
+  side-fewer (c .before .before .before .before .before .before .before .before .before .before .before .before .before .before .args .t2) (c .before .before .before .before .before .before .before .before .before .before .before .before .before .before .args .batch) _ _ (c .before .before .fix-touched .last .0) (omega arith) (c .before .before .fix-touched .ensures),
+)
 
 same-length : tie.Need-same-length Inv-loop μ-loop
 same-length c = c .before .loop .inv .0
