@@ -1,13 +1,13 @@
 pub mod Answering
+pub mod Batching
+pub mod Blocks
 pub mod Delivered
 pub mod Faults
-pub mod Filling
-pub mod Following
 pub mod Forming
 pub mod Held
-pub mod Placing
 pub mod Putting
 pub mod Shaped
 pub mod Sizes
 pub mod Space
+pub mod Touching
 pub mod Values
