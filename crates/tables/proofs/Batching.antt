@@ -31,7 +31,7 @@ use Rattle.gates.proofs.Answers.{kind-lt}
 use Rattle.tables.specs.Circuit.{Fixing, fixingOf}
 use Rattle.tables.specs.Lines.{rowOf, isFixed}
 use Rattle.tables.specs.Sizes.{shapeOf, block, fixedRow}
-use Rattle.tables.specs.Work.{lineValue, lineTable, rowAt, goodFix, faultFix, Loose, Fixes, Sound, Good, sideTable, Side, Made, Loosened}
+use Rattle.tables.specs.Work.{lineValue, lineTable, rowAt, goodFix, faultFix, Loose, Fixes, Sound, Good, sideTable, Side, Made}
 use Rattle.tables.specs.declared.circuit.Batch.{Batch}
 use Rattle.tables.specs.declared.rows.Shape.{Shape}
 use Rattle.tables.proofs.Blocks.{tabulate-block, block-row, block-kept}
@@ -57,7 +57,7 @@ side-good j rows side =
     }
 
 -- rows before a line's block that are as they were
-side-kept : (j : Job) (b : Batch) (l : ℕ) (rows after : List ℕ) → (1 ≤ b .first → lines j ≤ b .base) → Side j b l rows
+pub side-kept : (j : Job) (b : Batch) (l : ℕ) (rows after : List ℕ) → (1 ≤ b .first → lines j ≤ b .base) → Side j b l rows
     → ((k : ℕ) → k < rowOf b l → rowAt j k after ≡ rowAt j k rows) → Side j b l after
 side-kept j b l rows after behind side kept =
     record {
@@ -125,7 +125,7 @@ module _ (j : Job) (shape : Shape) (b : Batch) (q : ℕ) (rows after : List ℕ)
       column-right
 
 -- the lines before, and one more
-side-next : (j : Job) (b : Batch) (l : ℕ) (rows : List ℕ) → Side j b l rows
+pub side-next : (j : Job) (b : Batch) (l : ℕ) (rows : List ℕ) → Side j b l rows
     → ((i : ℕ) → i < b .count → rowAt j (rowOf b l + i) rows ≡ sideTable j b i l) → Side j b (l + 1) rows
 side-next j b l rows side here =
     record {
@@ -133,69 +133,3 @@ side-next j b l rows side here =
       line = λ k i less within.
           below-more (λ (k : ℕ). rowAt j (rowOf b k + i) rows ≡ sideTable j b i k) l (λ k before. side .line k i before within) (here i within) k less;
     }
-
-pub untouched : (j : Job) (b : Batch) (l : ℕ) (rows : List ℕ) (touched : Bool) → Made j b l rows → Loosened j b l touched → touched ≡ false → Side j b (l + 1) rows
-untouched j b l rows touched made loose is = side-next j b l rows (made .before) (λ i h. made .free i h (loose .free is i h))
-
-pub record Columns (j : Job) (b : Batch) (l next : ℕ) (rows : List ℕ) : Type 0 where
-  pub made : Made j b l rows
-  pub done : (i : ℕ) → i < next → rowAt j (rowOf b l + i) rows ≡ sideTable j b i l
-
-pub columns-none : (j : Job) (b : Batch) (l : ℕ) (rows : List ℕ) → Made j b l rows → Columns j b l 0 rows
-columns-none j b l rows made = record { made = made; done = below-none (λ (i : ℕ). rowAt j (rowOf b l + i) rows ≡ sideTable j b i l) }
-
-pub columns-all : (j : Job) (b : Batch) (l next : ℕ) (rows : List ℕ) → Columns j b l next rows → b .count ≤ next → Side j b (l + 1) rows
-columns-all j b l next rows columns h = side-next j b l rows (columns .made .before) (λ i less. columns .done i (omega arith))
-
-module _ (j : Job) (shape : Shape) (b : Batch) (l i : ℕ) (rows after : List ℕ) (sound : Sound j shape b rows) (columns : Columns j b l i rows)
-    (below : l < lines j) (less : i < b .count) (some : 1 ≤ b .first) where
-  fix-is : fixingOf j (b .first + i) ≡ faultFix j (faultAt j (b .first - 1 + i))
-  fix-is = fixing-fault j (b .first) i some
-
-  -- a row that was put is that of one column
-  columns-put : Puts j (rowOf b l + i) (sideTable j b i l) rows after → Columns j b l (i + 1) after
-  columns-put puts =
-      record {
-        made =
-            record {
-              before = side-kept j b l rows after (sound .behind) (columns .made .before) (λ k before. puts .kept k (λ e. omega arith));
-              free = λ k h loose. pick k (λ ne. puts .kept (rowOf b l + k) ne ∙ columns .made .free k h loose);
-            };
-        done =
-            below-more (λ (k : ℕ). rowAt j (rowOf b l + k) after ≡ sideTable j b k l) i
-            (λ k before. puts .kept (rowOf b l + k) (λ e. omega arith) ∙ columns .done k before) (puts .row);
-      }
-    where
-      pick : (k : ℕ) → ((rowOf b l + k ≡ rowOf b l + i → ⊥) → rowAt j (rowOf b l + k) after ≡ sideTable j b k l)
-          → rowAt j (rowOf b l + k) after ≡ sideTable j b k l
-      pick k other = go (eqb k i) refl
-        where
-          go : (t : Bool) → eqb k i ≡ t → rowAt j (rowOf b l + k) after ≡ sideTable j b k l
-          go true is = subst (λ (n : ℕ). rowAt j (rowOf b l + n) after ≡ sideTable j b n l) (sym (eqb-true k i is)) (puts .row)
-          go false is = other (λ e. eqb-false k i is (omega arith))
-
-  pub columns-next : (x : Fault) → x ≡ faultAt j (b .first - 1 + i) → Fixes j x → (to : ℕ) → to ≡ rowOf b l * shape .bytes
-      → after ≡ cond (isFixed x l) (splice rows (to + i * shape .bytes) (fixedRow shape x rows)) rows → Columns j b l (i + 1) after
-  columns-next x is fixes to at e = go (isFixed x l) refl
-    where
-      right : faultFix j x ≡ fixingOf j (b .first + i)
-      right = ap (faultFix j) is ∙ sym fix-is
-
-      place : to + i * shape .bytes ≡ (rowOf b l + i) * shape .bytes
-      place = ap (λ (k : ℕ). k + i * shape .bytes) at ∙ sym (add-mul (rowOf b l) i (shape .bytes))
-
-      go : (t : Bool) → isFixed x l ≡ t → Columns j b l (i + 1) after
-      go true h =
-          columns-put
-          (row-puts j (rowOf b l + i) (sideTable j b i l) rows after (length-packed (2 ^ (j .inputs)) (lineValue (fixingOf j (b .first + i)) j l))
-          (row-inside j shape b rows sound l below i less)
-          (subst (λ (s : Shape). after ≡ splice rows ((rowOf b l + i) * s .bytes) (fixedRow s x rows)) (sound .shaped)
-          (e ∙ ap (λ (t : Bool). cond t (splice rows (to + i * shape .bytes) (fixedRow shape x rows)) rows) h
-          ∙ ap (λ (k : ℕ). splice rows k (fixedRow shape x rows)) place)
-          ∙ ap (splice rows ((rowOf b l + i) * tableBytes (j .inputs)))
-          (fixed-table j rows (columns .made .before .good some) x fixes l below h ∙ ap (λ (fix : ℕ → Fixing). lineTable fix j l) right)))
-      go false h =
-          columns-put
-          (row-stays j (rowOf b l + i) (sideTable j b i l) rows after
-          (columns .made .free i less (subst (λ (fix : ℕ → Fixing). Loose fix l) right (fault-loose j x l h)))
-          (e ∙ ap (λ (t : Bool). cond t (splice rows (to + i * shape .bytes) (fixedRow shape x rows)) rows) h))

@@ -1,13 +1,14 @@
 pub mod Answering
 pub mod Batching
 pub mod Blocks
+pub mod Chaining
 pub mod Delivered
 pub mod Faults
 pub mod Forming
 pub mod Held
+pub mod Mending
 pub mod Putting
 pub mod Shaped
 pub mod Sizes
 pub mod Space
-pub mod Touching
 pub mod Values

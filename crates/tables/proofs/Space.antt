@@ -22,7 +22,7 @@
 use Prim.Native.Nat.{ℕ, suc, _+_, _-_, _*_, _^_, _≤_, _<_}
 use native.Mathlib.Nat.{le-trans, mul-le-mul-left, mul-le-mul-right, suc-mul, add-mul, mul-one}
 use native.Mathlib.Omega.{arith}
-use mathlib.Core.Path.{_≡_, sym, ap, subst, _∙_}
+use mathlib.Core.Path.{_≡_, refl, sym, ap, subst, _∙_}
 use mathlib.Core.List.{List}
 use lib.ListN.{length}
 use lib.Pow.{pow-mono, pow-pos}
@@ -86,10 +86,12 @@ module _ (j : Job) (shape : Shape) (width : ℕ) (rows : List ℕ) (wide : Wide 
         room = le-trans (mul-le-mul-right (tableBytes (j .inputs)) few) (wide .room);
         behind = λ h. absurd (omega arith);
         within = omega arith;
+        alone = λ _. refl;
       }
 
-  pub batch-faulty : (first : ℕ) → first + width ≤ j .«fault_count» + 1 → Sound j shape (record { base = lines j; first = first; count = width }) rows
-  batch-faulty first h = record { valid = wide .valid; shaped = wide .shaped; room = wide .room; behind = λ _. omega arith; within = h }
+  pub batch-faulty : (first : ℕ) → 1 ≤ first → first + width ≤ j .«fault_count» + 1 → Sound j shape (record { base = lines j; first = first; count = width }) rows
+  batch-faulty first some h =
+      record { valid = wide .valid; shaped = wide .shaped; room = wide .room; behind = λ _. omega arith; within = h; alone = λ none. absurd (omega (arith, none)) }
 
   pub wide-kept : (after : List ℕ) → length after ≡ length rows → Wide j shape width after
   wide-kept after e =
@@ -132,6 +134,7 @@ module _ (j : Job) (shape : Shape) (b : Batch) (rows : List ℕ) (sound : Sound 
         room = subst (λ (k : ℕ). (b .base + lines j * b .count) * tableBytes (j .inputs) ≤ k) (sym e) (sound .room);
         behind = sound .behind;
         within = sound .within;
+        alone = sound .alone;
       }
 
   pub shape-some : 1 ≤ shape .bytes

@@ -12,12 +12,9 @@
 --   Good       the first rows hold the good circuit's tables
 --   Side       the blocks of the first lines hold their tables in each circuit of the batch, and the good circuit's rows stand
 --   Made       so for the lines before one; its own block holds its tables in the circuits that leave it as it is
---   Touches    a line that is not touched is fixed in no circuit of the batch; in the good circuit no line is touched
---   Loosened   what that says of one line
 --   tablesFrom the tables of a batch
 use Prim.Native.Nat.{ℕ, _+_, _*_, _^_, _≤_, _<_}
 use mathlib.Core.Path.{_≡_}
-use mathlib.Core.Bool.{Bool, true, false}
 use mathlib.Core.List.{List}
 use lib.ListN.{length, getD}
 use Rattle.bits.specs.Packed.{packed}
@@ -83,6 +80,7 @@ pub record Sound (j : Job) (shape : Shape) (b : Batch) (rows : List ℕ) : Type 
   pub room : (b .base + lines j * b .count) * tableBytes (j .inputs) ≤ length rows
   pub behind : 1 ≤ b .first → lines j ≤ b .base
   pub within : b .first + b .count ≤ j .«fault_count» + 1
+  pub alone : b .first ≡ 0 → b .count ≡ 1
 
 pub record Faulty (j : Job) (first count : ℕ) : Type 0 where
   pub some : 1 ≤ first
@@ -102,13 +100,6 @@ pub record Side (j : Job) (b : Batch) (next : ℕ) (rows : List ℕ) : Type 0 wh
 pub record Made (j : Job) (b : Batch) (l : ℕ) (rows : List ℕ) : Type 0 where
   pub before : Side j b l rows
   pub free : (i : ℕ) → i < b .count → Loose (fixingOf j (b .first + i)) l → rowAt j (rowOf b l + i) rows ≡ sideTable j b i l
-
-pub record Loosened (j : Job) (b : Batch) (l : ℕ) (touched : Bool) : Type 0 where
-  pub free : touched ≡ false → (i : ℕ) → i < b .count → Loose (fixingOf j (b .first + i)) l
-  pub some : touched ≡ true → 1 ≤ b .first
-
-pub record Touches (j : Job) (b : Batch) (of : List Bool) : Type 0 where
-  pub line : (l : ℕ) → Loosened j b l (getD of l false)
 
 abbrev pub tablesFrom : Job → ℕ → ℕ → List ℕ
 tablesFrom j first count = block count (λ i. circuitTable j (first + i))

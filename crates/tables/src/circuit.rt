@@ -1,17 +1,18 @@
 // The rows of a job's circuits: first a row for each line of the good circuit, then those of a batch of faulty circuits, worked out side by side.
 ghost use mathlib.Core.Path.{_≡_};
-ghost use mathlib.Core.Bool.{cond, true, false};
+ghost use mathlib.Core.Bool.{cond};
 ghost use Prim.Native.Nat.{_+_, _*_, _^_, _≤_, _<_};
 ghost use lib.ListN.{length};
 ghost use Rattle.bits.specs.Packed.{tabulate};
-ghost use Rattle.job.specs.Check.{Valid};
 ghost use Rattle.job.specs.Layout.{maxGates};
 ghost use Rattle.job.specs.Record.{faultA, faultB, gateA, gateB, lines};
 ghost use Rattle.gates.specs.Form.{kindForm, combined};
 ghost use Rattle.gates.specs.Rows.{splice, stepFits};
-ghost use Rattle.tables.specs.Lines.{Formed, rowOf, isFixed};
+ghost use Rattle.tables.specs.Chains.{lineAt, Linked};
+ghost use Rattle.tables.specs.Lines.{Formed, rowOf};
 ghost use Rattle.tables.specs.Sizes.{Below, fixedRow};
-ghost use Rattle.tables.specs.Work.{Sound, Good, Side, Made, Touches, Loosened};
+ghost use Rattle.tables.specs.Work.{Sound, Good, Side, Made};
+use crate::chain::Chain;
 use crate::rows::Shape;
 use gates::Form;
 use job::BinaryKind;
@@ -29,11 +30,6 @@ pub(crate) struct Batch {
     pub(crate) base: usize,
     pub(crate) first: usize,
     pub(crate) count: usize,
-}
-
-// The lines that a circuit of the batch fixes.
-pub(crate) struct Touched {
-    pub(crate) of: [bool; MAX_LINES],
 }
 
 // The polynomial of each gate, worked out once for all circuits.
@@ -94,72 +90,38 @@ pub(crate) fn good_circuit(rows: &mut [u8], job: Job, forms: Forms, shape: Shape
         first: 0,
         count: 1,
     };
-    let touched = Touched {
-        of: [false; MAX_LINES],
-    };
-    input_blocks(rows, job, batch, touched, shape);
-    gate_blocks(rows, job, forms, batch, touched, shape);
+    work_out(rows, job, forms, batch, shape);
 }
 
-// Works out a batch of faulty circuits, behind the rows of the good one.
-pub(crate) fn faulty_circuits(rows: &mut [u8], job: Job, forms: Forms, batch: Batch, shape: Shape)
-    requires { ⌜ Sound job shape batch (now rows) × Formed job (shape .keep) forms × (1 ≤ batch .first) × Good job (now rows) ⌝ }
+// Works out the circuits of a batch; faulty ones stand behind the rows of the good one.
+pub(crate) fn work_out(rows: &mut [u8], job: Job, forms: Forms, batch: Batch, shape: Shape)
+    requires { ⌜ Sound job shape batch (now rows) × Formed job (shape .keep) forms × (1 ≤ batch .first → Good job (now rows)) ⌝ }
     ensures { λ r. ⌜ Side job batch (lines job) (now (rows .exit)) ⌝ }
 {
-    let touched = touched_lines(job, batch);
-    input_blocks(rows, job, batch, touched, shape);
-    gate_blocks(rows, job, forms, batch, touched, shape);
-}
-
-// Once a batch, so that only the lines that are fixed in one of its circuits are searched for faults.
-fn touched_lines(job: Job, batch: Batch) -> Touched
-    requires { ⌜ Valid job × (1 ≤ batch .first) × (batch .first + batch .count ≤ job .«fault_count» + 1) ⌝ }
-    ensures { λ r. ⌜ Touches job batch (r .of) ⌝ }
-{
-    let count = batch.count;
-    let mut touched = Touched {
-        of: [false; MAX_LINES],
-    };
-    let mut i = 0;
-    while i < count {
-        let entry = job.faults[batch.first - 1 + i];
-        let fault = entry.fault;
-        let low = fault.first();
-        let high = fault.second();
-        touched.of[low] = true;
-        touched.of[high] = true;
-        i += 1;
-    }
-    touched
+    let chain = crate::chain::chain_of(job, batch.first, batch.count);
+    input_blocks(rows, job, batch, chain, shape);
+    gate_blocks(rows, job, forms, batch, chain, shape);
 }
 
 // The blocks of the inputs.
-fn input_blocks(rows: &mut [u8], job: Job, batch: Batch, touched: Touched, shape: Shape)
-    requires { ⌜ Sound job shape batch (now rows) × Touches job batch (touched .of) × (1 ≤ batch .first → Good job (now rows)) ⌝ }
+fn input_blocks(rows: &mut [u8], job: Job, batch: Batch, chain: Chain, shape: Shape)
+    requires { ⌜ Sound job shape batch (now rows) × Linked (lineAt job (batch .first)) (2 * batch .count) (chain .head) (chain .next) × (1 ≤ batch .first → Good job (now rows)) ⌝ }
     ensures { λ r. ⌜ Side job batch (job .inputs) (now (rows .exit)) ⌝ }
 {
     let inputs = job.inputs as usize;
     let count = batch.count;
     let mut line = 0;
     while line < inputs {
-        let flag = touched.of[line];
         let to = block_place(batch, line, shape.bytes);
         crate::rows::input_block(rows, line, to, count, shape);
-        fix_touched(rows, flag, job, batch, line, shape);
+        fix_line(rows, chain, job, batch, line, shape);
         line += 1;
     }
 }
 
 // The blocks of the gates, each from the blocks of the lines that it reads.
-fn gate_blocks(
-    rows: &mut [u8],
-    job: Job,
-    forms: Forms,
-    batch: Batch,
-    touched: Touched,
-    shape: Shape,
-)
-    requires { ⌜ Sound job shape batch (now rows) × Formed job (shape .keep) forms × Touches job batch (touched .of) × Side job batch (job .inputs) (now rows) ⌝ }
+fn gate_blocks(rows: &mut [u8], job: Job, forms: Forms, batch: Batch, chain: Chain, shape: Shape)
+    requires { ⌜ Sound job shape batch (now rows) × Formed job (shape .keep) forms × Linked (lineAt job (batch .first)) (2 * batch .count) (chain .head) (chain .next) × Side job batch (job .inputs) (now rows) ⌝ }
     ensures { λ r. ⌜ Side job batch (lines job) (now (rows .exit)) ⌝ }
 {
     let inputs = job.inputs as usize;
@@ -171,9 +133,8 @@ fn gate_blocks(
         let gate = entry.gate;
         let form = forms.of[q];
         let line = inputs + q;
-        let flag = touched.of[line];
         gate_block(rows, gate, form, batch, line, bytes);
-        fix_touched(rows, flag, job, batch, line, shape);
+        fix_line(rows, chain, job, batch, line, shape);
         q += 1;
     }
 }
@@ -189,50 +150,22 @@ fn gate_block(rows: &mut [u8], gate: Gate, form: Form, batch: Batch, line: usize
     gates::combine(rows, x, y, to, batch.count * bytes, form);
 }
 
-// The fixed tables of a line, if there are any.
-fn fix_touched(rows: &mut [u8], touched: bool, job: Job, batch: Batch, line: usize, shape: Shape)
-    requires { ⌜ Sound job shape batch (now rows) × Made job batch line (now rows) × (line < lines job) × Loosened job batch line touched ⌝ }
-    ensures { λ r. ⌜ Side job batch (line + 1) (now (rows .exit)) ⌝ }
-{
-    if touched {
-        fix_line(rows, job, batch, line, shape);
-    }
-}
-
-// The tables of a line in the circuits that fix it, over those of the line's block.
-fn fix_line(rows: &mut [u8], job: Job, batch: Batch, line: usize, shape: Shape)
-    requires { ⌜ Sound job shape batch (now rows) × Made job batch line (now rows) × (line < lines job) × (1 ≤ batch .first) ⌝ }
+// The tables of a line in the circuits that fix it, over those of the line's block: two places of the chain are a circuit's.
+fn fix_line(rows: &mut [u8], chain: Chain, job: Job, batch: Batch, line: usize, shape: Shape)
+    requires { ⌜ Sound job shape batch (now rows) × Made job batch line (now rows) × (line < lines job) × Linked (lineAt job (batch .first)) (2 * batch .count) (chain .head) (chain .next) ⌝ }
     ensures { λ r. ⌜ Side job batch (line + 1) (now (rows .exit)) ⌝ }
 {
     let bytes = shape.bytes;
-    let count = batch.count;
     let start = block_place(batch, line, bytes);
-    let mut i = 0;
-    while i < count {
-        let entry = job.faults[batch.first - 1 + i];
+    let mut left = chain.head[line] as usize;
+    while left != 0 {
+        let place = left - 1;
+        let column = place / 2;
+        let entry = job.faults[batch.first - 1 + column];
         let fault = entry.fault;
-        fix_column(rows, start + i * bytes, fault, line, shape);
-        i += 1;
+        fix_row(rows, start + column * bytes, fault, shape);
+        left = chain.next[place] as usize;
     }
-}
-
-// The table of a line in the circuit with a fault, if the fault fixes the line.
-fn fix_column(rows: &mut [u8], to: usize, fault: Fault, line: usize, shape: Shape)
-    requires { ⌜ Below shape (faultA fault * shape .bytes) (faultB fault * shape .bytes) to (now rows) ⌝ }
-    ensures { λ r. ⌜ now (rows .exit) ≡ cond (isFixed fault line) (splice (now (rows .entry)) to (fixedRow shape fault (now (rows .entry)))) (now (rows .entry)) ⌝ }
-{
-    if fixes_line(fault, line) {
-        fix_row(rows, to, fault, shape);
-    }
-}
-
-fn fixes_line(fault: Fault, line: usize) -> bool
-    ensures { λ r. ⌜ r ≡ isFixed fault line ⌝ }
-{
-    if line == fault.first() {
-        return true;
-    }
-    line == fault.second()
 }
 
 // The table that a fault gives its lines: a level, or the bridge of the good circuit's two tables.

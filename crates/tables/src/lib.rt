@@ -20,6 +20,7 @@ use job::MAX_GATES;
 use job::MAX_INPUTS;
 use rows::Shape;
 
+mod chain;
 mod circuit;
 mod rows;
 
@@ -137,7 +138,7 @@ fn put_batch(
         first,
         count,
     };
-    circuit::faulty_circuits(rows, job, forms, batch, shape);
+    circuit::work_out(rows, job, forms, batch, shape);
     let at = circuit::block_place(batch, job.output as usize, bytes);
     copy(out, to, rows, at, count * bytes);
 }

@@ -22,10 +22,10 @@ add-lines : tie.Need-add-lines
 unfolding maxInputs maxGates
 add-lines c = omega (arith, lines-most (c .before .before .before .before .args .job) (c .before .before .before .before .pre .0 .valid))
 
-faulty-circuits-requires : tie.Need-faulty-circuits-requires
-faulty-circuits-requires c κs =
+work-out-requires : tie.Need-work-out-requires
+work-out-requires c κs =
     let a = c .before .before .before .before .before .args in
-    (batch-faulty (a .job) (a .shape) (a .count) (a .rows .now) (c .before .before .before .before .before .pre .0) (a .first) (c .before .before .before .before .before .pre .3 .within), c .before .before .before .before .before .pre .1, c .before .before .before .before .before .pre .3 .some, c .before .before .before .before .before .pre .2)
+    (batch-faulty (a .job) (a .shape) (a .count) (a .rows .now) (c .before .before .before .before .before .pre .0) (a .first) (c .before .before .before .before .before .pre .3 .some) (c .before .before .before .before .before .pre .3 .within), c .before .before .before .before .before .pre .1, let good = c .before .before .before .before .before .pre .2 in λ h. good)
 
 cast-block-place : tie.Need-cast-block-place
 unfolding maxInputs maxGates
@@ -34,7 +34,7 @@ cast-block-place c = omega (arith, line-index (c .before .before .before .before
 block-place-requires : tie.Need-block-place-requires
 block-place-requires c κs =
     let a = c .before .before .before .before .before .before .before .before .before .args in
-    let sound = batch-faulty (a .job) (a .shape) (a .count) (a .rows .now) (c .before .before .before .before .before .before .before .before .before .pre .0) (a .first) (c .before .before .before .before .before .before .before .before .before .pre .3 .within) in (
+    let sound = batch-faulty (a .job) (a .shape) (a .count) (a .rows .now) (c .before .before .before .before .before .before .before .before .before .pre .0) (a .first) (c .before .before .before .before .before .before .before .before .before .pre .3 .some) (c .before .before .before .before .before .before .before .before .before .pre .3 .within) in (
       shape-some (a .job) (a .shape) _ (a .rows .now) sound,
       place-small (a .job) (a .shape) _ (a .rows .now) sound (a .job .output) (c .before .before .before .before .before .before .before .before .before .pre .0 .valid .output) (c .before .before .before .before .before .before .before .before .before .good .1 .1 .0 .0),
     )
@@ -42,15 +42,15 @@ block-place-requires c κs =
 mul-copy : tie.Need-mul-copy
 mul-copy c =
     let a = c .before .before .before .before .before .before .before .before .before .before .before .before .args in
-    let sound = batch-faulty (a .job) (a .shape) (a .count) (a .rows .now) (c .before .before .before .before .before .before .before .before .before .before .before .before .pre .0) (a .first) (c .before .before .before .before .before .before .before .before .before .before .before .before .pre .3 .within) in
+    let sound = batch-faulty (a .job) (a .shape) (a .count) (a .rows .now) (c .before .before .before .before .before .before .before .before .before .before .before .before .pre .0) (a .first) (c .before .before .before .before .before .before .before .before .before .before .before .before .pre .3 .some) (c .before .before .before .before .before .before .before .before .before .before .before .before .pre .3 .within) in
     record { fits = omega (arith, block-room (a .job) (a .shape) _ (a .rows .now) sound (a .job .output) (c .before .before .before .before .before .before .before .before .before .before .before .before .pre .0 .valid .output), (c .before .before .before .before .before .before .before .before .before .before .before .before .good .1 .1 .0 .0)) }
 
 copy-requires : tie.Need-copy-requires
 copy-requires c κs =
     let a = c .before .before .before .before .before .before .before .before .before .before .before .before .args in
-    let sound = batch-faulty (a .job) (a .shape) (a .count) (a .rows .now) (c .before .before .before .before .before .before .before .before .before .before .before .before .pre .0) (a .first) (c .before .before .before .before .before .before .before .before .before .before .before .before .pre .3 .within) in (
+    let sound = batch-faulty (a .job) (a .shape) (a .count) (a .rows .now) (c .before .before .before .before .before .before .before .before .before .before .before .before .pre .0) (a .first) (c .before .before .before .before .before .before .before .before .before .before .before .before .pre .3 .some) (c .before .before .before .before .before .before .before .before .before .before .before .before .pre .3 .within) in (
       subst (λ (k : ℕ). a .to + a .count * k ≤ length (a .out .now)) (sym (wide-bytes (a .job) (a .shape) (a .count) (a .rows .now) (c .before .before .before .before .before .before .before .before .before .before .before .before .pre .0))) (c .before .before .before .before .before .before .before .before .before .before .before .before .pre .4),
-      batch-inside (a .job) (a .shape) _ (c .before .before .before .before .before .before .faulty-circuits .last .0) (sound-kept (a .job) (a .shape) _ (a .rows .now) sound (c .before .before .before .before .before .before .faulty-circuits .last .0) (c .before .before .before .before .before .before .faulty-circuits .kept .0))
+      batch-inside (a .job) (a .shape) _ (c .before .before .before .before .before .before .work-out .last .0) (sound-kept (a .job) (a .shape) _ (a .rows .now) sound (c .before .before .before .before .before .before .work-out .last .0) (c .before .before .before .before .before .before .work-out .kept .0))
           (c .before .before .block-place .ensures),
     )
 
@@ -58,17 +58,17 @@ same-length : tie.Need-same-length
 same-length c = c .before .before .copy .kept .0
 
 same-length-2 : tie.Need-same-length-2
-same-length-2 c = c .before .before .before .before .before .before .before .before .before .faulty-circuits .kept .0
+same-length-2 c = c .before .before .before .before .before .before .before .before .before .work-out .kept .0
 
 returns : tie.Need-returns
 returns c =
     let a = c .before .before .before .before .before .before .before .before .before .before .before .before .before .before .before .args in
-    let sound = batch-faulty (a .job) (a .shape) (a .count) (a .rows .now) (c .before .before .before .before .before .before .before .before .before .before .before .before .before .before .before .pre .0) (a .first) (c .before .before .before .before .before .before .before .before .before .before .before .before .before .before .before .pre .3 .within) in (
-      c .before .before .before .before .before .before .before .before .before .faulty-circuits .ensures .good (c .before .before .before .before .before .before .before .before .before .before .before .before .before .before .before .pre .3 .some),
+    let sound = batch-faulty (a .job) (a .shape) (a .count) (a .rows .now) (c .before .before .before .before .before .before .before .before .before .before .before .before .before .before .before .pre .0) (a .first) (c .before .before .before .before .before .before .before .before .before .before .before .before .before .before .before .pre .3 .some) (c .before .before .before .before .before .before .before .before .before .before .before .before .before .before .before .pre .3 .within) in (
+      c .before .before .before .before .before .before .before .before .before .work-out .ensures .good (c .before .before .before .before .before .before .before .before .before .before .before .before .before .before .before .pre .3 .some),
       c .before .before .copy .ensures
           ∙ ap (splice (a .out .now) (a .to))
-          (batch-part (a .job) (a .shape) _ (c .before .before .before .before .before .before .before .before .before .faulty-circuits .last .0) (sound-kept (a .job) (a .shape) _ (a .rows .now) sound (c .before .before .before .before .before .before .before .before .before .faulty-circuits .last .0) (c .before .before .before .before .before .before .before .before .before .faulty-circuits .kept .0))
-          (c .before .before .before .before .before .block-place .ensures) (c .before .before .before .before .before .before .before .before .before .faulty-circuits .ensures)),
+          (batch-part (a .job) (a .shape) _ (c .before .before .before .before .before .before .before .before .before .work-out .last .0) (sound-kept (a .job) (a .shape) _ (a .rows .now) sound (c .before .before .before .before .before .before .before .before .before .work-out .last .0) (c .before .before .before .before .before .before .before .before .before .work-out .kept .0))
+          (c .before .before .before .before .before .block-place .ensures) (c .before .before .before .before .before .before .before .before .before .work-out .ensures)),
     )
 
 pub put-batch-spec : {M : Type 1} → statement M
@@ -78,7 +78,7 @@ put-batch-spec =
     cast-lines
     cast-lines-2
     add-lines
-    faulty-circuits-requires
+    work-out-requires
     cast-block-place
     block-place-requires
     mul-copy
