@@ -1,29 +1,28 @@
 -- Tables worked out in rows, and put into lent memory (specs/Work.antt, specs/Operations.antt).
 --
---   tabulate-part       bytes copied one by one are a part of the rows
 --   length-table        a circuit's table has tableBytes bytes
 --   length-tablesTo     the tables of c circuits have c times as many
---   sound, sound-of     a valid job and rows for the largest circuit are sound
+--   wide-one, wide-block   the lent rows have room for the good circuit and one more, or as many as fit a block
 --   table-count-fits    the bytes of all tables of a valid job fit a usize
 --   fixes               a valid fault fixes lines of the circuit
---   placed-good, placed-faulty   the lines of any circuit have places that hold their tables
---   output-table        that of the output is the circuit's table
+--   output-table        the table of the output line is the circuit's
+--   good-output         the good circuit's row of the output is its table
+--   side-output         the block of the output is the tables of the batch
 --   splice-start        new bytes at the start, then the rest as it was
---   tables-more         the tables put so far, and one more
-use Prim.Native.Nat.{ℕ, zero, suc, _+_, _-_, _*_, _^_, _≤_, _<_}
+--   tables-all          the good circuit's table, and then those of the faulty circuits
+--   tables-more         the tables of a batch behind those of the batches before
+--   table-single        a batch of one circuit
+use Prim.Native.Nat.{ℕ, zero, suc, _+_, _*_, _/_, _^_, _≤_, _<_}
 use native.Mathlib.Omega.{arith}
-use native.Mathlib.Nat.{lt-of-le-of-lt, zero-add, mul-le-mul, zero-mul, suc-mul}
-use native.Mathlib.Numerals.{add-one}
+use native.Mathlib.Nat.{lt-of-le-of-lt, zero-add, add-zero, add-le-add, add-mul, mul-add, mul-assoc, mul-one, one-mul, mul-le-mul, div-mul-le-self, zero-mul, suc-mul}
 use mathlib.Core.Path.{_≡_, refl, sym, ap, ap₂, subst, _∙_}
 use mathlib.Core.Bool.{true}
-use mathlib.Core.List.{List, [], _∷_, _++_}
+use mathlib.Core.List.{List, _++_}
 use borrow.Author.Tests.{ltb-true}
 use lib.Dec.{ltb}
 use mir.Syntax.{w64}
 use mir.Val.{Fits}
-use lib.ListN.{length, getD, take, drop, length-append, length-drop}
-use lib.Seq.{take-suc, getD-drop, take-at, drop-drop, drop-append-add}
-use Rattle.bits.specs.Packed.{tabulate}
+use lib.ListN.{length, drop, length-append}
 use Rattle.bits.proofs.Packed.{length-packed}
 use Rattle.bits.proofs.Tests.{and-r}
 use Rattle.job.specs.Check.{Valid, faultLineOk, faultOrderOk}
@@ -33,23 +32,21 @@ use Rattle.job.specs.declared.Fault.{Fault}
 use Rattle.job.specs.declared.Fault.the-variants.{Stuck, Bridge}
 use Rattle.job.specs.declared.Job.{Job}
 use Rattle.gates.specs.Form.{tableBytes}
-use Rattle.tables.specs.Sizes.{shapeOf}
+use Rattle.tables.specs.Sizes.{shapeOf, block}
 use Rattle.gates.specs.Rows.{part, splice}
 use Rattle.tables.specs.declared.rows.Shape.{Shape}
 use Rattle.tables.specs.Circuit.{circuitEntry, circuitTable, fixingOf}
-use Rattle.tables.specs.Lines.{maxLines, placeOf, Spaced}
-use Rattle.tables.specs.Work.{rowBytes, lineValue, faultFix, Fixes, Sound, Good, Placed}
+use Rattle.tables.specs.Lines.{maxLines, rowOf}
+use Rattle.tables.specs.Work.{maxTableBytes, blockBytes, rowBytes, allRowBytes, lineValue, lineTable, rowAt, Fixes, Wide, Good, Side, tablesFrom}
+use Rattle.tables.specs.declared.circuit.Batch.{Batch}
 use Rattle.tables.specs.Operations.{tablesTo}
 use Rattle.tables.proofs.Sizes.{all-tables-fit}
-use Rattle.tables.proofs.Space.{tableBytes-most, shape-bytes, line-index, row-inside}
+use Rattle.tables.proofs.Blocks.{block-ext, block-append, length-block, part-block, splice-append}
+use Rattle.tables.proofs.Space.{lines-most, tableBytes-most}
 
-pub tabulate-part : (rows : List ℕ) (at count : ℕ) → at + count ≤ length rows → tabulate count (λ i. getD rows (at + i) 0) ≡ part at count rows
-unfolding tabulate
-tabulate-part rows at zero h = refl
-tabulate-part rows at (suc n) h =
-    let l : n < length rows - at = omega arith in
-    ap₂ (λ (a : List ℕ) (x : ℕ). a ++ (x ∷ [])) (tabulate-part rows at n (omega arith)) (sym (getD-drop at rows n 0))
-    ∙ sym (take-suc (drop at rows) n 0 (rw length-drop l))
+-- a row and a block a line
+side-by-side : (lines width bytes : ℕ) → (lines + lines * width) * bytes ≡ lines * (bytes + width * bytes)
+side-by-side lines width bytes = add-mul lines (lines * width) bytes ∙ ap (λ (k : ℕ). lines * bytes + k) (mul-assoc lines width bytes) ∙ sym (mul-add lines bytes (width * bytes))
 
 pub length-table : (j : Job) (c : ℕ) → length (circuitTable j c) ≡ tableBytes (j .inputs)
 unfolding circuitTable
@@ -61,18 +58,28 @@ length-tablesTo j zero = sym (zero-mul (tableBytes (j .inputs)))
 length-tablesTo j (suc c) =
     length-append (tablesTo j c) (circuitTable j c) ∙ ap₂ _+_ (length-tablesTo j c) (length-table j c) ∙ sym (suc-mul c (tableBytes (j .inputs)))
 
-pub sound : (j : Job) (rows : List ℕ) → Valid j → length rows ≡ rowBytes → Sound j (shapeOf (j .inputs)) rows
-unfolding rowBytes
-sound j rows v h =
-    let few : 2 * lines j ≤ 2 * (maxInputs + maxGates) = omega (arith, v .few, v .gates-few) in
-    record {
-      valid = v;
-      shaped = refl;
-      room = subst (λ (k : ℕ). 2 * lines j * tableBytes (j .inputs) ≤ k) (sym h) (mul-le-mul few (tableBytes-most (j .inputs) (v .few)));
-    }
+module _ (j : Job) (shape : Shape) (rows : List ℕ) (v : Valid j) (e : shape ≡ shapeOf (j .inputs)) where
+  pub wide-one : length rows ≡ rowBytes → Wide j shape 1 rows
+  unfolding rowBytes
+  wide-one h =
+      let few : lines j + lines j * 1 ≤ 2 * (maxInputs + maxGates) = omega (arith, v .few, v .gates-few, mul-one (lines j)) in
+      record {
+        valid = v;
+        shaped = e;
+        room = subst (λ (k : ℕ). (lines j + lines j * 1) * tableBytes (j .inputs) ≤ k) (sym h) (mul-le-mul few (tableBytes-most (j .inputs) (v .few)));
+      }
 
-pub sound-of : (j : Job) (shape : Shape) (rows : List ℕ) → Valid j → shape ≡ shapeOf (j .inputs) → length rows ≡ rowBytes → Sound j shape rows
-sound-of j shape rows v e h = subst (λ (x : Shape). Sound j x rows) (sym e) (sound j rows v h)
+  pub wide-block : length rows ≡ allRowBytes → Wide j shape (blockBytes / tableBytes (j .inputs)) rows
+  unfolding allRowBytes
+  wide-block h =
+      record {
+        valid = v;
+        shaped = e;
+        room =
+            subst (λ (k : ℕ). (lines j + lines j * (blockBytes / tableBytes (j .inputs))) * tableBytes (j .inputs) ≤ k) (sym h)
+            (subst (λ (k : ℕ). k ≤ (maxInputs + maxGates) * (maxTableBytes + blockBytes)) (sym (side-by-side (lines j) (blockBytes / tableBytes (j .inputs)) (tableBytes (j .inputs))))
+            (mul-le-mul (lines-most j v) (add-le-add (tableBytes-most (j .inputs) (v .few)) (div-mul-le-self blockBytes (tableBytes (j .inputs))))));
+      }
 
 pub table-count-fits : (j : Job) → Valid j → Fits w64 ((j .«fault_count» + 1) * tableBytes (j .inputs))
 table-count-fits j v =
@@ -89,47 +96,52 @@ fixes-of j (Bridge a b is-and) p q =
 pub fixes : (j : Job) (i : ℕ) → Valid j → i < j .«fault_count» → Fixes j (faultAt j i)
 fixes j i v h = fixes-of j (faultAt j i) (v .fault-line i h) (v .fault-order i h)
 
-pub placed-good : (j : Job) (shape : Shape) (places rows : List ℕ) (c : ℕ) → Sound j shape rows → Good j rows → c ≡ 0 → Spaced (shape .bytes) maxLines places
-    → Placed (fixingOf j c) j places rows
-unfolding fixingOf
-placed-good j shape places rows c sound good is spaced =
-    subst (λ (k : ℕ). Placed (fixingOf j k) j places rows) (sym is)
-    (record {
-      good = good;
-      inside = λ l h. subst (λ (k : ℕ). k + tableBytes (j .inputs) ≤ length rows) (sym (at l h)) (row-inside j shape rows sound l (omega arith));
-      line = λ l h. ap (λ (k : ℕ). part k (tableBytes (j .inputs)) rows) (at l h) ∙ good .line l h;
-    })
-  where
-    at : (l : ℕ) → l < lines j → placeOf places l ≡ l * tableBytes (j .inputs)
-    at l h = spaced .good l (line-index j (sound .valid) h) ∙ ap (λ (k : ℕ). l * k) (shape-bytes j shape rows sound)
-
-pub placed-faulty : (j : Job) (places rows : List ℕ) (c : ℕ) → (c ≡ 0 → ⊥) → Placed (faultFix j (faultAt j (c - 1))) j places rows
-    → Placed (fixingOf j c) j places rows
-unfolding fixingOf
-placed-faulty j places rows c ne placed =
-    let e : suc (c - 1) ≡ c = omega arith in
-    subst (λ (k : ℕ). Placed (fixingOf j k) j places rows) e placed
-
-pub output-table : (j : Job) (c : ℕ) (places rows : List ℕ) → Valid j → Placed (fixingOf j c) j places rows
-    → part (placeOf places (j .output)) (tableBytes (j .inputs)) rows ≡ circuitTable j c
+pub output-table : (j : Job) (c : ℕ) → lineTable (fixingOf j c) j (j .output) ≡ circuitTable j c
 unfolding circuitTable circuitEntry lineValue
-output-table j c places rows valid placed = placed .line (j .output) (valid .output)
+output-table j c = refl
+
+pub good-output : (j : Job) (rows : List ℕ) → Valid j → Good j rows → rowAt j (j .output) rows ≡ circuitTable j 0
+unfolding circuitTable circuitEntry lineValue fixingOf
+good-output j rows valid good = good .line (j .output) (valid .output)
+
+pub side-output : (j : Job) (b : Batch) (rows : List ℕ) → Valid j → Side j b (lines j) rows → (rowOf b (j .output) + b .count) * tableBytes (j .inputs) ≤ length rows
+    → part (rowOf b (j .output) * tableBytes (j .inputs)) (b .count * tableBytes (j .inputs)) rows ≡ tablesFrom j (b .first) (b .count)
+side-output j b rows valid side inside =
+    part-block rows (rowOf b (j .output)) (tableBytes (j .inputs)) (b .count) inside
+    ∙ block-ext (b .count) (λ i. rowAt j (rowOf b (j .output) + i) rows) (λ i. circuitTable j (b .first + i))
+    (λ i h. side .line (j .output) i (valid .output) h ∙ output-table j (b .first + i))
 
 pub splice-start : (out new : List ℕ) → splice out 0 new ≡ new ++ drop (length new) out
 splice-start out new = ap (λ (k : ℕ). new ++ drop k out) (zero-add (length new))
 
--- new bytes put behind new bytes
-splice-append : (out a b : List ℕ) (k : ℕ) → length a ≡ k → splice (splice out 0 a) k b ≡ splice out 0 (a ++ b)
-splice-append out a b k e =
-    ap (λ (l : List ℕ). take k l ++ b ++ drop (k + length b) l) (splice-start out a)
-    ∙ ap₂ (λ (x y : List ℕ). x ++ b ++ y) (take-at a (drop (length a) out) k e)
-    (ap (λ (n : ℕ). drop (n + length b) (a ++ drop (length a) out)) (sym e) ∙ drop-append-add a (drop (length a) out) (length b) ∙ drop-drop (length b) (length a) out)
-    ∙ ap (λ (n : ℕ). a ++ b ++ drop n out) (sym (length-append a b))
-    ∙ sym (splice-start out (a ++ b))
+tables-block : (j : Job) (c : ℕ) → tablesTo j c ≡ block c (circuitTable j)
+unfolding tablesTo block
+tables-block j zero = refl
+tables-block j (suc c) = ap (λ (l : List ℕ). l ++ circuitTable j c) (tables-block j c)
 
-pub tables-more : (j : Job) (c : ℕ) (out : List ℕ)
-    → splice (splice out 0 (tablesTo j c)) (c * tableBytes (j .inputs)) (circuitTable j c) ≡ splice out 0 (tablesTo j (c + 1))
-unfolding tablesTo
-tables-more j c out =
-    splice-append out (tablesTo j c) (circuitTable j c) (c * tableBytes (j .inputs)) (length-tablesTo j c)
-    ∙ ap (λ (n : ℕ). splice out 0 (tablesTo j n)) (sym (add-one c))
+-- the good circuit's table, and then those of the faulty circuits
+pub tables-all : (j : Job) (out : List ℕ) (faults : ℕ) → tableBytes (j .inputs) ≤ length out
+    → splice (splice out 0 (circuitTable j 0)) (tableBytes (j .inputs)) (tablesFrom j 1 faults) ≡ splice out 0 (tablesTo j (faults + 1))
+unfolding block
+tables-all j out faults h =
+    let e : 1 + faults ≡ faults + 1 = omega arith in
+    splice-append out 0 (circuitTable j 0) (tablesFrom j 1 faults) (tableBytes (j .inputs)) (zero-add (length (circuitTable j 0)) ∙ length-table j 0) h
+    ∙ ap (splice out 0) (block-append 1 faults (circuitTable j) ∙ ap (λ (k : ℕ). block k (circuitTable j)) e ∙ sym (tables-block j (faults + 1)))
+
+-- the tables of a batch behind those of the batches before
+pub tables-more : (j : Job) (done count : ℕ) (out : List ℕ) → (done + 1) * tableBytes (j .inputs) ≤ length out
+    → splice (splice out (tableBytes (j .inputs)) (tablesFrom j 1 done)) ((done + 1) * tableBytes (j .inputs)) (tablesFrom j (done + 1) count)
+    ≡ splice out (tableBytes (j .inputs)) (tablesFrom j 1 (done + count))
+tables-more j done count out h =
+    splice-append out (tableBytes (j .inputs)) (tablesFrom j 1 done) (tablesFrom j (done + 1) count) ((done + 1) * tableBytes (j .inputs))
+    (ap (λ (k : ℕ). tableBytes (j .inputs) + k) (length-block (tableBytes (j .inputs)) (λ i. circuitTable j (1 + i)) (λ i. length-table j (1 + i)) done)
+    ∙ (let e : tableBytes (j .inputs) + done * tableBytes (j .inputs) ≡ (done + 1) * tableBytes (j .inputs) = omega (arith, add-mul done 1 (tableBytes (j .inputs)), one-mul (tableBytes (j .inputs))) in e)) h
+    ∙ ap (splice out (tableBytes (j .inputs)))
+    (ap (λ (l : List ℕ). tablesFrom j 1 done ++ l)
+    (block-ext count (λ i. circuitTable j (done + 1 + i)) (λ i. circuitTable j (1 + (done + i)))
+    (λ i l. let e : done + 1 + i ≡ 1 + (done + i) = omega arith in ap (circuitTable j) e))
+    ∙ block-append done count (λ i. circuitTable j (1 + i)))
+
+pub table-single : (j : Job) (c : ℕ) → tablesFrom j c 1 ≡ circuitTable j c
+unfolding block
+table-single j c = ap (circuitTable j) (add-zero c)

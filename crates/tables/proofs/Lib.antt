@@ -1,11 +1,12 @@
 pub mod Answering
+pub mod Batching
+pub mod Blocks
+pub mod Chaining
 pub mod Delivered
 pub mod Faults
-pub mod Filling
-pub mod Following
 pub mod Forming
 pub mod Held
-pub mod Placing
+pub mod Mending
 pub mod Putting
 pub mod Shaped
 pub mod Sizes

@@ -2,45 +2,45 @@
 --
 --   gate-index       a gate's number is an index of the record's gates
 --   lines-most       the lines of a valid job are no more than those of the largest circuit
---   line-index       so each of them is an index of the places
---   gate-line-index, first-index, second-index   so are a gate's line and the lines that it reads
---   input-row        an input has a row
---   good-row, own-row   a line has a row of the good circuit, and one of the faulty circuit
+--   line-index       so each of them is an index of an array of lines
+--   input-line, gate-line   inputs and gates have lines
+--   fault-number     the circuits of a batch without the good one have faults of the job
+--   fault-index      a fault's number is an index of the record's faults
 --   tableBytes-most  no table has more bytes than that of the most inputs
---   shape-bytes      the shape has the table's bytes
---   bytes-most       they are no more than those of the largest table
+--   bytes-some       each has one
+--   times-some       a factor of a product that fits a word fits one
+--   batch-good, batch-faulty   where there are rows for a batch, a batch is sound
+--   wide-kept, wide-fewer      so for rows of the same length, and for fewer circuits
+--   shape-bytes, wide-bytes   the shape has the table's bytes, one or more (shape-some, wide-some)
 --   sound-kept       rows of the same length stay sound
---   input-shape      an input of the job is one of the shape
---   limit-fits       the place behind the good circuit's rows fits a word
---   row-inside       the row of a line, or of a line of the faulty circuit, lies within the rows
---   row-room         there is room for a table there
---   row-fits         its place fits a word
---   rows-below       lower rows stand before it
---   gate-fits        the place of a gate's row fits a word
---   first-fits, second-fits   so do those of the lines that the gate reads
---   own-inside       a gate's own row behind the good circuit's lies within the rows
-use Prim.Native.Nat.{ℕ, _+_, _*_, _^_, _≤_, _<_}
-use native.Mathlib.Nat.{le-trans, mul-le-mul-right, suc-mul, add-mul}
+--   block-before     a line's block ends before those of later lines
+--   row-before       the rows of a line's block are before those of later lines
+--   row-inside       a row of a line's block lies within the rows, and so does the block (block-inside, block-room)
+--   block-space      there is room for the block, and its place fits a word (place-small)
+--   column-fits, offset-fits   so does the place of a row in it
+--   column-below     the good circuit's rows are before a row of a faulty circuit
+use Prim.Native.Nat.{ℕ, suc, _+_, _-_, _*_, _^_, _≤_, _<_}
+use native.Mathlib.Nat.{le-trans, mul-le-mul-left, mul-le-mul-right, suc-mul, add-mul, mul-one}
 use native.Mathlib.Omega.{arith}
-use mathlib.Core.Path.{_≡_, sym, ap, subst, _∙_}
+use mathlib.Core.Path.{_≡_, refl, sym, ap, subst, _∙_}
 use mathlib.Core.List.{List}
 use lib.ListN.{length}
-use lib.Pow.{pow-mono}
+use lib.Pow.{pow-mono, pow-pos}
 use mir.Syntax.{w64}
 use mir.Val.{Fits}
 use Rattle.job.proofs.Sizes.{most-inputs}
 use Rattle.job.specs.Check.{Valid}
-use Rattle.job.specs.Layout.{maxInputs, maxGates}
-use Rattle.job.specs.Record.{gateA, gateB, gateAt, lines}
+use Rattle.job.specs.Layout.{maxInputs, maxGates, maxFaults}
+use Rattle.job.specs.Record.{faultA, faultB, lines}
+use Rattle.job.specs.declared.Fault.{Fault}
 use Rattle.job.specs.declared.Job.{Job}
 use Rattle.gates.specs.Form.{tableBytes}
-use Rattle.tables.specs.Sizes.{shapeOf, Room}
-use Rattle.tables.specs.Lines.{maxLines}
-use Rattle.tables.specs.Work.{maxTableBytes, Sound}
+use Rattle.tables.specs.Sizes.{shapeOf, Room, Space, Below}
+use Rattle.tables.specs.Lines.{maxLines, rowOf}
+use Rattle.tables.specs.Work.{maxTableBytes, Wide, Sound, Fixes}
+use Rattle.tables.specs.declared.circuit.Batch.{Batch}
 use Rattle.tables.specs.declared.rows.Shape.{Shape}
-use Rattle.tables.proofs.Shaped.{Below}
 use Rattle.tables.proofs.Sizes.{table-fits}
-use Rattle.tables.proofs.Values.{first-below, second-below}
 
 pub gate-index : {q count : ℕ} → q < count → count ≤ maxGates → q < maxGates
 gate-index h few = omega arith
@@ -51,85 +51,150 @@ lines-most j valid = omega (arith, valid .few, valid .gates-few)
 pub line-index : (j : Job) → Valid j → {l : ℕ} → l < lines j → l < maxLines
 line-index j valid h = omega (arith, lines-most j valid)
 
-module _ (j : Job) (valid : Valid j) (q : ℕ) (h : q < j .«gate_count») where
-  pub gate-line-index : j .inputs + q < maxLines
-  gate-line-index = line-index j valid (omega arith)
+pub input-line : (j : Job) {l : ℕ} → l < j .inputs → l < lines j
+input-line j h = omega arith
 
-  pub first-index : {a : ℕ} → a ≡ gateA (gateAt j q) → a < maxLines
-  first-index e = line-index j valid (omega (arith, first-below j valid q h))
+pub gate-line : (j : Job) {q : ℕ} → q < j .«gate_count» → j .inputs + q < lines j
+gate-line j h = omega arith
 
-  pub second-index : {b : ℕ} → b ≡ gateB (gateAt j q) → b < maxLines
-  second-index e = line-index j valid (omega (arith, second-below j valid q h))
+pub fault-number : {first count faults i : ℕ} → 1 ≤ first → first + count ≤ faults + 1 → i < count → first - 1 + i < faults
+fault-number h within l = omega arith
 
-pub input-row : (j : Job) {l : ℕ} → l < j .inputs → l < 2 * lines j
-input-row j h = omega arith
-
-pub good-row : (j : Job) {l : ℕ} → l < lines j → l < 2 * lines j
-good-row j h = omega arith
-
-pub own-row : (j : Job) {l : ℕ} → l < lines j → lines j + l < 2 * lines j
-own-row j h = omega arith
+pub fault-index : (j : Job) → Valid j → {k : ℕ} → k < j .«fault_count» → k < maxFaults
+fault-index j valid h = omega (arith, valid .faults-few)
 
 pub tableBytes-most : (n : ℕ) → n ≤ maxInputs → tableBytes n ≤ maxTableBytes
 tableBytes-most n h = let p : 2 ^ n ≤ 2 ^ maxInputs = pow-mono h in le-trans (omega arith) table-fits
 
-module _ (j : Job) (shape : Shape) (rows : List ℕ) (sound : Sound j shape rows) where
+pub bytes-some : (n : ℕ) → 1 ≤ tableBytes n
+bytes-some n = omega (arith, pow-pos n)
+
+-- a row before another ends before it
+row-order : (r s w : ℕ) → r < s → r * w + w ≤ s * w
+row-order r s w h = omega (arith, mul-le-mul-right w h, suc-mul r w)
+
+pub times-some : (row bytes : ℕ) → 1 ≤ bytes → row * bytes < 2 ^ 64 → row < 2 ^ 64
+times-some row bytes some h = omega (arith, mul-le-mul-left row some, mul-one row)
+
+module _ (j : Job) (shape : Shape) (width : ℕ) (rows : List ℕ) (wide : Wide j shape width rows) where
+  pub batch-good : Sound j shape (record { base = 0; first = 0; count = 1 }) rows
+  batch-good =
+      let few : 0 + lines j * 1 ≤ lines j + lines j * width = omega (arith, mul-one (lines j)) in
+      record {
+        valid = wide .valid;
+        shaped = wide .shaped;
+        room = le-trans (mul-le-mul-right (tableBytes (j .inputs)) few) (wide .room);
+        behind = λ h. absurd (omega arith);
+        within = omega arith;
+        alone = λ _. refl;
+      }
+
+  pub batch-faulty : (first : ℕ) → 1 ≤ first → first + width ≤ j .«fault_count» + 1 → Sound j shape (record { base = lines j; first = first; count = width }) rows
+  batch-faulty first some h =
+      record { valid = wide .valid; shaped = wide .shaped; room = wide .room; behind = λ _. omega arith; within = h; alone = λ none. absurd (omega (arith, none)) }
+
+  pub wide-kept : (after : List ℕ) → length after ≡ length rows → Wide j shape width after
+  wide-kept after e =
+      record { valid = wide .valid; shaped = wide .shaped; room = subst (λ (k : ℕ). (lines j + lines j * width) * tableBytes (j .inputs) ≤ k) (sym e) (wide .room) }
+
+  pub wide-fewer : (count : ℕ) → count ≤ width → Wide j shape count rows
+  wide-fewer count h =
+      let few : lines j + lines j * count ≤ lines j + lines j * width = omega (arith, mul-le-mul-left (lines j) h) in
+      record { valid = wide .valid; shaped = wide .shaped; room = le-trans (mul-le-mul-right (tableBytes (j .inputs)) few) (wide .room) }
+
+  pub wide-bytes : shape .bytes ≡ tableBytes (j .inputs)
+  wide-bytes = ap (λ (s : Shape). s .bytes) (wide .shaped)
+
+  pub wide-some : 1 ≤ shape .bytes
+  wide-some = subst (λ (k : ℕ). 1 ≤ k) (sym wide-bytes) (bytes-some (j .inputs))
+
+-- a line's block ends before those of later lines
+pub block-before : (b : Batch) (k l bytes : ℕ) → k < l → rowOf b k * bytes + b .count * bytes ≤ rowOf b l * bytes
+block-before b k l bytes h =
+    let e : rowOf b k + b .count ≤ rowOf b l = omega (arith, mul-le-mul-right (b .count) h, suc-mul k (b .count)) in
+    omega (arith, mul-le-mul-right bytes e, add-mul (rowOf b k) (b .count) bytes)
+
+-- so the place of a block that is read fits a word
+pub reads-small : (b : Batch) (l bytes : ℕ) (rows : List ℕ) {k a : ℕ} → k < l → a ≡ k → rowOf b l * bytes + b .count * bytes ≤ length rows
+    → length rows < 2 ^ 64 → rowOf b a * bytes < 2 ^ 64
+reads-small b l bytes rows {k} {a} h e room short = omega (arith, block-before b k l bytes h, ap (λ (n : ℕ). rowOf b n * bytes) e)
+
+pub row-before : (b : Batch) (k l i : ℕ) → k < l → i < b .count → rowOf b k + i < rowOf b l
+row-before b k l i h less = omega (arith, mul-le-mul-right (b .count) h, suc-mul k (b .count))
+
+module _ (j : Job) (shape : Shape) (b : Batch) (rows : List ℕ) (sound : Sound j shape b rows) where
   pub shape-bytes : shape .bytes ≡ tableBytes (j .inputs)
   shape-bytes = ap (λ (s : Shape). s .bytes) (sound .shaped)
 
-  pub bytes-most : shape .bytes ≤ maxTableBytes
-  bytes-most = subst (λ (k : ℕ). k ≤ maxTableBytes) (sym shape-bytes) (tableBytes-most (j .inputs) (sound .valid .few))
-
-  pub sound-kept : (after : List ℕ) → length after ≡ length rows → Sound j shape after
+  pub sound-kept : (after : List ℕ) → length after ≡ length rows → Sound j shape b after
   sound-kept after e =
-      record { valid = sound .valid; shaped = sound .shaped; room = subst (λ (k : ℕ). 2 * lines j * tableBytes (j .inputs) ≤ k) (sym e) (sound .room) }
+      record {
+        valid = sound .valid;
+        shaped = sound .shaped;
+        room = subst (λ (k : ℕ). (b .base + lines j * b .count) * tableBytes (j .inputs) ≤ k) (sym e) (sound .room);
+        behind = sound .behind;
+        within = sound .within;
+        alone = sound .alone;
+      }
+
+  pub shape-some : 1 ≤ shape .bytes
+  shape-some = subst (λ (k : ℕ). 1 ≤ k) (sym shape-bytes) (bytes-some (j .inputs))
+
+  few : shape .inputs < 64
+  few = omega (arith, ap (λ (s : Shape). s .inputs) (sound .shaped), sound .valid .few, most-inputs)
+
+  shaped : shape ≡ shapeOf (shape .inputs)
+  shaped = sound .shaped ∙ ap (λ (s : Shape). shapeOf (s .inputs)) (sym (sound .shaped))
 
   pub input-shape : {l : ℕ} → l < j .inputs → l < shape .inputs
   input-shape h = omega (arith, ap (λ (s : Shape). s .inputs) (sound .shaped))
 
-  pub limit-fits : length rows < 2 ^ 64 → Fits w64 (lines j * shape .bytes)
-  limit-fits short =
-      let le : lines j ≤ 2 * lines j = omega arith in
-      record { fits = omega (arith, mul-le-mul-right (tableBytes (j .inputs)) le, ap (λ (k : ℕ). lines j * k) shape-bytes, sound .room) }
+  module _ (l : ℕ) (h : l < lines j) where
+    pub block-inside : (rowOf b l + b .count) * tableBytes (j .inputs) ≤ length rows
+    block-inside =
+        let e : rowOf b l + b .count ≤ b .base + lines j * b .count = omega (arith, mul-le-mul-right (b .count) h, suc-mul l (b .count)) in
+        le-trans (mul-le-mul-right (tableBytes (j .inputs)) e) (sound .room)
 
-  module _ (r : ℕ) (h : r < 2 * lines j) where
-    pub row-inside : r * tableBytes (j .inputs) + tableBytes (j .inputs) ≤ length rows
-    row-inside = omega (arith, mul-le-mul-right (tableBytes (j .inputs)) h, suc-mul r (tableBytes (j .inputs)), sound .room)
+    pub block-room : rowOf b l * shape .bytes + b .count * shape .bytes ≤ length rows
+    block-room =
+        subst (λ (w : ℕ). rowOf b l * w + b .count * w ≤ length rows) (sym shape-bytes)
+        (omega (arith, add-mul (rowOf b l) (b .count) (tableBytes (j .inputs)), block-inside))
 
-    row-end : r * shape .bytes + shape .bytes ≤ length rows
-    row-end = subst (λ (w : ℕ). r * w + w ≤ length rows) (sym shape-bytes) row-inside
+    pub block-space : {to : ℕ} → to ≡ rowOf b l * shape .bytes → Space shape to (b .count) rows
+    block-space e =
+        record { shaped = shaped; few = few; room = subst (λ (k : ℕ). k + b .count * shape .bytes ≤ length rows) (sym e) block-room }
 
-    shape-few : shape .inputs < 64
-    shape-few = omega (arith, ap (λ (s : Shape). s .inputs) (sound .shaped), sound .valid .few, most-inputs)
+    pub place-small : length rows < 2 ^ 64 → rowOf b l * shape .bytes < 2 ^ 64
+    place-small short = omega (arith, block-room)
 
-    pub row-room : Room shape (r * shape .bytes) rows
-    row-room =
-        record {
-          shaped = sound .shaped ∙ ap (λ (s : Shape). shapeOf (s .inputs)) (sym (sound .shaped));
-          few = shape-few;
-          room = row-end;
-        }
+    module _ (i : ℕ) (less : i < b .count) where
+      pub row-inside : (rowOf b l + i) * tableBytes (j .inputs) + tableBytes (j .inputs) ≤ length rows
+      row-inside = le-trans (row-order (rowOf b l + i) (rowOf b l + b .count) (tableBytes (j .inputs)) (omega arith)) block-inside
 
-    pub row-fits : length rows < 2 ^ 64 → Fits w64 (r * shape .bytes)
-    row-fits short = record { fits = omega (arith, row-end) }
+      pub column-inside : rowOf b l * shape .bytes + i * shape .bytes + shape .bytes ≤ length rows
+      column-inside =
+          subst (λ (w : ℕ). rowOf b l * w + i * w + w ≤ length rows) (sym shape-bytes)
+          (omega (arith, add-mul (rowOf b l) i (tableBytes (j .inputs)), row-inside))
 
-    pub rows-below : (a b : ℕ) → a < r → b < r → Below shape (a * shape .bytes) (b * shape .bytes) (r * shape .bytes) rows
-    rows-below a b ha hb = record { at = row-room; first = less a ha; second = less b hb }
-      where
-        less : (k : ℕ) → k < r → k * shape .bytes + shape .bytes ≤ r * shape .bytes
-        less k below = omega (arith, mul-le-mul-right (shape .bytes) below, suc-mul k (shape .bytes))
+      pub column-fits : length rows < 2 ^ 64 → {to : ℕ} → to ≡ rowOf b l * shape .bytes → Fits w64 (to + i * shape .bytes)
+      column-fits short e = record { fits = omega (arith, column-inside) }
 
-module _ (j : Job) (shape : Shape) (rows : List ℕ) (sound : Sound j shape rows) (short : length rows < 2 ^ 64) (q : ℕ) (h : q < j .«gate_count») where
-  pub gate-fits : Fits w64 ((j .inputs + q) * shape .bytes)
-  gate-fits = row-fits j shape rows sound (j .inputs + q) (omega arith) short
+      pub offset-fits : length rows < 2 ^ 64 → Fits w64 (i * shape .bytes)
+      offset-fits short = record { fits = omega (arith, column-inside) }
 
-  pub first-fits : {a : ℕ} → a ≡ gateA (gateAt j q) → Fits w64 (a * shape .bytes)
-  first-fits {a} e = row-fits j shape rows sound a (omega (arith, first-below j (sound .valid) q h)) short
-
-  pub second-fits : {b : ℕ} → b ≡ gateB (gateAt j q) → Fits w64 (b * shape .bytes)
-  second-fits {b} e = row-fits j shape rows sound b (omega (arith, second-below j (sound .valid) q h)) short
-
-pub own-inside : (j : Job) (shape : Shape) (rows : List ℕ) → Sound j shape rows → (q : ℕ) → q < j .«gate_count» → (new : List ℕ) → length new ≡ length rows
-    → lines j * shape .bytes + (j .inputs + q) * shape .bytes + shape .bytes ≤ length new
-own-inside j shape rows sound q h new kept =
-    omega (arith, kept, add-mul (lines j) (j .inputs + q) (shape .bytes), row-room j shape rows sound (lines j + (j .inputs + q)) (omega arith) .room)
+      pub column-below : (x : Fault) → Fixes j x → 1 ≤ b .first → {to : ℕ} → to ≡ rowOf b l * shape .bytes
+          → Below shape (faultA x * shape .bytes) (faultB x * shape .bytes) (to + i * shape .bytes) rows
+      column-below x fixes some {to} e =
+          record {
+            at = record { shaped = shaped; few = few; room = subst (λ (k : ℕ). k + i * shape .bytes + shape .bytes ≤ length rows) (sym e) column-inside };
+            first = before (faultA x) (omega (arith, fixes .low, fixes .high));
+            second = before (faultB x) (fixes .high);
+          }
+        where
+          before : (a : ℕ) → a < lines j → a * shape .bytes + shape .bytes ≤ to + i * shape .bytes
+          before a less =
+              omega (
+                arith,
+                row-order a (rowOf b l + i) (shape .bytes) (omega (arith, sound .behind some)),
+                add-mul (rowOf b l) i (shape .bytes),
+              )

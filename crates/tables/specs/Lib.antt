@@ -1,3 +1,4 @@
+pub mod Chains
 pub mod Circuit
 pub mod Lines
 pub mod Operations

@@ -1,13 +1,18 @@
-// The rows of a job's circuits: first a row for each line of the good circuit, then one for each line of the faulty circuit at hand, of which
-// only those are filled that the fault may change.
+// The rows of a job's circuits: first a row for each line of the good circuit, then those of a batch of faulty circuits, worked out side by side.
 ghost use mathlib.Core.Path.{_≡_};
 ghost use mathlib.Core.Bool.{cond};
-ghost use Prim.Native.Nat.{_+_, _*_, _≤_, _<_};
+ghost use Prim.Native.Nat.{_+_, _*_, _^_, _≤_, _<_};
 ghost use lib.ListN.{length};
+ghost use Rattle.bits.specs.Packed.{tabulate};
 ghost use Rattle.job.specs.Layout.{maxGates};
-ghost use Rattle.gates.specs.Form.{kindForm};
-ghost use Rattle.tables.specs.Lines.{maxLines, Spaced, Moved, Formed, GateStep};
-ghost use Rattle.tables.specs.Work.{maxTableBytes, Sound, Filled, Good, Fixes, Fixed, Followed, Placed, firstLine, faultFix};
+ghost use Rattle.job.specs.Record.{faultA, faultB, gateA, gateB, lines};
+ghost use Rattle.gates.specs.Form.{kindForm, combined};
+ghost use Rattle.gates.specs.Rows.{splice, stepFits};
+ghost use Rattle.tables.specs.Chains.{lineAt, Linked};
+ghost use Rattle.tables.specs.Lines.{Formed, rowOf};
+ghost use Rattle.tables.specs.Sizes.{Below, fixedRow};
+ghost use Rattle.tables.specs.Work.{Sound, Good, Side, Made};
+use crate::chain::Chain;
 use crate::rows::Shape;
 use gates::Form;
 use job::BinaryKind;
@@ -19,9 +24,12 @@ use job::MAX_INPUTS;
 
 pub(crate) const MAX_LINES: usize = MAX_INPUTS + MAX_GATES;
 
-// Where in the rows the table of each line of a circuit starts.
-pub(crate) struct Places {
-    pub(crate) of: [usize; MAX_LINES],
+// `count` circuits from number `first` on. The table of line l of circuit first + i is row base + l * count + i, so that the tables of one line are a
+// block. The good circuit is a batch by itself.
+pub(crate) struct Batch {
+    pub(crate) base: usize,
+    pub(crate) first: usize,
+    pub(crate) count: usize,
 }
 
 // The polynomial of each gate, worked out once for all circuits.
@@ -64,172 +72,117 @@ fn bridge_form(is_and: bool, keep: u8) -> Form
     }
 }
 
-// The places of the good circuit's tables, row after row.
-pub(crate) fn good_places(bytes: usize) -> Places
-    requires { ⌜ bytes ≤ maxTableBytes ⌝ }
-    ensures { λ r. ⌜ Spaced bytes maxLines (r .of) ⌝ }
+// Where the block of a line's tables starts.
+pub(crate) fn block_place(batch: Batch, line: usize, bytes: usize) -> usize
+    requires { ⌜ (1 ≤ bytes) × (rowOf batch line * bytes < 2 ^ 64) ⌝ }
+    ensures { λ r. ⌜ r ≡ rowOf batch line * bytes ⌝ }
 {
-    let mut places = Places { of: [0; MAX_LINES] };
-    let mut line = 0;
-    while line < MAX_LINES {
-        places.of[line] = line * bytes;
-        line += 1;
-    }
-    places
+    (batch.base + line * batch.count) * bytes
 }
 
-// The places before the gates that follow the fault are worked out: those of the good circuit, but rows of their own for the fixed lines.
-fn fixed_places(lines: usize, low: usize, high: usize, bytes: usize) -> Places
-    requires { ⌜ (bytes ≤ maxTableBytes) × (lines ≤ maxLines) × (low < lines) × (high < lines) ⌝ }
-    ensures { λ r. ⌜ Moved lines low high bytes (r .of) ⌝ }
-{
-    let mut places = good_places(bytes);
-    places.of[low] = (lines + low) * bytes;
-    places.of[high] = (lines + high) * bytes;
-    places
-}
-
-// The rows of the inputs.
-fn input_rows(rows: &mut [u8], job: Job, shape: Shape)
-    requires { ⌜ Sound job shape (now rows) ⌝ }
-    ensures { λ r. ⌜ Filled job (job .inputs) (now (rows .exit)) ⌝ }
-{
-    let bytes = shape.bytes;
-    let mut line = 0;
-    while line < job.inputs as usize {
-        crate::rows::input_row(rows, line, line * bytes, shape);
-        line += 1;
-    }
-}
-
-// The rows of the gates, each from the rows of the lines that it reads.
-fn gate_rows(rows: &mut [u8], job: Job, forms: Forms, shape: Shape)
-    requires { ⌜ Sound job shape (now rows) × Formed job (shape .keep) forms × Filled job (job .inputs) (now rows) ⌝ }
+// Works out the good circuit.
+pub(crate) fn good_circuit(rows: &mut [u8], job: Job, forms: Forms, shape: Shape)
+    requires { ⌜ Sound job shape (record { base = 0; first = 0; count = 1 }) (now rows) × Formed job (shape .keep) forms ⌝ }
     ensures { λ r. ⌜ Good job (now (rows .exit)) ⌝ }
 {
+    let batch = Batch {
+        base: 0,
+        first: 0,
+        count: 1,
+    };
+    work_out(rows, job, forms, batch, shape);
+}
+
+// Works out the circuits of a batch; faulty ones stand behind the rows of the good one.
+pub(crate) fn work_out(rows: &mut [u8], job: Job, forms: Forms, batch: Batch, shape: Shape)
+    requires { ⌜ Sound job shape batch (now rows) × Formed job (shape .keep) forms × (1 ≤ batch .first → Good job (now rows)) ⌝ }
+    ensures { λ r. ⌜ Side job batch (lines job) (now (rows .exit)) ⌝ }
+{
+    let chain = crate::chain::chain_of(job, batch.first, batch.count);
+    input_blocks(rows, job, batch, chain, shape);
+    gate_blocks(rows, job, forms, batch, chain, shape);
+}
+
+// The blocks of the inputs.
+fn input_blocks(rows: &mut [u8], job: Job, batch: Batch, chain: Chain, shape: Shape)
+    requires { ⌜ Sound job shape batch (now rows) × Linked (lineAt job (batch .first)) (2 * batch .count) (chain .head) (chain .next) × (1 ≤ batch .first → Good job (now rows)) ⌝ }
+    ensures { λ r. ⌜ Side job batch (job .inputs) (now (rows .exit)) ⌝ }
+{
     let inputs = job.inputs as usize;
-    let count = job.gate_count as usize;
+    let count = batch.count;
+    let mut line = 0;
+    while line < inputs {
+        let to = block_place(batch, line, shape.bytes);
+        crate::rows::input_block(rows, line, to, count, shape);
+        fix_line(rows, chain, job, batch, line, shape);
+        line += 1;
+    }
+}
+
+// The blocks of the gates, each from the blocks of the lines that it reads.
+fn gate_blocks(rows: &mut [u8], job: Job, forms: Forms, batch: Batch, chain: Chain, shape: Shape)
+    requires { ⌜ Sound job shape batch (now rows) × Formed job (shape .keep) forms × Linked (lineAt job (batch .first)) (2 * batch .count) (chain .head) (chain .next) × Side job batch (job .inputs) (now rows) ⌝ }
+    ensures { λ r. ⌜ Side job batch (lines job) (now (rows .exit)) ⌝ }
+{
+    let inputs = job.inputs as usize;
+    let gates = job.gate_count as usize;
     let bytes = shape.bytes;
     let mut q = 0;
-    while q < count {
+    while q < gates {
         let entry = job.gates[q];
         let gate = entry.gate;
         let form = forms.of[q];
-        let x = gate.first() * bytes;
-        let y = gate.second() * bytes;
-        gates::combine(rows, x, y, (inputs + q) * bytes, bytes, form);
+        let line = inputs + q;
+        gate_block(rows, gate, form, batch, line, bytes);
+        fix_line(rows, chain, job, batch, line, shape);
         q += 1;
     }
 }
 
-// Works out every line of the good circuit.
-pub(crate) fn good_circuit(rows: &mut [u8], job: Job, forms: Forms, shape: Shape)
-    requires { ⌜ Sound job shape (now rows) × Formed job (shape .keep) forms ⌝ }
-    ensures { λ r. ⌜ Good job (now (rows .exit)) ⌝ }
+// One gate in all circuits of the batch at once.
+fn gate_block(rows: &mut [u8], gate: Gate, form: Form, batch: Batch, line: usize, bytes: usize)
+    requires { ⌜ (1 ≤ bytes) × (gateA gate < line) × (gateB gate < line) × (rowOf batch line * bytes + batch .count * bytes ≤ length (now rows)) ⌝ }
+    ensures { λ r. ⌜ now (rows .exit) ≡ splice (now (rows .entry)) (rowOf batch line * bytes) (tabulate (batch .count * bytes) (combined form (rowOf batch (gateA gate) * bytes) (rowOf batch (gateB gate) * bytes) (now (rows .entry)))) ⌝ }
 {
-    input_rows(rows, job, shape);
-    gate_rows(rows, job, forms, shape);
+    let x = block_place(batch, gate.first(), bytes);
+    let y = block_place(batch, gate.second(), bytes);
+    let to = block_place(batch, line, bytes);
+    gates::combine(rows, x, y, to, batch.count * bytes, form);
 }
 
-// Works out the circuit with a fault, from the good circuit's rows: the fixed lines first, then the gates behind the lower of them.
-pub(crate) fn faulty_circuit(
-    rows: &mut [u8],
-    job: Job,
-    forms: Forms,
-    fault: Fault,
-    shape: Shape,
-) -> Places
-    requires { ⌜ Sound job shape (now rows) × Formed job (shape .keep) forms × Good job (now rows) × Fixes job fault ⌝ }
-    ensures { λ r. ⌜ Placed (faultFix job fault) job (r .of) (now (rows .exit)) ⌝ }
+// The tables of a line in the circuits that fix it, over those of the line's block: two places of the chain are a circuit's.
+fn fix_line(rows: &mut [u8], chain: Chain, job: Job, batch: Batch, line: usize, shape: Shape)
+    requires { ⌜ Sound job shape batch (now rows) × Made job batch line (now rows) × (line < lines job) × Linked (lineAt job (batch .first)) (2 * batch .count) (chain .head) (chain .next) ⌝ }
+    ensures { λ r. ⌜ Side job batch (line + 1) (now (rows .exit)) ⌝ }
 {
-    let lines = job.inputs as usize + job.gate_count as usize;
-    fix_rows(rows, job, fault, shape);
-    let places = fixed_places(lines, fault.first(), fault.second(), shape.bytes);
-    follow(rows, places, job, forms, fault, shape)
+    let bytes = shape.bytes;
+    let start = block_place(batch, line, bytes);
+    let mut left = chain.head[line] as usize;
+    while left != 0 {
+        let place = left - 1;
+        let column = place / 2;
+        let entry = job.faults[batch.first - 1 + column];
+        let fault = entry.fault;
+        fix_row(rows, start + column * bytes, fault, shape);
+        left = chain.next[place] as usize;
+    }
 }
 
-// The rows of the lines that a fault fixes, behind the good circuit's.
-fn fix_rows(rows: &mut [u8], job: Job, fault: Fault, shape: Shape)
-    requires { ⌜ Sound job shape (now rows) × Good job (now rows) × Fixes job fault ⌝ }
-    ensures { λ r. ⌜ Fixed job fault (now (rows .exit)) ⌝ }
+// The table that a fault gives its lines: a level, or the bridge of the good circuit's two tables.
+fn fix_row(rows: &mut [u8], to: usize, fault: Fault, shape: Shape)
+    requires { ⌜ Below shape (faultA fault * shape .bytes) (faultB fault * shape .bytes) to (now rows) ⌝ }
+    ensures { λ r. ⌜ now (rows .exit) ≡ splice (now (rows .entry)) to (fixedRow shape fault (now (rows .entry))) ⌝ }
 {
-    let lines = job.inputs as usize + job.gate_count as usize;
     let bytes = shape.bytes;
     match fault {
-        Fault::Stuck(line, level) => {
-            crate::rows::level_row(rows, level, (lines + line as usize) * bytes, shape);
+        Fault::Stuck(_, level) => {
+            crate::rows::level_row(rows, level, to, shape);
         }
         Fault::Bridge(low, high, is_and) => {
             let x = low as usize * bytes;
             let y = high as usize * bytes;
             let form = bridge_form(is_and, shape.keep);
-            gates::combine(rows, x, y, (lines + low as usize) * bytes, bytes, form);
-            gates::combine(rows, x, y, (lines + high as usize) * bytes, bytes, form);
+            gates::combine(rows, x, y, to, bytes, form);
         }
     }
-}
-
-// The gates behind the fault's lower line, in order; a fixed line keeps what it is fixed at.
-fn follow(
-    rows: &mut [u8],
-    start: Places,
-    job: Job,
-    forms: Forms,
-    fault: Fault,
-    shape: Shape,
-) -> Places
-    requires { ⌜ Sound job shape (now rows) × Formed job (shape .keep) forms × Followed job fault (firstLine job fault) (start .of) (now rows) ⌝ }
-    ensures { λ r. ⌜ Placed (faultFix job fault) job (r .of) (now (rows .exit)) ⌝ }
-{
-    let inputs = job.inputs as usize;
-    let count = job.gate_count as usize;
-    let bytes = shape.bytes;
-    let low = fault.first();
-    let high = fault.second();
-    let limit = (inputs + count) * bytes;
-    let mut places = start;
-    let mut q = if inputs <= low { low + 1 - inputs } else { 0 };
-    while q < count {
-        let entry = job.gates[q];
-        let gate = entry.gate;
-        let form = forms.of[q];
-        let first = gate.first();
-        let second = gate.second();
-        let x = places.of[first];
-        let y = places.of[second];
-        let line = inputs + q;
-        let place = gate_place(rows, x, y, line, high, limit, form, bytes);
-        places.of[line] = place;
-        q += 1;
-    }
-    places
-}
-
-// The place of a gate's table, given the places of the tables that the gate reads. Rows of the good circuit are below `limit`: a gate that reads
-// two of them answers as in the good circuit, so that it shares that row.
-fn gate_place(
-    rows: &mut [u8],
-    x: usize,
-    y: usize,
-    line: usize,
-    high: usize,
-    limit: usize,
-    form: Form,
-    bytes: usize,
-) -> usize
-    requires { ⌜ limit + line * bytes + bytes ≤ length (now rows) ⌝ }
-    ensures { λ r. ⌜ GateStep x y line high limit bytes form (now (rows .entry)) r (now (rows .exit)) ⌝ }
-{
-    let good = line * bytes;
-    let own = limit + good;
-    if line == high {
-        return own;
-    }
-    if x < limit {
-        if y < limit {
-            return good;
-        }
-    }
-    gates::combine(rows, x, y, own, bytes, form);
-    own
 }

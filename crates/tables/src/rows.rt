@@ -5,7 +5,7 @@ ghost use Rattle.bits.specs.Packed.{packed};
 ghost use Rattle.job.specs.Record.{levelNumber};
 ghost use Rattle.gates.specs.Rows.{splice};
 ghost use Rattle.gates.specs.Values.{inputValue};
-ghost use Rattle.tables.specs.Sizes.{shapeOf, Room};
+ghost use Rattle.tables.specs.Sizes.{shapeOf, Room, Space, block};
 
 // Its inputs, its bytes, and the bits of each byte that are entries.
 pub(crate) struct Shape {
@@ -40,12 +40,13 @@ pub(crate) fn level_row(rows: &mut [u8], level: bool, to: usize, shape: Shape)
     gates::fill(rows, to, shape.bytes, byte);
 }
 
-// The table of an input: within a byte x1 is 01010101, x2 00110011 and x3 00001111; a further input is the same over whole bytes.
-pub(crate) fn input_row(rows: &mut [u8], line: usize, to: usize, shape: Shape)
-    requires { ⌜ Room shape to (now rows) × (line < shape .inputs) ⌝ }
-    ensures { λ r. ⌜ now (rows .exit) ≡ splice (now (rows .entry)) to (packed (2 ^ (shape .inputs)) (λ m. inputValue m line)) ⌝ }
+// The tables of an input, for `count` circuits side by side: within a byte x1 is 01010101, x2 00110011 and x3 00001111; a further input is the same over
+// whole bytes, and a table has as many bytes as make it start anew.
+pub(crate) fn input_block(rows: &mut [u8], line: usize, to: usize, count: usize, shape: Shape)
+    requires { ⌜ Space shape to count (now rows) × (line < shape .inputs) ⌝ }
+    ensures { λ r. ⌜ now (rows .exit) ≡ splice (now (rows .entry)) to (block count (λ i. packed (2 ^ (shape .inputs)) (λ m. inputValue m line))) ⌝ }
 {
-    let count = shape.bytes;
+    let bytes = count * shape.bytes;
     let keep = shape.keep;
     if line < 3 {
         let pattern = match line {
@@ -53,8 +54,8 @@ pub(crate) fn input_row(rows: &mut [u8], line: usize, to: usize, shape: Shape)
             1 => 51,
             _ => 15,
         };
-        gates::fill(rows, to, count, pattern & keep);
+        gates::fill(rows, to, bytes, pattern & keep);
     } else {
-        gates::alternate(rows, to, count, line - 3);
+        gates::alternate(rows, to, bytes, line - 3);
     }
 }

@@ -7,7 +7,7 @@ use denote.Ref.{now}
 use lib.ListN.{getD}
 use Rattle.gates.specs.Rows.{splice}
 use Rattle.gates.proofs.Splice.{Written, written-none, written-more, written-length, written-all}
-use Rattle.tables.proofs.Delivered.{tabulate-part}
+use Rattle.tables.proofs.Blocks.{tabulate-part}
 use Rattle.tables.proofs.copy.Statement.{statement}
 use Rattle.tables.proofs.copy.Tie as tie
 

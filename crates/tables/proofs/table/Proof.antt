@@ -10,7 +10,7 @@ use Rattle.reading.proofs.Telling.{told-refused, told-done, told-valid}
 use Rattle.tables.specs.declared.rows.Shape.{Shape}
 use Rattle.tables.specs.Work.{maxTableBytes, rowBytes}
 use Rattle.tables.proofs.Answering.{table-unread, table-number, table-memory, table-done}
-use Rattle.tables.proofs.Delivered.{sound-of}
+use Rattle.tables.proofs.Delivered.{wide-one}
 use borrow.Author.Needs.{needs}
 use Rattle.tables.proofs.table.Statement.{statement}
 use Rattle.tables.proofs.table.Tie as tie
@@ -48,7 +48,7 @@ slice-aggregate-put-table c = search needs
 
 put-table-requires : tie.Need-put-table-requires
 unfolding maxInputs maxGates maxTableBytes rowBytes
-put-table-requires c κs = let a = c .before .before .before .before .before .before .before .before .before .before .before .before .before .before .args in let r = c .before .before .before .before .before .before .before .before .before .before .before .read in let done = c .before .before .before .before .before .before .before .before .before .enum-told in (sound-of (r .result .job) _ _ (told-valid (r .result) (now (a .bytes)) (r .ensures) (done .given .1)) (c .before .before .before .before .shape-of .ensures) (length-replicate {A = ℕ} 4608 0), c .before .before .before .before .before .before .if1 .left, subst (λ (k : ℕ). k ≤ length (now (a .out))) (ap (λ (x : Shape). x .bytes) (c .before .before .before .before .shape-of .ensures)) (c .before .before .if2 .left))
+put-table-requires c κs = let a = c .before .before .before .before .before .before .before .before .before .before .before .before .before .before .args in let r = c .before .before .before .before .before .before .before .before .before .before .before .read in let done = c .before .before .before .before .before .before .before .before .before .enum-told in (wide-one (r .result .job) _ _ (told-valid (r .result) (now (a .bytes)) (r .ensures) (done .given .1)) (c .before .before .before .before .shape-of .ensures) (length-replicate {A = ℕ} 4608 0), c .before .before .before .before .before .before .if1 .left, subst (λ (k : ℕ). k ≤ length (now (a .out))) (ap (λ (x : Shape). x .bytes) (c .before .before .before .before .shape-of .ensures)) (c .before .before .if2 .left))
 
 same-length : tie.Need-same-length
 same-length c = c .before .before .before .put-table .kept .0

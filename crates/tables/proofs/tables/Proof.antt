@@ -8,9 +8,9 @@ use Rattle.job.specs.Layout.{maxInputs, maxGates}
 use Rattle.reading.specs.Reading.{reading}
 use Rattle.reading.proofs.Telling.{told-refused, told-done, told-valid}
 use Rattle.tables.specs.declared.rows.Shape.{Shape}
-use Rattle.tables.specs.Work.{maxTableBytes, rowBytes}
+use Rattle.tables.specs.Work.{maxTableBytes, blockBytes, allRowBytes}
 use Rattle.tables.proofs.Answering.{tables-unread, tables-memory, tables-done}
-use Rattle.tables.proofs.Delivered.{sound-of, table-count-fits}
+use Rattle.tables.proofs.Delivered.{wide-block, table-count-fits}
 use borrow.Author.Needs.{needs}
 use Rattle.tables.proofs.tables.Statement.{statement}
 use Rattle.tables.proofs.tables.Tie as tie
@@ -50,8 +50,8 @@ slice-aggregate-put-tables : tie.Need-slice-aggregate-put-tables
 slice-aggregate-put-tables c = search needs
 
 put-tables-requires : tie.Need-put-tables-requires
-unfolding maxInputs maxGates maxTableBytes rowBytes
-put-tables-requires c κs = let a = c .before .before .before .before .before .before .before .before .before .before .before .before .before .args in let r = c .before .before .before .before .before .before .before .before .before .before .read in let done = c .before .before .before .before .before .before .before .before .enum-told in (sound-of (r .result .job) _ _ (told-valid (r .result) (now (a .bytes)) (r .ensures) (done .given .1)) (c .before .before .before .before .shape-of .ensures) (length-replicate {A = ℕ} 4608 0), subst (λ (k : ℕ). (r .result .job .«fault_count» + 1) * k ≤ length (now (a .out))) (ap (λ (x : Shape). x .bytes) (c .before .before .before .before .shape-of .ensures)) (c .before .before .if1 .left))
+unfolding maxInputs maxGates maxTableBytes blockBytes allRowBytes
+put-tables-requires c κs = let a = c .before .before .before .before .before .before .before .before .before .before .before .before .before .args in let r = c .before .before .before .before .before .before .before .before .before .before .read in let done = c .before .before .before .before .before .before .before .before .enum-told in (wide-block (r .result .job) _ _ (told-valid (r .result) (now (a .bytes)) (r .ensures) (done .given .1)) (c .before .before .before .before .shape-of .ensures) (length-replicate {A = ℕ} 39168 0), subst (λ (k : ℕ). (r .result .job .«fault_count» + 1) * k ≤ length (now (a .out))) (ap (λ (x : Shape). x .bytes) (c .before .before .before .before .shape-of .ensures)) (c .before .before .if1 .left))
 
 cast-t10 : tie.Need-cast-t10
 cast-t10 c = search needs

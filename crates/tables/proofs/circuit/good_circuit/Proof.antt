@@ -1,23 +1,17 @@
--- `tables::circuit::good_circuit` meets its contract: the rows of the inputs are filled, then those of the gates.
-use mathlib.Core.Path.{_∙_}
-use Rattle.tables.proofs.Space.{sound-kept}
+-- `tables::circuit::good_circuit` meets its contract: the good circuit is a batch by itself.
+use native.Mathlib.Omega.{arith}
+use Rattle.tables.proofs.Batching.{side-good}
 use Rattle.tables.proofs.circuit.good_circuit.Statement.{statement}
 use Rattle.tables.proofs.circuit.good_circuit.Tie as tie
 
-input-rows-requires : tie.Need-input-rows-requires
-input-rows-requires c κs = c .before .before .pre .0
-
-gate-rows-requires : tie.Need-gate-rows-requires
-gate-rows-requires c κs =
-    let a = c .before .before .before .before .before .before .args in
-    let inputs = c .before .before .before .input-rows in
-    (sound-kept (a .job) (a .shape) (a .rows .now) (c .before .before .before .before .before .before .pre .0) (inputs .last .0) (inputs .kept .0), c .before .before .before .before .before .before .pre .1, inputs .ensures)
+work-out-requires : tie.Need-work-out-requires
+work-out-requires c κs = (c .before .before .pre .0, c .before .before .pre .1, λ h. absurd (omega arith))
 
 same-length : tie.Need-same-length
-same-length c = c .before .before .gate-rows .kept .0 ∙ c .before .before .before .before .before .before .input-rows .kept .0
+same-length c = c .before .before .work-out .kept .0
 
 returns : tie.Need-returns
-returns c = c .before .before .gate-rows .ensures
+returns c = side-good (c .before .before .before .before .before .args .job) (c .before .before .work-out .last .0) (c .before .before .work-out .ensures)
 
 pub good-circuit-spec : {M : Type 1} → statement M
-good-circuit-spec = tie.close (tie.spec input-rows-requires gate-rows-requires same-length returns)
+good-circuit-spec = tie.close (tie.spec work-out-requires same-length returns)

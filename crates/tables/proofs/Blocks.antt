@@ -1,0 +1,148 @@
+-- Laws of tables side by side (specs/Sizes.antt).
+--
+--   tabulate-part    bytes copied one by one are a part of the rows
+--   block-ext        blocks of equal tables are equal
+--   block-append     a block behind a block
+--   length-block     a block has as many bytes as its tables together
+--   tabulate-block   bytes worked out one by one are a block of tables, each of the bytes at its own place
+--   part-block       rows that follow each other are a block
+--   splice-none      no new bytes
+--   splice-append    new bytes put behind new bytes
+--   block-row        where a block is put, each of its rows holds its table
+--   block-kept       every other row is as it was
+use Prim.Native.Nat.{ℕ, zero, suc, _+_, _-_, _*_, _≤_, _<_}
+use native.Mathlib.Omega.{arith}
+use native.Mathlib.Nat.{add-zero, add-assoc, add-mul, suc-mul, zero-mul, not-suc-le-zero, le-of-suc-le-suc, eq-or-lt-of-le}
+use mathlib.Core.Path.{_≡_, refl, sym, ap, ap₂, subst, _∙_}
+use mathlib.Core.List.{List, [], _∷_, _++_, append-assoc, append-nil}
+use mathlib.Core.Logic.{⊎-elim}
+use lib.ListN.{length, getD, take, drop, length-append, length-take, length-drop, take-append-drop}
+use lib.Seq.{take-suc, getD-drop, take-at, drop-drop, drop-append-add}
+use Rattle.bits.specs.Packed.{tabulate}
+use Rattle.bits.proofs.Packed.{tabulate-ext}
+use Rattle.gates.specs.Rows.{part, splice}
+use Rattle.gates.proofs.Rows.{part-same, part-other}
+use Rattle.gates.proofs.Splice.{length-splice}
+use Rattle.tables.specs.Sizes.{block}
+
+pub tabulate-part : (rows : List ℕ) (at count : ℕ) → at + count ≤ length rows → tabulate count (λ i. getD rows (at + i) 0) ≡ part at count rows
+unfolding tabulate
+tabulate-part rows at zero h = refl
+tabulate-part rows at (suc n) h =
+    let l : n < length rows - at = omega arith in
+    ap₂ (λ (a : List ℕ) (x : ℕ). a ++ (x ∷ [])) (tabulate-part rows at n (omega arith)) (sym (getD-drop at rows n 0))
+    ∙ sym (take-suc (drop at rows) n 0 (rw length-drop l))
+
+tabulate-append : (a b : ℕ) (g : ℕ → ℕ) → tabulate (a + b) g ≡ tabulate a g ++ tabulate b (λ t. g (a + t))
+unfolding tabulate
+tabulate-append a zero g = ap (λ (k : ℕ). tabulate k g) (add-zero a) ∙ sym (append-nil (tabulate a g))
+tabulate-append a (suc b) g =
+    let e : a + suc b ≡ suc (a + b) = omega arith in
+    ap (λ (k : ℕ). tabulate k g) e ∙ ap (λ (l : List ℕ). l ++ (g (a + b) ∷ [])) (tabulate-append a b g)
+    ∙ append-assoc (tabulate a g) (tabulate b (λ t. g (a + t))) (g (a + b) ∷ [])
+
+pub block-ext : (c : ℕ) (f g : ℕ → List ℕ) → ((i : ℕ) → i < c → f i ≡ g i) → block c f ≡ block c g
+unfolding block
+block-ext zero f g h = refl
+block-ext (suc c) f g h = ap₂ _++_ (block-ext c f g (λ i l. h i (omega arith))) (h c (omega arith))
+
+pub block-append : (a b : ℕ) (f : ℕ → List ℕ) → block a f ++ block b (λ i. f (a + i)) ≡ block (a + b) f
+unfolding block
+block-append a zero f = append-nil (block a f) ∙ ap (λ (k : ℕ). block k f) (sym (add-zero a))
+block-append a (suc b) f =
+    let e : suc (a + b) ≡ a + suc b = omega arith in
+    sym (append-assoc (block a f) (block b (λ i. f (a + i))) (f (a + b)))
+    ∙ ap (λ (l : List ℕ). l ++ f (a + b)) (block-append a b f) ∙ ap (λ (k : ℕ). block k f) e
+
+pub length-block : (w : ℕ) (f : ℕ → List ℕ) → ((i : ℕ) → length (f i) ≡ w) → (c : ℕ) → length (block c f) ≡ c * w
+unfolding block
+length-block w f long zero = sym (zero-mul w)
+length-block w f long (suc c) = length-append (block c f) (f c) ∙ ap₂ _+_ (length-block w f long c) (long c) ∙ sym (suc-mul c w)
+
+pub tabulate-block : (c w : ℕ) (g : ℕ → ℕ) → tabulate (c * w) g ≡ block c (λ i. tabulate w (λ t. g (i * w + t)))
+unfolding tabulate block
+tabulate-block zero w g = ap (λ (k : ℕ). tabulate k g) (zero-mul w)
+tabulate-block (suc c) w g =
+    ap (λ (k : ℕ). tabulate k g) (suc-mul c w) ∙ tabulate-append (c * w) w g
+    ∙ ap (λ (l : List ℕ). l ++ tabulate w (λ t. g (c * w + t))) (tabulate-block c w g)
+
+-- a row of the block lies within the rows
+row-end : (r w c i : ℕ) → i < c → (r + i) * w + w ≤ (r + c) * w
+row-end r w c i h =
+    let l : suc (r + i) ≤ r + c = omega arith in
+    omega (arith, native.Mathlib.Nat.mul-le-mul-right w l, suc-mul (r + i) w)
+
+pub part-block : (rows : List ℕ) (r w c : ℕ) → (r + c) * w ≤ length rows → part (r * w) (c * w) rows ≡ block c (λ i. part ((r + i) * w) w rows)
+part-block rows r w c h =
+    sym (tabulate-part rows (r * w) (c * w) (omega (arith, add-mul r c w)))
+    ∙ tabulate-block c w (λ t. getD rows (r * w + t) 0)
+    ∙ block-ext c (λ i. tabulate w (λ t. getD rows (r * w + (i * w + t)) 0)) (λ i. part ((r + i) * w) w rows)
+    (λ i l.
+    tabulate-ext w (λ t. getD rows (r * w + (i * w + t)) 0) (λ t. getD rows ((r + i) * w + t) 0)
+    (λ t m. ap (λ (k : ℕ). getD rows k 0) (sym (add-assoc (r * w) (i * w) t) ∙ ap (λ (k : ℕ). k + t) (sym (add-mul r i w))))
+    ∙ tabulate-part rows ((r + i) * w) w (omega (arith, row-end r w c i l)))
+
+pub splice-append : (out : List ℕ) (at : ℕ) (a b : List ℕ) (k : ℕ) → at + length a ≡ k → k ≤ length out → splice (splice out at a) k b ≡ splice out at (a ++ b)
+splice-append out at a b k e h =
+    ap₂ (λ (x y : List ℕ). x ++ b ++ y) (take-at head rest k long) (ap (λ (n : ℕ). drop (n + length b) (head ++ rest)) (sym long) ∙ drop-append-add head rest (length b) ∙ drop-drop (length b) (at + length a) out)
+    ∙ ap₂ (λ (x y : List ℕ). x ++ y) (append-assoc (take at out) a b) (ap (λ (n : ℕ). drop n out) (add-assoc at (length a) (length b) ∙ ap (λ (n : ℕ). at + n) (sym (length-append a b))))
+  where
+    head : List ℕ
+    head = take at out ++ a
+
+    rest : List ℕ
+    rest = drop (at + length a) out
+
+    long : length (take at out ++ a) ≡ k
+    long = simp (length-append, length-take) (omega arith)
+
+pub splice-none : (rows : List ℕ) (to : ℕ) → splice rows to [] ≡ rows
+splice-none rows to = rw (add-zero, append-nil) (take-append-drop to rows)
+
+module _ (rows : List ℕ) (r w : ℕ) (f : ℕ → List ℕ) (long : (i : ℕ) → length (f i) ≡ w) where
+  -- so many tables are put
+  abbrev putTo : ℕ → List ℕ
+  putTo c = splice rows (r * w) (block c f)
+
+  put-end : (c : ℕ) → r * w + length (block c f) ≡ (r + c) * w
+  put-end c = ap (λ (k : ℕ). r * w + k) (length-block w f long c) ∙ sym (add-mul r c w)
+
+  put-more : (c : ℕ) → (r + c) * w ≤ length rows → putTo (suc c) ≡ splice (putTo c) ((r + c) * w) (f c)
+  unfolding block
+  put-more c h = sym (splice-append rows (r * w) (block c f) (f c) ((r + c) * w) (put-end c) h)
+
+  length-put : (c : ℕ) → (r + c) * w ≤ length rows → length (putTo c) ≡ length rows
+  length-put c h = length-splice rows (r * w) (block c f) (omega (arith, put-end c))
+
+  fits : (c : ℕ) → (r + suc c) * w ≤ length rows → (r + c) * w + w ≤ length rows
+  fits c h = omega (arith, row-end r w (suc c) c (omega arith))
+
+  -- the row put last, and the rows before it
+  row-last : (c : ℕ) → (r + suc c) * w ≤ length rows → (i : ℕ) → i < suc c → (i < c → part ((r + i) * w) w (putTo c) ≡ f i)
+      → part ((r + i) * w) w (splice (putTo c) ((r + c) * w) (f c)) ≡ f i
+  row-last c h i l kept = ⊎-elim last before (eq-or-lt-of-le (le-of-suc-le-suc l))
+    where
+      inside : (r + c) * w + w ≤ length (putTo c)
+      inside = omega (arith, length-put c (omega (arith, fits c h)), fits c h)
+
+      last : i ≡ c → part ((r + i) * w) w (splice (putTo c) ((r + c) * w) (f c)) ≡ f i
+      last e =
+          ap (λ (k : ℕ). part ((r + k) * w) w (splice (putTo c) ((r + c) * w) (f c))) e
+          ∙ part-same (putTo c) ((r + c) * w) w (f c) (long c) inside ∙ ap f (sym e)
+
+      before : i < c → part ((r + i) * w) w (splice (putTo c) ((r + c) * w) (f c)) ≡ f i
+      before less = part-other (putTo c) (r + i) (r + c) w (f c) (long c) inside (λ e. omega arith) ∙ kept less
+
+  pub block-row : (c : ℕ) → (r + c) * w ≤ length rows → (i : ℕ) → i < c → part ((r + i) * w) w (splice rows (r * w) (block c f)) ≡ f i
+  block-row zero h i l = absurd (not-suc-le-zero l)
+  block-row (suc c) h i l =
+      ap (part ((r + i) * w) w) (put-more c (omega (arith, fits c h)))
+      ∙ row-last c h i l (λ less. block-row c (omega (arith, fits c h)) i less)
+
+  pub block-kept : (c : ℕ) → (r + c) * w ≤ length rows → (k : ℕ) → ((i : ℕ) → i < c → k ≡ r + i → ⊥) → part (k * w) w (splice rows (r * w) (block c f)) ≡ part (k * w) w rows
+  unfolding block
+  block-kept zero h k ne = ap (part (k * w) w) (splice-none rows (r * w))
+  block-kept (suc c) h k ne =
+      ap (part (k * w) w) (put-more c (omega (arith, fits c h)))
+      ∙ part-other (putTo c) k (r + c) w (f c) (long c) (omega (arith, length-put c (omega (arith, fits c h)), fits c h)) (ne c (omega arith))
+      ∙ block-kept c (omega (arith, fits c h)) k (λ i l. ne i (omega arith))
