@@ -150,8 +150,19 @@ fn gate_block(rows: &mut [u8], gate: Gate, form: Form, batch: Batch, line: usize
     gates::combine(rows, x, y, to, batch.count * bytes, form);
 }
 
-// The tables of a line in the circuits that fix it, over those of the line's block: two places of the chain are a circuit's.
+// The tables of a line in the circuits that fix it, if there are any. The test stands before the call, which is lent copies of what it reads.
 fn fix_line(rows: &mut [u8], chain: Chain, job: Job, batch: Batch, line: usize, shape: Shape)
+    requires { ⌜ Sound job shape batch (now rows) × Made job batch line (now rows) × (line < lines job) × Linked (lineAt job (batch .first)) (2 * batch .count) (chain .head) (chain .next) ⌝ }
+    ensures { λ r. ⌜ Side job batch (line + 1) (now (rows .exit)) ⌝ }
+{
+    if chain.head[line] == 0 {
+        return;
+    }
+    put_fixed(rows, chain, job, batch, line, shape);
+}
+
+// The tables of a line in the circuits that fix it, over those of the line's block: two places of the chain are a circuit's.
+fn put_fixed(rows: &mut [u8], chain: Chain, job: Job, batch: Batch, line: usize, shape: Shape)
     requires { ⌜ Sound job shape batch (now rows) × Made job batch line (now rows) × (line < lines job) × Linked (lineAt job (batch .first)) (2 * batch .count) (chain .head) (chain .next) ⌝ }
     ensures { λ r. ⌜ Side job batch (line + 1) (now (rows .exit)) ⌝ }
 {
