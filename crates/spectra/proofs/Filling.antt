@@ -11,6 +11,8 @@
 --   filling-length      the memory is as long as before
 --   filling-room        there is room for one spectrum more
 --   filling-place       the same in the size that the code has
+--   filling-inside      the same of the memory as it is now
+--   filling-ends        a part that is lent begins before its end
 --   filling-part        the part of the memory that is lent has 2 ^ n places
 --   row-ready           the row that is lent has the entries of a table
 --   from-start          so it has those from entry 0 on
@@ -109,6 +111,12 @@ module _ {kind : Kind} {n k : ℕ} {s start : List ℕ} {rows size bytes : ℕ} 
 
   pub filling-place : r < rows → r * size + size ≤ length start
   filling-place h = row-place (f .sized) h (f .room)
+
+  pub filling-inside : r < rows → r * size + size ≤ length work
+  filling-inside h = subst (λ (x : ℕ). r * size + size ≤ x) (sym filling-length) (filling-place h)
+
+  pub filling-ends : (r * size ≤ r * size + size) × (r * bytes ≤ r * bytes + bytes)
+  filling-ends = (omega arith, omega arith)
 
   more : (new : List ℕ) → length new ≡ 2 ^ n
       → take (r * 2 ^ n) work ++ (new ++ drop (r * 2 ^ n + 2 ^ n) work) ≡ (rowSpectra kind n k s r ++ new) ++ drop (suc r * 2 ^ n) start

@@ -4,7 +4,7 @@ use Prim.Native.Nat.{_-_}
 use denote.Ref.{now}
 use borrow.Author.Count.{falls}
 use Rattle.gates.proofs.Sized.{places-exact, table-bytes-exact, fifteen-few}
-use Rattle.spectra.proofs.Filling.{Filling, row-place, filling-start, filling-length, filling-place, filling-part, filling-lent, filling-end, row-ready}
+use Rattle.spectra.proofs.Filling.{Filling, row-place, filling-start, filling-length, filling-place, filling-inside, filling-ends, filling-part, filling-lent, filling-end, row-ready}
 use Rattle.spectra.proofs.transform_rows.Statement.{statement}
 use Rattle.spectra.proofs.transform_rows.Tie as tie
 
@@ -36,13 +36,13 @@ mul-transform-row-3 : tie.Need-mul-transform-row-3 Inv-loop μ-loop
 mul-transform-row-3 c = omega (arith, filling-place (c .before .loop .inv) (c .loop-test .taken))
 
 sub-transform-row : tie.Need-sub-transform-row Inv-loop μ-loop
-sub-transform-row c = omega (arith, filling-place (c .before .loop .inv) (c .loop-test .taken))
+sub-transform-row c = filling-ends (c .before .loop .inv) .0
 
 part-transform-row-start : tie.Need-part-transform-row-start Inv-loop μ-loop
-part-transform-row-start c = omega (arith, filling-place (c .before .loop .inv) (c .loop-test .taken))
+part-transform-row-start c = filling-ends (c .before .loop .inv) .0
 
 part-transform-row-end : tie.Need-part-transform-row-end Inv-loop μ-loop
-part-transform-row-end c = omega (arith, filling-length (c .before .loop .inv), filling-place (c .before .loop .inv) (c .loop-test .taken))
+part-transform-row-end c = filling-inside (c .before .loop .inv) (c .loop-test .taken)
 
 mul-transform-row-4 : tie.Need-mul-transform-row-4 Inv-loop μ-loop
 mul-transform-row-4 c = omega (arith, row-place (c .before .before .loop .inv .wide) (c .before .loop-test .taken) (c .before .before .before .before .before .before .before .before .pre .3))
@@ -54,13 +54,13 @@ add-transform-row-2 : tie.Need-add-transform-row-2 Inv-loop μ-loop
 add-transform-row-2 c = omega (arith, row-place (c .before .before .loop .inv .wide) (c .before .loop-test .taken) (c .before .before .before .before .before .before .before .before .pre .3))
 
 sub-transform-row-2 : tie.Need-sub-transform-row-2 Inv-loop μ-loop
-sub-transform-row-2 c = omega (arith, row-place (c .before .before .loop .inv .wide) (c .before .loop-test .taken) (c .before .before .before .before .before .before .before .before .pre .3))
+sub-transform-row-2 c = filling-ends (c .before .before .loop .inv) .1
 
 part-transform-row-start-2 : tie.Need-part-transform-row-start-2 Inv-loop μ-loop
-part-transform-row-start-2 c = omega (arith, row-place (c .before .before .loop .inv .wide) (c .before .loop-test .taken) (c .before .before .before .before .before .before .before .before .pre .3))
+part-transform-row-start-2 c = filling-ends (c .before .before .loop .inv) .1
 
 part-transform-row-end-2 : tie.Need-part-transform-row-end-2 Inv-loop μ-loop
-part-transform-row-end-2 c = omega (arith, row-place (c .before .before .loop .inv .wide) (c .before .loop-test .taken) (c .before .before .before .before .before .before .before .before .pre .3))
+part-transform-row-end-2 c = row-place (c .before .before .loop .inv .wide) (c .before .loop-test .taken) (c .before .before .before .before .before .before .before .before .pre .3)
 
 transform-row-requires : tie.Need-transform-row-requires Inv-loop μ-loop
 transform-row-requires c κs = (
