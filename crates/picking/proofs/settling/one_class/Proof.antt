@@ -1,8 +1,8 @@
--- `picking::classes::one_class` meets its contract.
+-- `picking::settling::one_class` meets its contract.
 use Rattle.picking.specs.Matrix.{maxRows}
 use Rattle.picking.proofs.Columns.{column-start}
-use Rattle.picking.proofs.classes.one_class.Statement.{statement}
-use Rattle.picking.proofs.classes.one_class.Tie as tie
+use Rattle.picking.proofs.settling.one_class.Statement.{statement}
+use Rattle.picking.proofs.settling.one_class.Tie as tie
 
 returns : tie.Need-returns
 unfolding maxRows
