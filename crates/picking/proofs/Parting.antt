@@ -71,6 +71,6 @@ module _ (rows : ℕ) (marks L of : List ℕ) (most : rows ≤ maxRows) (one : H
   pub started : (r : Classes) → Settles marks L (take rows of) r → Classed rows marks (λ a b. true) (r .labels) × Settled rows marks r
   started r s = (
     settled-classed rows marks L (take rows of) r low own covers s
-    (λ a b h l n. eq-eqb (getD L a 0) (getD L b 0) (one a (omega arith) ∙ sym (one b (omega arith)))),
+        (λ a b h l n. eq-eqb (getD L a 0) (getD L b 0) (one a (omega arith) ∙ sym (one b (omega arith)))),
     settled-settled rows marks L (take rows of) r low own covers s,
   )

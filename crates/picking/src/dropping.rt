@@ -40,7 +40,12 @@ fn keep(kept: Kept, entry: u16, classes: Classes) -> Kept
     let mut entries = kept.entries;
     entries[start] = entry;
     let pair = kept.pair;
-    Kept { start, entries, classes, pair }
+    Kept {
+        start,
+        entries,
+        classes,
+        pair,
+    }
 }
 
 // The entry at a place of the scan.
@@ -69,15 +74,29 @@ pub(crate) fn pick_from(
     let pending = classes.pending;
     let next = crate::taking::next(work, width, &classes.labels, &pending[..count], scan, at);
     if next == scan.len() {
-        return nothing_kept(rows, marks, crate::classes::first_pair(rows, marks, &classes.labels, count));
+        return nothing_kept(
+            rows,
+            marks,
+            crate::classes::first_pair(rows, marks, &classes.labels, count),
+        );
     }
     let entry = entry_at(scan, next);
     let finer = crate::settling::part(work, width, marks, classes, entry as usize);
     let kept = pick_from(work, width, rows, marks, scan, next + 1, finer);
-    if crate::classes::all_told(rows, marks, &classes.labels, &kept.classes.labels, &pending[..count]) {
+    if crate::classes::all_told(
+        rows,
+        marks,
+        &classes.labels,
+        &kept.classes.labels,
+        &pending[..count],
+    ) {
         return kept;
     }
-    keep(kept, entry, crate::settling::part(work, width, marks, kept.classes, entry as usize))
+    keep(
+        kept,
+        entry,
+        crate::settling::part(work, width, marks, kept.classes, entry as usize),
+    )
 }
 
 // The kept entries from the start on, the places after them 0.

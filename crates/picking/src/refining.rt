@@ -32,13 +32,7 @@ pub(crate) fn differs(a: u16, b: u16) -> usize
     1
 }
 
-fn moved_rows(
-    work: &[u16],
-    width: usize,
-    labels: &[u16],
-    pending: &[u16],
-    entry: usize,
-) -> Moved
+fn moved_rows(work: &[u16], width: usize, labels: &[u16], pending: &[u16], entry: usize) -> Moved
     requires { ⌜ OpenFit (now work) width (now labels) (now pending) × (entry < width) ⌝ }
     ensures { λ r. ⌜ Gathered (now (labels .entry)) (λ c. cell (now (work .entry)) width c entry) (now (pending .entry)) r ⌝ }
 {

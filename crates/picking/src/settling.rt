@@ -67,11 +67,21 @@ fn settle(marks: &[u8], refined: Column, rows: &[u16]) -> Classes
         count += crate::refining::differs(own, c);
         i += 1;
     }
-    Classes { labels, count, pending }
+    Classes {
+        labels,
+        count,
+        pending,
+    }
 }
 
 // The classes by one entry more.
-pub(crate) fn part(work: &[u16], width: usize, marks: &[u8], classes: Classes, entry: usize) -> Classes
+pub(crate) fn part(
+    work: &[u16],
+    width: usize,
+    marks: &[u8],
+    classes: Classes,
+    entry: usize,
+) -> Classes
     requires { ⌜ SomeReady (now work) width (now marks) classes × (entry < width) ⌝ }
     ensures { λ r. ⌜ Parts (now (work .entry)) width (now (marks .entry)) entry classes r ⌝ }
 {
