@@ -1,9 +1,9 @@
 -- Label and value of a row as one number (specs/Labels.antt).
 --
+--   keys-equal      two such numbers are equal where both are
 --   Keying          what a loop knows that has made the keys of c rows
 --   keying-none, keying-next, keying-all   its start, its step and its end
 --   keyed-lowest    the lowest row that has a row's key is the lowest that has its label and its value
---   keyed-refined   and so for each row of a column
 use Prim.Native.Nat.{ℕ, zero, suc, _+_, _-_, _*_, _≤_, _<_}
 use native.Mathlib.Omega.{arith}
 use mathlib.Core.Path.{_≡_, refl, sym, ap₂, _∙_}
@@ -12,16 +12,16 @@ use mathlib.Core.List.{List}
 use borrow.Author.Count.{below-none, below-more}
 use borrow.Author.Tests.{eqb-true, eq-eqb, ne-eqb}
 use lib.Dec.{eqb}
-use lib.ListN.{getD, set, replicate}
+use lib.ListN.{length, getD, set}
 use mir.Syntax.{w16}
 use mir.Val.{Fits}
 use Rattle.bits.proofs.Tests.{and-l, and-r, and-i, clash}
 use Rattle.method.proofs.Pairs.{by-test}
 use Rattle.picking.specs.Matrix.{maxRows}
-use Rattle.picking.specs.Labels.{Holds, Low, Keyed, both, lowestFrom}
-use Rattle.picking.proofs.Columns.{Filling, filling-none, filling-next, filling-all}
+use Rattle.picking.specs.Labels.{Keyed, valueIn, both, lowestFrom}
+use Rattle.picking.proofs.Columns.{Filling, filling-start, filling-next, filling-all}
 
-keys-equal : (a b v w : ℕ) → Fits w16 v → Fits w16 w → eqb (a * 65536 + v) (b * 65536 + w) ≡ eqb a b && eqb v w
+pub keys-equal : (a b v w : ℕ) → Fits w16 v → Fits w16 w → eqb (a * 65536 + v) (b * 65536 + w) ≡ eqb a b && eqb v w
 keys-equal a b v w h l =
     by-test (eqb a b && eqb v w)
     (λ t.
@@ -44,8 +44,8 @@ module _ (labels values : List ℕ) where
     pub filled : Filling maxRows rows keyOf of c
     pub small : (j : ℕ) → j < c → Fits w16 (getD values j 0)
 
-  pub keying-none : (rows : ℕ) → Keying rows (replicate maxRows 0) 0
-  keying-none rows = record { filled = filling-none rows keyOf; small = below-none (λ (j : ℕ). Fits w16 (getD values j 0)) }
+  pub keying-none : (rows : ℕ) (of : List ℕ) → length of ≡ maxRows → Keying rows of 0
+  keying-none rows of e = record { filled = filling-start rows keyOf of e; small = below-none (λ (j : ℕ). Fits w16 (getD values j 0)) }
 
   module _ {rows : ℕ} {of : List ℕ} {c : ℕ} (w : Keying rows of c) where
     pub keying-next : rows ≤ maxRows → c < rows → Fits w16 (getD values c 0) → Keying rows (set of c (keyOf c)) (c + 1)
@@ -66,12 +66,7 @@ lowest-as p q (suc left) k e =
 
 module _ {rows : ℕ} (labels values keys : List ℕ) (keyed : Keyed rows labels values keys) where
   pub keyed-lowest : (c : ℕ) → c < rows → {from : ℕ} → from ≤ c → {r : ℕ} → r ≡ lowestFrom (λ k. eqb (getD keys k 0) (getD keys c 0)) (c - from) from
-      → r ≡ lowestFrom (λ k. both labels values k c) (c - from) from
+      → r ≡ lowestFrom (λ k. both labels (valueIn values) k c) (c - from) from
   keyed-lowest c h {from} l e =
       e
-      ∙ lowest-as (λ k. eqb (getD keys k 0) (getD keys c 0)) (λ k. both labels values k c) (c - from) from (λ j m. keyed j c (omega arith) h)
-
-  pub keyed-refined : (R : List ℕ) → Low rows labels
-      → Holds rows (λ c. lowestFrom (λ k. eqb (getD keys k 0) (getD keys c 0)) (c - getD labels c 0) (getD labels c 0)) R
-      → Holds rows (λ c. lowestFrom (λ k. both labels values k c) (c - getD labels c 0) (getD labels c 0)) R
-  keyed-refined R low holds c h = keyed-lowest c h (low c h) (holds c h)
+      ∙ lowest-as (λ k. eqb (getD keys k 0) (getD keys c 0)) (λ k. both labels (valueIn values) k c) (c - from) from (λ j m. keyed j c (omega arith) h)

@@ -2,7 +2,7 @@
 --
 --   clear-passing   all rows that pass a test are clear at an entry when none that passes has another number than its label there
 --   labels-full     a list tells all needed pairs apart when no row has another mark than its label
---   labels-useful   an entry is useful when some open row does not have its label's number there: a class that holds two marks is split
+--   labels-useful   an entry is useful when some pending row does not have its label's number there: a class that holds two marks is split
 --                   exactly when a needed pair in it is told apart
 --   labels-pair     labels and what the list tells have the same first pair
 use Prim.Native.Nat.{ℕ, zero, suc, _<_, _≤_}
@@ -19,7 +19,7 @@ use Rattle.bits.proofs.Tests.{and-l, and-r, and-i, clash}
 use Rattle.method.specs.Method.{someBelow, agree, useful, full, firstPair}
 use Rattle.picking.specs.Matrix.{apart}
 use Rattle.bits.specs.Passing.{passing}
-use Rattle.picking.specs.Labels.{Labels, stray, alikeMarked, split, isOpen, clear}
+use Rattle.picking.specs.Labels.{Classed, Mixed, Covers, stray, alikeMarked, split, clear}
 use Rattle.method.proofs.Pairs.{by-test, someBelow-some, some-someBelow, somePair-some, some-somePair, all-full, some-full}
 use Rattle.method.proofs.Firsts.{firstPair-same}
 use Rattle.picking.proofs.Strays.{one-mark}
@@ -57,31 +57,32 @@ module _ (coef : ℕ → ℕ → ℕ) (L : List ℕ) (e : ℕ) where
       ∙ ap₂ _&&_ (clear-passing test n) (clear-one (test n) n)
       ∙ not-or (someBelow n (λ c. test c && not (eqb (coef c e) (coef (getD L c 0) e)))) (test n && not (eqb (coef n e) (coef (getD L n 0) e)))
 
-module _ (coef : ℕ → ℕ → ℕ) (rows : ℕ) (marks l L : List ℕ) (labels : Labels rows (agree coef l) L) where
-  -- a row agrees with its label
-  label-agrees : (c : ℕ) → c < rows → agree coef l (getD L c 0) c ≡ true
-  label-agrees c h =
+module _ (coef : ℕ → ℕ → ℕ) (rows : ℕ) (marks l L : List ℕ) (labels : Classed rows marks (agree coef l) L) where
+  -- a row agrees with its label where their marks differ
+  label-agrees : (c : ℕ) → c < rows → apart marks (getD L c 0) c ≡ true → agree coef l (getD L c 0) c ≡ true
+  label-agrees c h n =
       let low : getD L c 0 ≤ c = labels .low c h in
-      sym (labels .equal (getD L c 0) c (omega arith) h) ∙ eq-eqb (getD L (getD L c 0) 0) (getD L c 0) (labels .own c h)
+      sym (labels .told (getD L c 0) c (omega arith) h n) ∙ eq-eqb (getD L (getD L c 0) 0) (getD L c 0) (labels .own c h)
 
-  same-label : (a b : ℕ) → a < rows → b < rows → agree coef l a b ≡ true → getD L a 0 ≡ getD L b 0
-  same-label a b h k t = eqb-true (getD L a 0) (getD L b 0) (labels .equal a b h k ∙ t)
+  same-label : (a b : ℕ) → a < rows → b < rows → apart marks a b ≡ true → agree coef l a b ≡ true → getD L a 0 ≡ getD L b 0
+  same-label a b h k n t = eqb-true (getD L a 0) (getD L b 0) (labels .told a b h k n ∙ t)
 
   stray-told : (c : ℕ) → c < rows → stray L marks c ≡ true → full coef rows (apart marks) l ≡ false
   stray-told c h t =
       let apart-marks : getD marks c 0 ≡ getD marks (getD L c 0) 0 → ⊥ = differ (getD marks c 0) (getD marks (getD L c 0) 0) t in
+      let needed : apart marks (getD L c 0) c ≡ true = differing (getD marks (getD L c 0) 0) (getD marks c 0) (λ e. apart-marks (sym e)) in
       ⊎-elim
       (λ (e : getD L c 0 ≡ c). absurd (apart-marks (ap (λ (x : ℕ). getD marks x 0) (sym e))))
-      (λ (k : getD L c 0 < c). some-full coef rows (apart marks) l (getD L c 0) c k h
-      (differing (getD marks (getD L c 0) 0) (getD marks c 0) (λ e. apart-marks (sym e)))
-      (label-agrees c h))
+      (λ (k : getD L c 0 < c). some-full coef rows (apart marks) l (getD L c 0) c k h needed (label-agrees c h needed))
       (eq-or-lt-of-le (labels .low c h))
 
   no-strays : someBelow rows (stray L marks) ≡ false → full coef rows (apart marks) l ≡ true
   no-strays none =
       all-full coef rows (apart marks) l
       (λ a b h k n. by-test (agree coef l a b)
-      (λ t. absurd (differ (getD marks a 0) (getD marks b 0) n (one-mark labels marks none a b (omega arith) k t)))
+      (λ t.
+      let low : a < rows = omega arith in
+      absurd (differ (getD marks a 0) (getD marks b 0) n (one-mark rows marks L none a b low k (same-label a b low k n t))))
       (λ f. f))
 
   pub labels-full : full coef rows (apart marks) l ≡ not (someBelow rows (stray L marks))
@@ -92,18 +93,15 @@ module _ (coef : ℕ → ℕ → ℕ) (rows : ℕ) (marks l L : List ℕ) (label
       stray-told (r .0) (r .1) (r .2) ∙ ap not (sym t))
       (λ f. no-strays f ∙ ap not (sym f))
 
-  abbrev moved : ℕ → ℕ → Bool
-  moved e c = isOpen rows L marks c && not (eqb (coef c e) (coef (getD L c 0) e))
-
   -- two rows of one class whose marks and whose numbers at an entry differ make the entry useful
   pair-below : (e a b : ℕ) → a < b → b < rows → getD L a 0 ≡ getD L b 0 → (getD marks a 0 ≡ getD marks b 0 → ⊥) → (coef a e ≡ coef b e → ⊥)
       → useful coef rows (apart marks) l e ≡ true
   unfolding useful
   pair-below e a b h k q m n =
       let low : a < rows = omega arith in
-      some-somePair coef rows (apart marks) (λ a b. agree coef l a b && not (eqb (coef a e) (coef b e))) a b h k
-      (differing (getD marks a 0) (getD marks b 0) m)
-      (and-i (sym (labels .equal a b low k) ∙ eq-eqb (getD L a 0) (getD L b 0) q) (differing (coef a e) (coef b e) n))
+      let needed : apart marks a b ≡ true = differing (getD marks a 0) (getD marks b 0) m in
+      some-somePair coef rows (apart marks) (λ a b. agree coef l a b && not (eqb (coef a e) (coef b e))) a b h k needed
+      (and-i (sym (labels .told a b low k needed) ∙ eq-eqb (getD L a 0) (getD L b 0) q) (differing (coef a e) (coef b e) n))
 
   pair-useful : (e a b : ℕ) → a < rows → b < rows → getD L a 0 ≡ getD L b 0 → (getD marks a 0 ≡ getD marks b 0 → ⊥) → (coef a e ≡ coef b e → ⊥)
       → useful coef rows (apart marks) l e ≡ true
@@ -131,71 +129,65 @@ module _ (coef : ℕ → ℕ → ℕ) (rows : ℕ) (marks l L : List ℕ) (label
       (λ u. pair-useful e c (getD L c 0) h inside (sym (labels .own c h)) (eqb-false (getD marks c 0) (getD marks (getD L c 0) 0) u) n))
       (λ f. pair-useful e x (getD L c 0) k inside (q ∙ sym (labels .own c h)) m (eqb-false (coef x e) (coef (getD L c 0) e) f))
 
-  moved-useful : (e c : ℕ) → c < rows → moved e c ≡ true → useful coef rows (apart marks) l e ≡ true
-  unfolding split
-  moved-useful e c h t =
-      let opens : isOpen rows L marks c ≡ true = and-l (isOpen rows L marks c) (not (eqb (coef c e) (coef (getD L c 0) e))) t in
-      let two : split rows L marks (getD L c 0) ≡ true = and-r (not (eqb (getD L c 0) c)) (split rows L marks (getD L c 0)) opens in
-      let r : (x : ℕ) × (x < rows) × (eqb (getD L x 0) (getD L c 0) && stray L marks x ≡ true) =
-      someBelow-some (λ x. eqb (getD L x 0) (getD L c 0) && stray L marks x) rows two in
-      let x : ℕ = r .0 in
-      let same : getD L x 0 ≡ getD L c 0 = eqb-true (getD L x 0) (getD L c 0) (and-l (eqb (getD L x 0) (getD L c 0)) (stray L marks x) (r .2)) in
-      split-useful e c x h (r .1) same
-      (λ p. differ (getD marks x 0) (getD marks (getD L x 0) 0) (and-r (eqb (getD L x 0) (getD L c 0)) (stray L marks x) (r .2))
-      (p ∙ ap (λ (y : ℕ). getD marks y 0) (sym same)))
-      (differ (coef c e) (coef (getD L c 0) e) (and-r (isOpen rows L marks c) (not (eqb (coef c e) (coef (getD L c 0) e))) t))
-
-  -- a class holds two marks if one of its rows has another than its label
-  split-by : (d x : ℕ) → x < rows → getD L x 0 ≡ d → (getD marks x 0 ≡ getD marks d 0 → ⊥) → split rows L marks d ≡ true
-  unfolding split
-  split-by d x h q m =
-      some-someBelow (λ c. eqb (getD L c 0) d && stray L marks c) rows x h
-      (and-i (eq-eqb (getD L x 0) d q) (differing (getD marks x 0) (getD marks (getD L x 0) 0) (λ p. m (p ∙ ap (λ (y : ℕ). getD marks y 0) q))))
-
-  split-pair : (d a b : ℕ) → a < rows → b < rows → getD L a 0 ≡ d → getD L b 0 ≡ d
-      → (getD marks a 0 ≡ getD marks b 0 → ⊥) → split rows L marks d ≡ true
-  split-pair d a b h k p q m =
-      by-test (eqb (getD marks a 0) (getD marks d 0))
-      (λ t. split-by d b k q (λ u. m (eqb-true (getD marks a 0) (getD marks d 0) t ∙ sym u)))
-      (λ f. split-by d a h p (eqb-false (getD marks a 0) (getD marks d 0) f))
-
-  moved-at : (e c : ℕ) → c < rows → split rows L marks (getD L c 0) ≡ true → (coef c e ≡ coef (getD L c 0) e → ⊥) → someBelow rows (moved e) ≡ true
-  moved-at e c h t n =
-      some-someBelow (moved e) rows c h
-      (and-i (and-i (differing (getD L c 0) c (λ p. n (ap (λ (y : ℕ). coef y e) (sym p)))) t) (differing (coef c e) (coef (getD L c 0) e) n))
-
-  pair-moved : (e a b : ℕ) → a < rows → b < rows → getD L a 0 ≡ getD L b 0 → (getD marks a 0 ≡ getD marks b 0 → ⊥) → (coef a e ≡ coef b e → ⊥)
-      → someBelow rows (moved e) ≡ true
-  pair-moved e a b h k q m n =
-      by-test (eqb (coef a e) (coef (getD L a 0) e))
-      (λ t.
-      moved-at e b k (split-pair (getD L b 0) a b h k q refl m)
-      (λ p. n (eqb-true (coef a e) (coef (getD L a 0) e) t ∙ ap (λ (y : ℕ). coef y e) q ∙ sym p)))
-      (λ f. moved-at e a h (split-pair (getD L a 0) a b h k refl (sym q) m) (eqb-false (coef a e) (coef (getD L a 0) e) f))
-
-  useful-moved : (e : ℕ) → useful coef rows (apart marks) l e ≡ true → someBelow rows (moved e) ≡ true
-  unfolding useful
-  useful-moved e t =
-      let r : (a : ℕ) × (b : ℕ) × (a < b) × (b < rows) × (apart marks a b ≡ true) × (agree coef l a b && not (eqb (coef a e) (coef b e)) ≡ true) =
-      somePair-some coef rows (apart marks) (λ a b. agree coef l a b && not (eqb (coef a e) (coef b e))) t in
-      let a : ℕ = r .0 in
-      let b : ℕ = r .1 in
-      let low : a < rows = omega arith in
-      pair-moved e a b low (r .3)
-      (same-label a b low (r .3) (and-l (agree coef l a b) (not (eqb (coef a e) (coef b e))) (r .5)))
-      (differ (getD marks a 0) (getD marks b 0) (r .4))
-      (differ (coef a e) (coef b e) (and-r (agree coef l a b) (not (eqb (coef a e) (coef b e))) (r .5)))
-
-  pub labels-useful : (e : ℕ) → useful coef rows (apart marks) l e ≡ not (clear coef L (passing (isOpen rows L marks) rows) e)
-  labels-useful e =
-      by-test (someBelow rows (moved e))
-      (λ t.
-      let r : (c : ℕ) × (c < rows) × (moved e c ≡ true) = someBelow-some (moved e) rows t in
-      moved-useful e (r .0) (r .1) (r .2) ∙ sym t)
-      (λ f. by-test (useful coef rows (apart marks) l e) (λ u. absurd (clash (useful-moved e u) f)) (λ u. u ∙ sym f))
-      ∙ sym (ap not (clear-passing coef L e (isOpen rows L marks) rows) ∙ Bool·not-not (someBelow rows (moved e)))
-
   pub labels-pair : firstPair rows (alikeMarked L marks) ≡ firstPair rows (λ a b. apart marks a b && agree coef l a b)
   labels-pair =
       firstPair-same rows (alikeMarked L marks) (λ a b. apart marks a b && agree coef l a b)
-      (λ a b h k. ap (λ (t : Bool). apart marks a b && t) (labels .equal a b (omega arith) k))
+      (λ a b h k.
+      by-test (apart marks a b)
+      (λ n. ap (λ (t : Bool). apart marks a b && t) (labels .told a b (omega arith) k n))
+      (λ f.
+      ap (λ (t : Bool). t && eqb (getD L a 0) (getD L b 0)) f
+      ∙ sym (ap (λ (t : Bool). t && agree coef l a b) f)))
+
+  module _ (mixed : Mixed rows marks L) (pending : List ℕ) (covers : Covers rows L pending) where
+    abbrev moved : ℕ → ℕ → Bool
+    moved e c = covers .test c && not (eqb (coef c e) (coef (getD L c 0) e))
+
+    moved-useful : (e c : ℕ) → c < rows → moved e c ≡ true → useful coef rows (apart marks) l e ≡ true
+    unfolding split
+    moved-useful e c h t =
+        let other : coef c e ≡ coef (getD L c 0) e → ⊥ =
+        differ (coef c e) (coef (getD L c 0) e) (and-r (covers .test c) (not (eqb (coef c e) (coef (getD L c 0) e))) t) in
+        let two : split rows L marks (getD L c 0) ≡ true = mixed c h (λ p. other (ap (λ (y : ℕ). coef y e) (sym p))) in
+        let r : (x : ℕ) × (x < rows) × (eqb (getD L x 0) (getD L c 0) && stray L marks x ≡ true) =
+        someBelow-some (λ x. eqb (getD L x 0) (getD L c 0) && stray L marks x) rows two in
+        let x : ℕ = r .0 in
+        let same : getD L x 0 ≡ getD L c 0 = eqb-true (getD L x 0) (getD L c 0) (and-l (eqb (getD L x 0) (getD L c 0)) (stray L marks x) (r .2)) in
+        split-useful e c x h (r .1) same
+        (λ p. differ (getD marks x 0) (getD marks (getD L x 0) 0) (and-r (eqb (getD L x 0) (getD L c 0)) (stray L marks x) (r .2))
+        (p ∙ ap (λ (y : ℕ). getD marks y 0) (sym same)))
+        other
+
+    moved-at : (e c : ℕ) → c < rows → (coef c e ≡ coef (getD L c 0) e → ⊥) → someBelow rows (moved e) ≡ true
+    moved-at e c h n =
+        some-someBelow (moved e) rows c h
+        (and-i (by-test (covers .test c) (λ t. t) (λ f. absurd (n (ap (λ (y : ℕ). coef y e) (sym (covers .others c h f))))))
+        (differing (coef c e) (coef (getD L c 0) e) n))
+
+    pair-moved : (e a b : ℕ) → a < rows → b < rows → getD L a 0 ≡ getD L b 0 → (coef a e ≡ coef b e → ⊥) → someBelow rows (moved e) ≡ true
+    pair-moved e a b h k q n =
+        by-test (eqb (coef a e) (coef (getD L a 0) e))
+        (λ t. moved-at e b k (λ p. n (eqb-true (coef a e) (coef (getD L a 0) e) t ∙ ap (λ (y : ℕ). coef y e) q ∙ sym p)))
+        (λ f. moved-at e a h (eqb-false (coef a e) (coef (getD L a 0) e) f))
+
+    useful-moved : (e : ℕ) → useful coef rows (apart marks) l e ≡ true → someBelow rows (moved e) ≡ true
+    unfolding useful
+    useful-moved e t =
+        let r : (a : ℕ) × (b : ℕ) × (a < b) × (b < rows) × (apart marks a b ≡ true) × (agree coef l a b && not (eqb (coef a e) (coef b e)) ≡ true) =
+        somePair-some coef rows (apart marks) (λ a b. agree coef l a b && not (eqb (coef a e) (coef b e))) t in
+        let a : ℕ = r .0 in
+        let b : ℕ = r .1 in
+        let low : a < rows = omega arith in
+        pair-moved e a b low (r .3)
+        (same-label a b low (r .3) (r .4) (and-l (agree coef l a b) (not (eqb (coef a e) (coef b e))) (r .5)))
+        (differ (coef a e) (coef b e) (and-r (agree coef l a b) (not (eqb (coef a e) (coef b e))) (r .5)))
+
+    pub labels-useful : (e : ℕ) → useful coef rows (apart marks) l e ≡ not (clear coef L pending e)
+    labels-useful e =
+        by-test (someBelow rows (moved e))
+        (λ t.
+        let r : (c : ℕ) × (c < rows) × (moved e c ≡ true) = someBelow-some (moved e) rows t in
+        moved-useful e (r .0) (r .1) (r .2) ∙ sym t)
+        (λ f. by-test (useful coef rows (apart marks) l e) (λ u. absurd (clash (useful-moved e u) f)) (λ u. u ∙ sym f))
+        ∙ sym (ap (λ (m : List ℕ). not (clear coef L m e)) (covers .listed)
+        ∙ ap not (clear-passing coef L e (covers .test) rows) ∙ Bool·not-not (someBelow rows (moved e)))

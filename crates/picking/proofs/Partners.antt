@@ -5,7 +5,8 @@
 --   Unpaired           what a loop that seeks the first pair knows: no row before row a has a partner
 --   unpaired-none, unpaired-found, unpaired-next, unpaired-all   its start, its ways out and its step
 --   alike-found, alike-labels, alike-marks                       whether two rows are of one class and their marks differ, by comparing
---   told-unpaired      there is no pair where every row has the mark of the lowest row of its class
+--   none-pending       where no row is pending, every row is its own label
+--   own-unpaired       then there is no pair
 use Prim.Native.Nat.{ℕ, suc, _+_, _-_, _≤_, _<_}
 use native.Mathlib.Nat.{sub-zero}
 use native.Mathlib.Numerals.{add-one}
@@ -13,17 +14,16 @@ use native.Mathlib.Omega.{arith}
 use mathlib.Core.Path.{_≡_, refl, sym, ap, _∙_}
 use mathlib.Core.Bool.{Bool, true, false, not, cond, _&&_, and-false}
 use mathlib.Core.List.{List}
-use borrow.Author.Tests.{lt-ltb, le-ltb, eqb-false, eq-eqb, ne-eqb, not-true}
+use borrow.Author.Tests.{lt-ltb, le-ltb, eq-eqb, ne-eqb}
 use lib.Dec.{ltb, eqb}
-use lib.ListN.{getD}
+use lib.ListN.{length, getD}
 use Rattle.bits.proofs.Tests.{and-i}
-use Rattle.method.specs.Method.{someBelow, Pair, pairWith, pairFrom, firstPair}
+use Rattle.method.specs.Method.{Pair, pairWith, pairFrom, firstPair}
 use Rattle.method.specs.Method.Pair.{nobody, pair}
-use Rattle.picking.specs.Labels.{Low, met, stray, alikeMarked}
+use Rattle.picking.specs.Labels.{Covers, alikeMarked}
 use Rattle.method.proofs.Pairs.{by-test}
 use Rattle.method.proofs.Firsts.{nobody-firstPair}
-use Rattle.picking.proofs.Refined.{met-labels}
-use Rattle.picking.proofs.Strays.{one-mark}
+use Rattle.picking.proofs.Listed.{passing-listing}
 
 module _ (rows a : ℕ) (test : ℕ → Bool) where
   pub record Paired (b : ℕ) : Type 0 where
@@ -109,11 +109,18 @@ module _ (labels marks : List ℕ) (a b : ℕ) where
   pub alike-marks : getD marks b 0 ≡ getD marks a 0 → alikeMarked labels marks a b ≡ false
   alike-marks e = ap (λ (t : Bool). not t && eqb (getD labels a 0) (getD labels b 0)) (eq-eqb (getD marks a 0) (getD marks b 0) (sym e))
 
-pub told-unpaired : (rows : ℕ) (labels marks : List ℕ) {t : Bool} → Low rows labels → t ≡ not (someBelow rows (stray (met rows labels labels) marks)) → t ≡ true
-    → nobody ≡ firstPair rows (alikeMarked labels marks)
-told-unpaired rows labels marks low e t =
-    let none : someBelow rows (stray (met rows labels labels) marks) ≡ false = not-true (someBelow rows (stray (met rows labels labels) marks)) (sym e ∙ t) in
-    sym (nobody-firstPair rows (alikeMarked labels marks)
-    (λ a b h k. by-test (eqb (getD labels a 0) (getD labels b 0))
-    (λ u. alike-marks labels marks a b (sym (one-mark (met-labels rows labels labels low) marks none a b (omega arith) k (and-i u u))))
-    (λ f. alike-labels labels marks a b (λ p. eqb-false (getD labels a 0) (getD labels b 0) f (sym p)))))
+-- rows that are all their own labels
+module _ (rows : ℕ) (labels : List ℕ) where
+  pub none-pending : {pending : List ℕ} → Covers rows labels pending → length pending ≡ 0 → (c : ℕ) → c < rows → getD labels c 0 ≡ c
+  none-pending covers e c h =
+      by-test (covers .test c)
+      (λ t.
+      let r = passing-listing (covers .test) rows .has c h t in
+      absurd (omega (arith, r .1, ap length (covers .listed))))
+      (λ f. covers .others c h f)
+
+  pub own-unpaired : (marks : List ℕ) → ((c : ℕ) → c < rows → getD labels c 0 ≡ c) → nobody ≡ firstPair rows (alikeMarked labels marks)
+  own-unpaired marks own =
+      sym (nobody-firstPair rows (alikeMarked labels marks)
+      (λ a b h k. alike-labels labels marks a b
+      (λ p. let e : getD labels a 0 ≡ a = own a (omega arith) in let f : getD labels b 0 ≡ b = own b k in omega arith)))

@@ -5,7 +5,9 @@
 --   matching-later  it may start later
 --   refined-le      the lowest row that has both is not above
 --   refined         the lowest rows that have both are labels
+--   lowest-is       a row that has both is the lowest if none before it has
 --   met-labels      so are those by two columns of labels
+--   met-own         a row that is its own label in the one column is so in both
 --   met-from, met-at, met-le   one such label, sought by keys from the larger of the two on
 use Prim.Native.Nat.{ℕ, zero, suc, _+_, _-_, _≤_, _<_}
 use native.Mathlib.Nat.{eq-or-lt-of-le, le-antisymm}
@@ -13,14 +15,14 @@ use native.Mathlib.Numerals.{add-one}
 use native.Mathlib.Omega.{arith}
 use mathlib.Core.Path.{_≡_, refl, sym, ap, subst, _∙_}
 use mathlib.Core.Bool.{Bool, true, false, cond, _&&_, and-false}
-use mathlib.Core.Logic.{⊎-elim}
+use mathlib.Core.Logic.{_⊎_, inl, inr, ⊎-elim}
 use mathlib.Core.List.{List}
 use borrow.Author.Tests.{eqb-true, eq-eqb, ne-eqb}
 use lib.Dec.{eqb}
 use lib.ListN.{getD}
 use Rattle.bits.proofs.Tests.{and-l, and-r, and-i, clash}
 use Rattle.bits.proofs.Packed.{tabulate-at}
-use Rattle.picking.specs.Labels.{Holds, Low, Labels, both, Keyed, met, lowestFrom}
+use Rattle.picking.specs.Labels.{Holds, Low, Labels, valueIn, both, Keyed, met, lowestFrom}
 use Rattle.method.proofs.Pairs.{by-test, by-cond}
 use Rattle.picking.proofs.Keying.{keyed-lowest}
 
@@ -33,13 +35,13 @@ module _ (test : ℕ → Bool) where
   lowest-from (suc left) k =
       by-cond (λ (r : ℕ). k ≤ r) (test k) k (lowestFrom test left (suc k)) (λ t. omega arith) (λ f. omega (arith, lowest-from left (suc k)))
 
-  lowest-to : (left k : ℕ) → lowestFrom test left k ≤ k + left
+  pub lowest-to : (left k : ℕ) → lowestFrom test left k ≤ k + left
   unfolding lowestFrom
   lowest-to zero k = omega arith
   lowest-to (suc left) k =
       by-cond (λ (r : ℕ). r ≤ k + suc left) (test k) k (lowestFrom test left (suc k)) (λ t. omega arith) (λ f. omega (arith, lowest-to left (suc k)))
 
-  lowest-passes : (left k c : ℕ) → k + left ≡ c → test c ≡ true → test (lowestFrom test left k) ≡ true
+  pub lowest-passes : (left k c : ℕ) → k + left ≡ c → test c ≡ true → test (lowestFrom test left k) ≡ true
   unfolding lowestFrom
   lowest-passes zero k c e t = let h : c ≡ k = omega arith in subst (λ (v : ℕ). test v ≡ true) h t
   lowest-passes (suc left) k c e t =
@@ -93,86 +95,108 @@ module _ (test : ℕ → Bool) where
           let e : a + d + 1 ≡ a + suc d = omega arith in
           subst (Matching a c) e (matching-next (go d (omega arith)) (omega arith) (none (a + d) (omega arith) (omega arith)))
 
+  -- a number that passes is the lowest if none before it does
+  pub lowest-is : {a r c : ℕ} → a ≤ r → r ≤ c → test r ≡ true → ((k : ℕ) → a ≤ k → k < r → test k ≡ false) → r ≡ lowestFrom test (c - a) a
+  lowest-is {a} {r} {c} h l t none = first (eq-or-lt-of-le l) ∙ sym (matching-later h l none)
+    where
+      first : (r ≡ c) ⊎ (r < c) → r ≡ lowestFrom test (c - r) r
+      first (inl e) = e ∙ matching-all (matching-none l) (omega arith)
+      first (inr m) = matching-found (matching-none l) m t
+
+  pub lowest-before : (left k j : ℕ) → k ≤ j → j < lowestFrom test left k → test j ≡ false
+  lowest-before left k j h l = by-test (test j) (λ t. absurd (omega (arith, l, lowest-first left k j h t))) (λ f. f)
+
 -- ---- rows of one class with one value
 
-module _ (labels values : List ℕ) (k c : ℕ) where
-  both-found : getD labels k 0 ≡ getD labels c 0 → getD values k 0 ≡ getD values c 0 → both labels values k c ≡ true
-  both-found e f = and-i (eq-eqb (getD labels k 0) (getD labels c 0) e) (eq-eqb (getD values k 0) (getD values c 0) f)
+module _ (labels : List ℕ) (value : ℕ → ℕ) (k c : ℕ) where
+  pub both-found : getD labels k 0 ≡ getD labels c 0 → value k ≡ value c → both labels value k c ≡ true
+  both-found e f = and-i (eq-eqb (getD labels k 0) (getD labels c 0) e) (eq-eqb (value k) (value c) f)
 
-  both-values : (getD values k 0 ≡ getD values c 0 → ⊥) → both labels values k c ≡ false
+  pub both-values : (value k ≡ value c → ⊥) → both labels value k c ≡ false
   both-values d =
-      ap (λ (t : Bool). eqb (getD labels k 0) (getD labels c 0) && t) (ne-eqb (getD values k 0) (getD values c 0) d)
+      ap (λ (t : Bool). eqb (getD labels k 0) (getD labels c 0) && t) (ne-eqb (value k) (value c) d)
       ∙ and-false (eqb (getD labels k 0) (getD labels c 0))
 
-  same-label : both labels values k c ≡ true → getD labels k 0 ≡ getD labels c 0
+  pub same-label : both labels value k c ≡ true → getD labels k 0 ≡ getD labels c 0
   same-label t =
-      eqb-true (getD labels k 0) (getD labels c 0) (and-l (eqb (getD labels k 0) (getD labels c 0)) (eqb (getD values k 0) (getD values c 0)) t)
+      eqb-true (getD labels k 0) (getD labels c 0) (and-l (eqb (getD labels k 0) (getD labels c 0)) (eqb (value k) (value c)) t)
 
-  same-value : both labels values k c ≡ true → getD values k 0 ≡ getD values c 0
+  pub same-value : both labels value k c ≡ true → value k ≡ value c
   same-value t =
-      eqb-true (getD values k 0) (getD values c 0) (and-r (eqb (getD labels k 0) (getD labels c 0)) (eqb (getD values k 0) (getD values c 0)) t)
+      eqb-true (value k) (value c) (and-r (eqb (getD labels k 0) (getD labels c 0)) (eqb (value k) (value c)) t)
 
-module _ (rows : ℕ) (labels values : List ℕ) (low : Low rows labels) where
-  abbrev lowestOf : ℕ → ℕ
-  lowestOf c = lowestFrom (λ k. both labels values k c) (c - getD labels c 0) (getD labels c 0)
+-- the lowest row that has a row's label and value
+abbrev pub lowestOf : List ℕ → (ℕ → ℕ) → ℕ → ℕ
+lowestOf labels value c = lowestFrom (λ k. both labels value k c) (c - getD labels c 0) (getD labels c 0)
 
-  own-both : (c : ℕ) → c < rows → both labels values (lowestOf c) c ≡ true
+module _ (rows : ℕ) (labels : List ℕ) (value : ℕ → ℕ) (low : Low rows labels) where
+  own-both : (c : ℕ) → c < rows → both labels value (lowestOf labels value c) c ≡ true
   own-both c h =
       let l : getD labels c 0 ≤ c = low c h in
-      lowest-passes (λ k. both labels values k c) (c - getD labels c 0) (getD labels c 0) c (omega arith) (both-found labels values c c refl refl)
+      lowest-passes (λ k. both labels value k c) (c - getD labels c 0) (getD labels c 0) c (omega arith) (both-found labels value c c refl refl)
 
-  own-low : (c : ℕ) → c < rows → lowestOf c ≤ c
+  own-low : (c : ℕ) → c < rows → lowestOf labels value c ≤ c
   own-low c h =
       let l : getD labels c 0 ≤ c = low c h in
-      omega (arith, lowest-to (λ k. both labels values k c) (c - getD labels c 0) (getD labels c 0))
+      omega (arith, lowest-to (λ k. both labels value k c) (c - getD labels c 0) (getD labels c 0))
 
   -- of rows that have both, neither has a lower such row than the other
-  not-above : (a b : ℕ) → a < rows → b < rows → both labels values a b ≡ true → lowestOf a ≤ lowestOf b
+  not-above : (a b : ℕ) → a < rows → b < rows → both labels value a b ≡ true → lowestOf labels value a ≤ lowestOf labels value b
   not-above a b h k t =
-      let e : getD labels a 0 ≡ getD labels b 0 = same-label labels values a b t in
+      let e : getD labels a 0 ≡ getD labels b 0 = same-label labels value a b t in
       let o = own-both b k in
-      lowest-first (λ k. both labels values k a) (a - getD labels a 0) (getD labels a 0) (lowestOf b)
-      (subst (λ (x : ℕ). x ≤ lowestOf b) (sym e) (lowest-from (λ k. both labels values k b) (b - getD labels b 0) (getD labels b 0)))
-      (both-found labels values (lowestOf b) a
-      (same-label labels values (lowestOf b) b o ∙ sym e)
-      (same-value labels values (lowestOf b) b o ∙ sym (same-value labels values a b t)))
+      lowest-first (λ k. both labels value k a) (a - getD labels a 0) (getD labels a 0) (lowestOf labels value b)
+      (subst (λ (x : ℕ). x ≤ lowestOf labels value b) (sym e) (lowest-from (λ k. both labels value k b) (b - getD labels b 0) (getD labels b 0)))
+      (both-found labels value (lowestOf labels value b) a
+      (same-label labels value (lowestOf labels value b) b o ∙ sym e)
+      (same-value labels value (lowestOf labels value b) b o ∙ sym (same-value labels value a b t)))
 
-  one-lowest : (a b : ℕ) → a < rows → b < rows → both labels values a b ≡ true → lowestOf a ≡ lowestOf b
+  one-lowest : (a b : ℕ) → a < rows → b < rows → both labels value a b ≡ true → lowestOf labels value a ≡ lowestOf labels value b
   one-lowest a b h k t =
       le-antisymm (not-above a b h k t)
-      (not-above b a k h (both-found labels values b a (sym (same-label labels values a b t)) (sym (same-value labels values a b t))))
+      (not-above b a k h (both-found labels value b a (sym (same-label labels value a b t)) (sym (same-value labels value a b t))))
 
-  lowest-both : (a b : ℕ) → a < rows → b < rows → lowestOf a ≡ lowestOf b → both labels values a b ≡ true
+  lowest-both : (a b : ℕ) → a < rows → b < rows → lowestOf labels value a ≡ lowestOf labels value b → both labels value a b ≡ true
   lowest-both a b h k e =
       let p = own-both a h in
       let q = own-both b k in
-      both-found labels values a b
-      (sym (same-label labels values (lowestOf a) a p) ∙ ap (λ (x : ℕ). getD labels x 0) e ∙ same-label labels values (lowestOf b) b q)
-      (sym (same-value labels values (lowestOf a) a p) ∙ ap (λ (x : ℕ). getD values x 0) e ∙ same-value labels values (lowestOf b) b q)
+      both-found labels value a b
+      (sym (same-label labels value (lowestOf labels value a) a p) ∙ ap (λ (x : ℕ). getD labels x 0) e ∙ same-label labels value (lowestOf labels value b) b q)
+      (sym (same-value labels value (lowestOf labels value a) a p) ∙ ap (λ (x : ℕ). value x) e ∙ same-value labels value (lowestOf labels value b) b q)
 
-  pub refined-le : (c : ℕ) → c < rows → {r : ℕ} → r ≡ lowestOf c → r ≤ c
+  pub refined-le : (c : ℕ) → c < rows → {r : ℕ} → r ≡ lowestOf labels value c → r ≤ c
   refined-le c h e = subst (λ (x : ℕ). x ≤ c) (sym e) (own-low c h)
 
-  pub refined : {R : List ℕ} → Holds rows lowestOf R → Labels rows (both labels values) R
+  pub refined : {R : List ℕ} → Holds rows (lowestOf labels value) R → Labels rows (both labels value) R
   refined {R} holds =
       record {
         low = λ c h. refined-le c h (holds c h);
         own =
             λ c h.
-            let m : lowestOf c < rows = omega (arith, own-low c h) in
-            ap (λ (x : ℕ). getD R x 0) (holds c h) ∙ holds (lowestOf c) m ∙ one-lowest (lowestOf c) c m h (own-both c h) ∙ sym (holds c h);
+            let m : lowestOf labels value c < rows = omega (arith, own-low c h) in
+            ap (λ (x : ℕ). getD R x 0) (holds c h) ∙ holds (lowestOf labels value c) m ∙ one-lowest (lowestOf labels value c) c m h (own-both c h) ∙ sym (holds c h);
         equal =
             λ a b h k.
-            by-test (both labels values a b)
+            by-test (both labels value a b)
             (λ t. eq-eqb (getD R a 0) (getD R b 0) (holds a h ∙ one-lowest a b h k t ∙ sym (holds b k)) ∙ sym t)
             (λ f. ne-eqb (getD R a 0) (getD R b 0) (λ e. clash (lowest-both a b h k (sym (holds a h) ∙ e ∙ holds b k)) f) ∙ sym f);
       }
 
-  met-holds : Holds rows lowestOf (met rows labels values)
-  met-holds c h = tabulate-at rows lowestOf c h
+module _ (rows : ℕ) (labels values : List ℕ) (low : Low rows labels) where
+  met-holds : Holds rows (lowestOf labels (valueIn values)) (met rows labels values)
+  met-holds c h = tabulate-at rows (lowestOf labels (valueIn values)) c h
 
-  pub met-labels : Labels rows (both labels values) (met rows labels values)
-  met-labels = refined met-holds
+  pub met-labels : Labels rows (both labels (valueIn values)) (met rows labels values)
+  met-labels = refined rows labels (valueIn values) low met-holds
+
+  -- a row that is its own label is the lowest that has both
+  pub met-own : (c : ℕ) → c < rows → getD labels c 0 ≡ c → getD (met rows labels values) c 0 ≡ c
+  met-own c h e =
+      let up : getD labels c 0 ≤ lowestOf labels (valueIn values) c =
+      lowest-from (λ k. both labels (valueIn values) k c) (c - getD labels c 0) (getD labels c 0) in
+      let at : getD (met rows labels values) c 0 ≡ lowestOf labels (valueIn values) c = met-holds c h in
+      let down : getD (met rows labels values) c 0 ≤ c = met-labels .low c h in
+      omega arith
 
   -- where the values are labels too, the lowest row that has both is not below either
   module _ (values-low : Low rows values) (c : ℕ) (h : c < rows) {from : ℕ} (above : getD labels c 0 ≤ from)
@@ -184,9 +208,9 @@ module _ (rows : ℕ) (labels values : List ℕ) (low : Low rows labels) where
       pub met-at : r ≡ getD (met rows labels values) c 0
       met-at =
           keyed-lowest labels values keys keyed c h met-from e
-          ∙ sym (matching-later (λ k. both labels values k c) above met-from
+          ∙ sym (matching-later (λ k. both labels (valueIn values) k c) above met-from
           (λ k a l.
-          both-values labels values k c
+          both-values labels (valueIn values) k c
           (λ (s : getD values k 0 ≡ getD values c 0).
           let i : k < rows = omega (arith, met-from) in
           let m : getD values k 0 ≤ k = values-low k i in

@@ -1,33 +1,35 @@
--- Seeking the next entry that tells an open row from its label, as the code does it (specs/Labels.antt).
+-- Seeking the next entry that tells a pending row from its label, as the code does it (specs/Labels.antt).
 --
---   row-cell, label-cell   an open row's number at an entry, and its label's, stand within the work
---   Clearing         what a loop knows after i open rows: they have their labels' numbers
+--   row-cell, label-cell   a pending row's number at an entry, and its label's, stand within the work
+--   Clearing         what a loop knows after i pending rows: they have their labels' numbers
 --   clearing-none, clearing-stop, clearing-next, clearing-all   its start, its ways out and its step
 --   Seeking          what a loop knows at a place: the entries before it are clear
 --   seeking-none, seeking-stop, seeking-next, seeking-all       its start, its ways out and its step
---   seek-idle        with no open row, all entries are clear
---   passing-fit      the rows below a bound that pass a test can be read
---   seek-same        with the same open rows, the same place is sought
+--   seek-idle        with no pending row, all entries are clear
+--   passing-fit      the numbers of the rows below a bound that pass a test can be read
+--   passing-marked   and so can their marks
 --   seek-rises, seek-within   the place sought is not before the first, and within the scan
 --   seek-fails       the entry there does not pass the test
 --   seek-goes        taking passes over the entries before it
 use Prim.Native.Nat.{ℕ, zero, suc, _+_, _*_, _≤_, _<_}
-use native.Mathlib.Nat.{mul-le-mul-right, not-suc-le-zero, le-of-suc-le-suc, le-refl, le-trans}
+use native.Mathlib.Nat.{mul-le-mul-right, le-refl, le-trans}
 use native.Mathlib.Numerals.{add-one}
 use native.Mathlib.Omega.{arith}
 use mathlib.Core.Path.{_≡_, refl, sym, ap, subst, _∙_}
 use mathlib.Core.Bool.{Bool, true, false, not, cond, _&&_}
-use mathlib.Core.List.{List, [], _∷_, _++_}
+use mathlib.Core.List.{List, [], _∷_}
 use borrow.Author.Tests.{eq-eqb, ne-eqb, not-true, not-false}
 use lib.Dec.{eqb}
 use lib.ListN.{length, drop, getD, length-drop, drop-of-length-le}
 use lib.Seq.{drop-cons, drop-drop, getD-drop}
 use Rattle.method.specs.Method.{useful, takes}
 use Rattle.bits.specs.Passing.{passing}
-use Rattle.picking.specs.Labels.{Low, clear, seek, OpenFit}
+use Rattle.picking.specs.Matrix.{maxRows}
+use Rattle.picking.specs.Labels.{Low, clear, seek, OpenFit, OpenMarked}
 use Rattle.method.proofs.Pairs.{by-cond}
 use Rattle.method.proofs.Takes.{takes-idle}
 use Rattle.picking.proofs.Columns.{cell-within}
+use Rattle.picking.proofs.Listed.{passing-few, passing-listing}
 
 -- ---- places
 
@@ -120,43 +122,32 @@ seek-idle coef labels pending scan from e h =
     seek-past (clear coef labels pending) (clear-nothing coef labels pending e) (drop from scan) from in
     omega (arith, length-drop from scan)
 
--- ---- open rows
+-- ---- pending rows
 
-abbrev Below : ℕ → List ℕ → Type 0
-Below m l = (i : ℕ) → i < length l → getD l i 0 < m
-
-below-append : (p q : List ℕ) (m : ℕ) → Below m p → Below m q → Below m (p ++ q)
-below-append [] q m f g i h = g i h
-below-append (x ∷ p) q m f g zero h = f zero (omega arith)
-below-append (x ∷ p) q m f g (suc i) h = below-append p q m (λ j k. f (suc j) (omega arith)) g i (le-of-suc-le-suc h)
-
-below-last : (t : Bool) (n : ℕ) → Below (suc n) (cond t (n ∷ []) [])
-below-last true n zero h = omega arith
-below-last true n (suc i) h = absurd (not-suc-le-zero (le-of-suc-le-suc h))
-below-last false n i h = absurd (not-suc-le-zero h)
-
-passing-below : (test : ℕ → Bool) (n : ℕ) → Below n (passing test n)
-unfolding passing
-passing-below test zero = λ i h. absurd (not-suc-le-zero h)
-passing-below test (suc n) =
-    below-append (passing test n) (cond (test n) (n ∷ []) []) (suc n)
-    (λ i h. let b : getD (passing test n) i 0 < n = passing-below test n i h in omega arith)
-    (below-last (test n) n)
-
-pub passing-fit : (work : List ℕ) (width rows : ℕ) (labels : List ℕ) (test : ℕ → Bool) (pending : List ℕ)
+pub passing-fit : (work : List ℕ) (width rows : ℕ) (labels : List ℕ) (test : ℕ → Bool) (pending : List ℕ) → rows ≤ maxRows
     → rows * width ≤ length work → rows ≤ length labels → Low rows labels
     → pending ≡ passing test rows → OpenFit work width labels pending
-passing-fit work width rows labels test pending h k low e =
+passing-fit work width rows labels test pending most h k low e =
+    let w = passing-listing test rows in
     subst (OpenFit work width labels) (sym e)
     (record {
-      listed = λ i l. let b : getD (passing test rows) i 0 < rows = passing-below test rows i l in omega arith;
-      filled = λ i l. le-trans (mul-le-mul-right width (passing-below test rows i l)) h;
-      low = λ i l. low (getD (passing test rows) i 0) (passing-below test rows i l);
+      few = omega (arith, passing-few test rows);
+      listed = λ i l. let b : getD (passing test rows) i 0 < rows = w .below i l in omega arith;
+      filled = λ i l. le-trans (mul-le-mul-right width (w .below i l)) h;
+      low = λ i l. low (getD (passing test rows) i 0) (w .below i l);
     })
 
-pub seek-same : (coef : ℕ → ℕ → ℕ) (labels : List ℕ) {p q : List ℕ} (scan : List ℕ) (from : ℕ) {at : ℕ}
-    → at ≡ seek (clear coef labels p) scan from → p ≡ q → at ≡ seek (clear coef labels q) scan from
-seek-same coef labels scan from e same = e ∙ ap (λ (l : List ℕ). seek (clear coef labels l) scan from) same
+pub passing-marked : (rows : ℕ) (marks labels : List ℕ) (test : ℕ → Bool) (pending : List ℕ) → rows ≤ maxRows → rows ≤ length marks → Low rows labels
+    → pending ≡ passing test rows → OpenMarked marks labels pending
+passing-marked rows marks labels test pending most h low e =
+    let w = passing-listing test rows in
+    subst (OpenMarked marks labels) (sym e)
+    (record {
+      few = omega (arith, passing-few test rows);
+      listed = λ i l. let b : getD (passing test rows) i 0 < rows = w .below i l in omega arith;
+      marked = λ i l. let b : getD (passing test rows) i 0 < rows = w .below i l in omega arith;
+      low = λ i l. low (getD (passing test rows) i 0) (w .below i l);
+    })
 
 -- ---- the place sought
 

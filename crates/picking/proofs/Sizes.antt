@@ -4,13 +4,15 @@
 --   prefix-length    the first entries of an array are as many as asked for
 --   place-fits       a place within lent memory fits a machine word
 --   start-fits       and so does the start of the row that it lies in
+--   below-size       what is below an array's length is below its size
+--   row-place        a row's number fits a machine word
 --   rows-entries, rows-fit   one entry fewer than rows, and a row's number fits in a byte: the only facts that take the limits' values
 use Prim.Native.Nat.{ℕ, suc, _+_, _*_, _^_, _≤_, _<_}
 use native.Mathlib.Nat.{mul-suc}
 use native.Mathlib.Omega.{arith}
 use mathlib.Core.Path.{_≡_, refl, sym}
 use mathlib.Core.List.{List}
-use lib.ListN.{length, take}
+use lib.ListN.{length, take, getD}
 use lib.Seq.{length-take-le}
 use lib.Dec.{lit≤}
 use mir.Syntax.{w64}
@@ -38,3 +40,10 @@ rows-entries = refl
 pub rows-fit : maxRows ≤ 2 ^ 8
 unfolding maxRows
 rows-fit = lit≤ tt
+
+pub below-size : {places n : ℕ} (rows : List ℕ) → places ≡ n → ((i : ℕ) → i < length rows → getD rows i 0 < places)
+    → (i : ℕ) → i < length rows → getD rows i 0 < n
+below-size {places} {n} rows e all i h = let b : getD rows i 0 < places = all i h in omega arith
+
+pub row-place : {c : ℕ} → c ≤ maxRows → Fits w64 c
+row-place h = omega (arith, rows-fit)

@@ -5,35 +5,36 @@ ghost use mathlib.Core.Bool.{true};
 ghost use mathlib.Core.List.{_∷_};
 ghost use lib.ListN.{length, drop, getD};
 ghost use Rattle.picking.specs.Matrix.{allBelow, maxRows, maxEntries, signatureOf};
-ghost use Rattle.picking.specs.Labels.{Holds, Low, Labels, both, Fit, Begun, Picks, keptOf};
+ghost use Rattle.picking.specs.Labels.{Classed, Settled, Fit, Begun, Picks, keptOf};
 use crate::MAX_ENTRIES;
 use crate::Signature;
-use crate::classes::Column;
+use crate::classes::Classes;
 use crate::classes::Two;
 
-// The entries kept, at the end of the array, the labels of the rows by what these entries tell, and the first pair that all entries taken leave alike.
+// The entries kept, at the end of the array, the classes of the rows by what these entries tell, and the first pair that all entries taken leave alike.
 pub(crate) struct Kept {
     pub(crate) start: usize,
     pub(crate) entries: [u16; MAX_ENTRIES],
-    labels: Column,
+    classes: Classes,
     pub(crate) pair: Two,
 }
 
-fn nothing_kept(pair: Two) -> Kept
-    ensures { λ r. ⌜ (r .start ≡ maxEntries) × Holds maxRows (λ c. 0) (r .labels .of) × (r .pair ≡ pair) ⌝ }
+fn nothing_kept(rows: usize, marks: &[u8], pair: Two) -> Kept
+    requires { ⌜ (rows ≤ maxRows) × (rows ≤ length (now marks)) ⌝ }
+    ensures { λ r. ⌜ (r .start ≡ maxEntries) × Classed rows (now (marks .entry)) (λ a b. true) (r .classes .labels) × Settled rows (now (marks .entry)) (r .classes) × (r .pair ≡ pair) ⌝ }
 {
     Kept {
         start: MAX_ENTRIES,
         entries: [0u16; MAX_ENTRIES],
-        labels: crate::classes::one_class(),
+        classes: crate::settling::start(rows, marks),
         pair,
     }
 }
 
-// An entry is kept before the others.
-fn keep(rows: usize, kept: Kept, entry: u16, values: Column) -> Kept
-    requires { ⌜ (rows ≤ maxRows) × (1 ≤ kept .start) × (kept .start ≤ maxEntries) × Low rows (kept .labels .of) ⌝ }
-    ensures { λ r. ⌜ (r .start + 1 ≡ kept .start) × (keptOf r ≡ entry ∷ keptOf kept) × Labels rows (both (kept .labels .of) (values .of)) (r .labels .of) × (r .pair ≡ kept .pair) ⌝ }
+// An entry is kept before the others, with the classes by all of them.
+fn keep(kept: Kept, entry: u16, classes: Classes) -> Kept
+    requires { ⌜ (1 ≤ kept .start) × (kept .start ≤ maxEntries) ⌝ }
+    ensures { λ r. ⌜ (r .start + 1 ≡ kept .start) × (keptOf r ≡ entry ∷ keptOf kept) × (r .classes ≡ classes) × (r .pair ≡ kept .pair) ⌝ }
 {
     let start = kept.start - 1;
     let mut entries = kept.entries;
@@ -42,7 +43,7 @@ fn keep(rows: usize, kept: Kept, entry: u16, values: Column) -> Kept
     Kept {
         start,
         entries,
-        labels: crate::classes::refine(rows, kept.labels, values),
+        classes,
         pair,
     }
 }
@@ -55,7 +56,7 @@ fn entry_at(scan: &[u16], at: usize) -> u16
     scan[at]
 }
 
-// What is kept of the entries from a place of the scan on, given the labels of the rows by the entries taken before. The next useful entry is taken on
+// What is kept of the entries from a place of the scan on, given the classes of the rows by the entries taken before. The next useful entry is taken on
 // the way down; on the way back, when those after it have been looked at, it is dropped if the rest still tell all needed pairs apart.
 pub(crate) fn pick_from(
     work: &[u16],
@@ -64,23 +65,38 @@ pub(crate) fn pick_from(
     marks: &[u8],
     scan: &[u16],
     at: usize,
-    labels: Column,
+    classes: Classes,
 ) -> Kept
-    requires { ⌜ Fit (now work) width rows (now marks) × (allBelow width (now scan) ≡ true) × (at ≤ length (now scan)) × Begun (now work) width rows (now marks) (now scan) at (labels .of) ⌝ }
-    ensures { λ r. ⌜ Picks (now (work .entry)) width rows (now (marks .entry)) (now (scan .entry)) at (labels .of) r ⌝ }
+    requires { ⌜ Fit (now work) width rows (now marks) × (allBelow width (now scan) ≡ true) × (at ≤ length (now scan)) × Begun (now work) width rows (now marks) (now scan) at classes ⌝ }
+    ensures { λ r. ⌜ Picks (now (work .entry)) width rows (now (marks .entry)) (now (scan .entry)) at (classes .labels) r ⌝ }
 {
-    let next = crate::taking::next_useful(work, width, rows, marks, &labels.of, scan, at);
+    let count = classes.count;
+    let pending = classes.pending;
+    let next = crate::taking::next(work, width, &classes.labels, &pending[..count], scan, at);
     if next == scan.len() {
-        return nothing_kept(crate::classes::first_pair(rows, marks, &labels.of));
+        return nothing_kept(
+            rows,
+            marks,
+            crate::classes::first_pair(rows, marks, &classes.labels, count),
+        );
     }
     let entry = entry_at(scan, next);
-    let values = crate::classes::coefficients(work, width, rows, entry as usize);
-    let more = crate::classes::refine(rows, labels, values);
-    let kept = pick_from(work, width, rows, marks, scan, next + 1, more);
-    if crate::classes::all_told(rows, marks, &labels.of, &kept.labels.of) {
+    let finer = crate::settling::part(work, width, marks, classes, entry as usize);
+    let kept = pick_from(work, width, rows, marks, scan, next + 1, finer);
+    if crate::classes::all_told(
+        rows,
+        marks,
+        &classes.labels,
+        &kept.classes.labels,
+        &pending[..count],
+    ) {
         return kept;
     }
-    keep(rows, kept, entry, values)
+    keep(
+        kept,
+        entry,
+        crate::settling::part(work, width, marks, kept.classes, entry as usize),
+    )
 }
 
 // The kept entries from the start on, the places after them 0.

@@ -10,6 +10,8 @@ use dropping::Kept;
 
 mod classes;
 mod dropping;
+mod refining;
+mod settling;
 mod taking;
 
 // As many rows as a job has circuits.
@@ -108,6 +110,14 @@ pub fn choose(work: &[u16], width: usize, rows: usize, marks: &[u8], scan: &[u16
             signature: no_signature(),
         };
     }
-    let kept = dropping::pick_from(work, width, rows, marks, scan, 0, classes::one_class());
+    let kept = dropping::pick_from(
+        work,
+        width,
+        rows,
+        marks,
+        scan,
+        0,
+        settling::start(rows, marks),
+    );
     conclude(kept)
 }

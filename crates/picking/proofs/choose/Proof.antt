@@ -17,17 +17,17 @@ no-signature-requires c κs = tt
 returns : tie.Need-returns
 returns c = let a = c .before .before .before .before .before .before .args in chosen-unfit (now (a .work)) (a .width) (a .rows) (now (a .marks)) (now (a .scan)) (c .before .before .fitting .ensures) (c .before .if1 .taken) (c .no-signature .ensures)
 
-one-class-requires : tie.Need-one-class-requires
-one-class-requires c κs = tt
+start-requires : tie.Need-start-requires
+start-requires c κs = let a = c .before .before .before .before .before .args in let f = fits-fit (now (a .work)) (a .width) (a .rows) (now (a .marks)) (now (a .scan)) (fits-told (now (a .work)) (a .width) (a .rows) (now (a .marks)) (now (a .scan)) (c .before .fitting .ensures) (c .if1 .left)) in (f .0 .most, f .0 .marked)
 
 pick-from-requires : tie.Need-pick-from-requires
-pick-from-requires c κs = let a = c .before .before .before .before .before .before .args in let f = fits-fit (now (a .work)) (a .width) (a .rows) (now (a .marks)) (now (a .scan)) (fits-told (now (a .work)) (a .width) (a .rows) (now (a .marks)) (now (a .scan)) (c .before .before .fitting .ensures) (c .before .if1 .left)) in (f .0, f .1, zero-le, (begun-start (now (a .work)) (a .width) (a .rows) (now (a .marks)) (now (a .scan)) (c .one-class .result .of) (f .0) (c .one-class .ensures)))
+pick-from-requires c κs = let a = c .before .before .before .before .before .before .args in let f = fits-fit (now (a .work)) (a .width) (a .rows) (now (a .marks)) (now (a .scan)) (fits-told (now (a .work)) (a .width) (a .rows) (now (a .marks)) (now (a .scan)) (c .before .before .fitting .ensures) (c .before .if1 .left)) in (f .0, f .1, zero-le, begun-start (now (a .work)) (a .width) (a .rows) (now (a .marks)) (now (a .scan)) (f .0) (c .start .ensures .0) (c .start .ensures .1))
 
 conclude-requires : tie.Need-conclude-requires
-conclude-requires c κs = let a = c .before .before .before .before .before .before .before .args in let f = fits-fit (now (a .work)) (a .width) (a .rows) (now (a .marks)) (now (a .scan)) (fits-told (now (a .work)) (a .width) (a .rows) (now (a .marks)) (now (a .scan)) (c .before .before .before .fitting .ensures) (c .before .before .if1 .left)) in picks-start (now (a .work)) (a .width) (a .rows) (now (a .marks)) (now (a .scan)) (c .before .one-class .result .of) (c .pick-from .result) (f .0 .most) (c .before .one-class .ensures) (c .pick-from .ensures) .within
+conclude-requires c κs = let a = c .before .before .before .before .before .before .before .args in (picks-start (now (a .work)) (a .width) (a .rows) (now (a .marks)) (now (a .scan)) (c .before .start .result .labels) (c .pick-from .result) (c .before .start .ensures .0) (c .pick-from .ensures)) .within
 
 returns-2 : tie.Need-returns-2
-returns-2 c = let a = c .before .before .before .before .before .before .before .before .args in let f = fits-fit (now (a .work)) (a .width) (a .rows) (now (a .marks)) (now (a .scan)) (fits-told (now (a .work)) (a .width) (a .rows) (now (a .marks)) (now (a .scan)) (c .before .before .before .before .fitting .ensures) (c .before .before .before .if1 .left)) in chosen (now (a .work)) (a .width) (a .rows) (now (a .marks)) (now (a .scan)) (c .before .pick-from .result) (fits-told (now (a .work)) (a .width) (a .rows) (now (a .marks)) (now (a .scan)) (c .before .before .before .before .fitting .ensures) (c .before .before .before .if1 .left)) (picks-start (now (a .work)) (a .width) (a .rows) (now (a .marks)) (now (a .scan)) (c .before .before .one-class .result .of) (c .before .pick-from .result) (f .0 .most) (c .before .before .one-class .ensures) (c .before .pick-from .ensures)) (c .conclude .ensures)
+returns-2 c = let a = c .before .before .before .before .before .before .before .before .args in chosen (now (a .work)) (a .width) (a .rows) (now (a .marks)) (now (a .scan)) (c .before .pick-from .result) (fits-told (now (a .work)) (a .width) (a .rows) (now (a .marks)) (now (a .scan)) (c .before .before .before .before .fitting .ensures) (c .before .before .before .if1 .left)) (picks-start (now (a .work)) (a .width) (a .rows) (now (a .marks)) (now (a .scan)) (c .before .before .start .result .labels) (c .before .pick-from .result) (c .before .before .start .ensures .0) (c .before .pick-from .ensures)) (c .conclude .ensures)
 
 pub choose-spec : {M : Type 1} → statement M
 choose-spec =
@@ -36,7 +36,7 @@ choose-spec =
     fitting-requires
     no-signature-requires
     returns
-    one-class-requires
+    start-requires
     pick-from-requires
     conclude-requires
     returns-2)

@@ -9,22 +9,19 @@ use Rattle.picking.proofs.dropping.keep.Statement.{statement}
 use Rattle.picking.proofs.dropping.keep.Tie as tie
 
 sub-start : tie.Need-sub-start
-sub-start c = c .before .pre .1
+sub-start c = c .before .pre .0
 
 mul-entries : tie.Need-mul-entries
 unfolding maxEntries
-mul-entries c = scaled-fits _ 63 2 (start-place (c .before .before .pre .1) (c .before .before .pre .2)) (lit< tt)
+mul-entries c = scaled-fits _ 63 2 (start-place (c .before .before .pre .0) (c .before .before .pre .1)) (lit< tt)
 
 array-write-entries : tie.Need-array-write-entries
 unfolding maxEntries
-array-write-entries c = start-place (c .before .before .pre .1) (c .before .before .pre .2)
-
-refine-requires : tie.Need-refine-requires
-refine-requires c κs = (c .before .before .pre .0, c .before .before .pre .3)
+array-write-entries c = start-place (c .before .before .pre .0) (c .before .before .pre .1)
 
 returns : tie.Need-returns
 unfolding maxEntries
-returns c = let a = c .before .before .before .args in (start-back (c .before .before .before .pre .1), kept-front (a .kept .entries) (a .entry) (a .kept .start) (c .before .before .before .pre .1) (count-within (length-unmapped _ (a .kept .entries) _ (c .before .before .before .good .1 .0 .1 .1 .1 .0 .1 .0 .1)) (c .before .before .before .pre .2)), c .refine .ensures, refl)
+returns c = let a = c .before .before .args in (start-back (c .before .before .pre .0), kept-front (a .kept .entries) (a .entry) (a .kept .start) (c .before .before .pre .0) (count-within (length-unmapped _ (a .kept .entries) _ (c .before .before .good .0 .1 .1 .1 .0 .1 .0 .1)) (c .before .before .pre .1)), refl, refl)
 
 pub keep-spec : {M : Type 1} → statement M
-keep-spec = tie.close (tie.spec sub-start mul-entries array-write-entries refine-requires returns)
+keep-spec = tie.close (tie.spec sub-start mul-entries array-write-entries returns)

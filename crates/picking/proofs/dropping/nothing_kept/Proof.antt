@@ -4,12 +4,12 @@ use Rattle.picking.specs.Matrix.{maxEntries}
 use Rattle.picking.proofs.dropping.nothing_kept.Statement.{statement}
 use Rattle.picking.proofs.dropping.nothing_kept.Tie as tie
 
-one-class-requires : tie.Need-one-class-requires
-one-class-requires c κs = tt
+start-requires : tie.Need-start-requires
+start-requires c κs = c .before .pre
 
 returns : tie.Need-returns
 unfolding maxEntries
-returns c = (refl, c .one-class .ensures, refl)
+returns c = (refl, c .start .ensures .0, c .start .ensures .1, refl)
 
 pub nothing-kept-spec : {M : Type 1} → statement M
-nothing-kept-spec = tie.close (tie.spec one-class-requires returns)
+nothing-kept-spec = tie.close (tie.spec start-requires returns)
