@@ -7,7 +7,7 @@
 --   flagged-label, flagged-differs   which label a flag gives, and whether it is another row
 --   Settling         what a loop knows that has dissolved i rows: their labels, and which of them are listed
 --   settling-none, settling-next, settling-all   its start, its step and its end
---   differs-yes, differs-no, settled-yes, settled-no   whether numbers differ, and which label a row has then
+--   differs-yes, differs-no   whether numbers differ, and which label a row has then
 --   settled-classed  labels stay those of a relation when classes of one mark are dissolved
 --   settled-settled  and every class that is left holds two marks
 use Prim.Native.Nat.{ℕ, zero, suc, _+_, _≤_, _<_}
@@ -105,12 +105,6 @@ differs-yes {a} {b} d = rw (ne-eqb a b d)
 
 pub differs-no : {a b : ℕ} → a ≡ b → _≡_ {A = ℕ} 0 (cond (not (eqb a b)) 1 0)
 differs-no {a} {b} e = rw (eq-eqb a b e)
-
-pub settled-yes : {u : Bool} (label c : ℕ) → u ≡ true → label ≡ cond u label c
-settled-yes label c e = rw e
-
-pub settled-no : {u : Bool} (label c : ℕ) → u ≡ false → c ≡ cond u label c
-settled-no label c e = rw e
 
 -- the label that a flag gives
 pub flagged-label : (labels marks list : List ℕ) (flags : List Bool) → Flagged labels marks list flags → (c : ℕ) → getD labels c 0 < maxRows → {v : ℕ}

@@ -1,7 +1,5 @@
 -- The lines that a fault fixes, and their tables (specs/Circuit.antt, specs/Sizes.antt).
 --
---   first-line, second-line   the lines of a fault are lines of the circuit
---   fixes-first, fixes-second   whether a fault fixes a line, by its two lines
 --   fixedBy-loose   a fault leaves the lines that are not its own
 --   fixedBy-bit     a fault keeps bits
 --   fault-loose     a line that the test finds not fixed is left as it is
@@ -32,13 +30,6 @@ use Rattle.tables.specs.Sizes.{shapeOf, fixedRow}
 use Rattle.tables.specs.Work.{lineValue, lineTable, rowAt, goodFix, faultFix, Loose, Good, Fixes}
 use Rattle.tables.proofs.Held.{Bits, line-read}
 use Rattle.tables.proofs.Values.{answer-bit, cond-bit, line-own}
-
-module _ (j : Job) (x : Fault) (fixes : Fixes j x) where
-  pub first-line : {low : ℕ} → low ≡ faultA x → low < lines j
-  first-line e = omega (arith, fixes .low, fixes .high)
-
-  pub second-line : {high : ℕ} → high ≡ faultB x → high < lines j
-  second-line e = omega (arith, fixes .high)
 
 -- a test of two that fails, and one that passes
 neither : {a b : Bool} → a ≡ false → b ≡ false → a || b ≡ false
@@ -71,14 +62,6 @@ unfolding fixedBy
 fixedBy-bit (Stuck line level) values l v h = cond-bit (eqb l line) (levelNumber level) v (level-bit level) h
 fixedBy-bit (Bridge a b is-and) values l v h =
     cond-bit (eqb l a || eqb l b) (bridged is-and (getD values a 0) (getD values b 0)) v (bridged-bit is-and (getD values a 0) (getD values b 0)) h
-
-module _ (x : Fault) (l : ℕ) where
-  pub fixes-first : {a : ℕ} → a ≡ faultA x → l ≡ a → true ≡ isFixed x l
-  fixes-first e is = sym (ap (λ (t : Bool). t || eqb l (faultB x)) (eq-eqb l (faultA x) (is ∙ e)))
-
-  pub fixes-second : {a b : ℕ} → a ≡ faultA x → b ≡ faultB x → (l ≡ a → ⊥) → eqb l b ≡ isFixed x l
-  fixes-second {a} {b} ea eb not =
-      ap (eqb l) eb ∙ sym (ap (λ (t : Bool). t || eqb l (faultB x)) (ne-eqb l (faultA x) (λ is. not (is ∙ sym ea))))
 
 pub fault-loose : (j : Job) (x : Fault) (l : ℕ) → isFixed x l ≡ false → Loose (faultFix j x) l
 fault-loose j x l h m v =

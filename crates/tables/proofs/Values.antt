@@ -7,13 +7,11 @@
 --   length-values    there are l values below line l
 --   value-at         the last of the values below line l + 1 is line l's own, as the fixing leaves it
 --   value-kept       a line's value is the same among the values below any later line
---   values-same      fixings that agree on the lines below l give these lines the same values
 --   line-own         the value of a line, by the values below it
 --   line-operand     a value below a line is the value of that line
 --   line-bit         the value of a line is 0 or 1, if the fixing keeps that
 --   line-input       a free input has its bit of the input number
 --   line-gate        a free gate has its kind's answer to the values of its lines
---   line-same        fixings that agree on all lines up to l give l the same value
 --   first-below, second-below   the lines of a gate of a valid job are below the gate's own
 use Prim.Native.Nat.{ℕ, zero, suc, _+_, _-_, _*_, _^_, _/_, _≤_, _<_}
 use native.Mathlib.Nat.{mod-lt}
@@ -89,14 +87,6 @@ module _ (fix : Fixing) (j : Job) (m : ℕ) where
           let e : k ≡ l = omega arith in
           ap (λ (n : ℕ). getD (valuesTo fix j m (suc n)) l 0) e
 
-pub values-same : (f g : Fixing) (j : Job) (m l : ℕ) → ((k v : ℕ) → k < l → f k v ≡ g k v) → valuesTo f j m l ≡ valuesTo g j m l
-unfolding valuesTo
-values-same f g j m zero h = refl
-values-same f g j m (suc l) h =
-    let e : valuesTo f j m l ≡ valuesTo g j m l = values-same f g j m l (λ k v below. h k v (omega arith)) in
-    ap (λ (vs : List ℕ). vs ++ (f l (ownValue j m l vs) ∷ [])) e
-    ∙ ap (λ (v : ℕ). valuesTo g j m l ++ (v ∷ [])) (h l (ownValue j m l (valuesTo g j m l)) (omega arith))
-
 module _ (fix : ℕ → Fixing) (j : Job) (m : ℕ) where
   pub line-own : (l : ℕ) → l < lines j → lineValue fix j l m ≡ fix m l (ownValue j m l (valuesTo (fix m) j m l))
   unfolding lineValue
@@ -128,14 +118,6 @@ module _ (fix : ℕ → Fixing) (j : Job) (m : ℕ) where
       ∙ ap (λ (k : ℕ). gateValue (gateAt j k) values) e
       ∙ ap (λ (v : ℕ). answer (gateKind (gateAt j q)) v (getD values (gateB (gateAt j q)) 0)) (line-operand l (gateA (gateAt j q)) (omega arith) a)
       ∙ ap (λ (v : ℕ). answer (gateKind (gateAt j q)) (lineValue fix j (gateA (gateAt j q)) m) v) (line-operand l (gateB (gateAt j q)) (omega arith) b)
-
-pub line-same : (fix other : ℕ → Fixing) (j : Job) (m l : ℕ) → l < lines j → ((k v : ℕ) → k ≤ l → fix m k v ≡ other m k v)
-    → lineValue fix j l m ≡ lineValue other j l m
-unfolding lineValue
-line-same fix other j m l h same =
-    value-kept (fix m) j m l (lines j) h
-    ∙ ap (λ (vs : List ℕ). getD vs l 0) (values-same (fix m) (other m) j m (suc l) (λ k v below. same k v (omega arith)))
-    ∙ sym (value-kept (other m) j m l (lines j) h)
 
 -- the lines of a gate are below the gate's own
 module _ (j : Job) (valid : Valid j) (q : ℕ) (h : q < j .«gate_count») where

@@ -2,7 +2,7 @@
 ghost use mathlib.Core.Path.{_≡_};
 ghost use mathlib.Core.Bool.{cond};
 ghost use Prim.Native.Nat.{_+_, _*_, _^_, _≤_, _<_};
-ghost use lib.ListN.{length};
+ghost use lib.ListN.{length, getD};
 ghost use Rattle.bits.specs.Packed.{tabulate};
 ghost use Rattle.job.specs.Layout.{maxGates};
 ghost use Rattle.job.specs.Record.{faultA, faultB, gateA, gateB, lines};
@@ -112,9 +112,10 @@ fn input_blocks(rows: &mut [u8], job: Job, batch: Batch, chain: Chain, shape: Sh
     let count = batch.count;
     let mut line = 0;
     while line < inputs {
+        let start = chain.head[line];
         let to = block_place(batch, line, shape.bytes);
         crate::rows::input_block(rows, line, to, count, shape);
-        fix_line(rows, chain, job, batch, line, shape);
+        fix_line(rows, start, chain, job, batch, line, shape);
         line += 1;
     }
 }
@@ -133,8 +134,9 @@ fn gate_blocks(rows: &mut [u8], job: Job, forms: Forms, batch: Batch, chain: Cha
         let gate = entry.gate;
         let form = forms.of[q];
         let line = inputs + q;
+        let start = chain.head[line];
         gate_block(rows, gate, form, batch, line, bytes);
-        fix_line(rows, chain, job, batch, line, shape);
+        fix_line(rows, start, chain, job, batch, line, shape);
         q += 1;
     }
 }
@@ -150,12 +152,21 @@ fn gate_block(rows: &mut [u8], gate: Gate, form: Form, batch: Batch, line: usize
     gates::combine(rows, x, y, to, batch.count * bytes, form);
 }
 
-// The tables of a line in the circuits that fix it, if there are any. The test stands before the call, which is lent copies of what it reads.
-fn fix_line(rows: &mut [u8], chain: Chain, job: Job, batch: Batch, line: usize, shape: Shape)
-    requires { ⌜ Sound job shape batch (now rows) × Made job batch line (now rows) × (line < lines job) × Linked (lineAt job (batch .first)) (2 * batch .count) (chain .head) (chain .next) ⌝ }
+// The tables of a line in the circuits that fix it, if there are any: `start` is where the line's chain begins. The test stands before the call, which
+// copies what it reads.
+fn fix_line(
+    rows: &mut [u8],
+    start: u8,
+    chain: Chain,
+    job: Job,
+    batch: Batch,
+    line: usize,
+    shape: Shape,
+)
+    requires { ⌜ Sound job shape batch (now rows) × Made job batch line (now rows) × (line < lines job) × Linked (lineAt job (batch .first)) (2 * batch .count) (chain .head) (chain .next) × (start ≡ getD (chain .head) line 0) ⌝ }
     ensures { λ r. ⌜ Side job batch (line + 1) (now (rows .exit)) ⌝ }
 {
-    if chain.head[line] == 0 {
+    if start == 0 {
         return;
     }
     put_fixed(rows, chain, job, batch, line, shape);

@@ -13,10 +13,10 @@ use Rattle.tables.proofs.circuit.gate_blocks.Statement.{statement}
 use Rattle.tables.proofs.circuit.gate_blocks.Tie as tie
 
 abbrev Inv-loop : tie.InvT-loop
-Inv-loop rows₀ batch chain shape job forms inputs gates bytes q₀ rows q = (length rows ≡ length rows₀) × Side job batch (job .inputs + q) rows
+Inv-loop rows₀ batch shape job forms chain inputs gates bytes q₀ rows q = (length rows ≡ length rows₀) × Side job batch (job .inputs + q) rows
 
 abbrev μ-loop : tie.MeasureT-loop
-μ-loop rows₀ batch chain shape job forms inputs gates bytes q₀ rows q = gates - q
+μ-loop rows₀ batch shape job forms chain inputs gates bytes q₀ rows q = gates - q
 
 cast-inputs : tie.Need-cast-inputs Inv-loop μ-loop
 unfolding maxInputs maxGates
@@ -49,41 +49,46 @@ add-line : tie.Need-add-line Inv-loop μ-loop
 unfolding maxInputs maxGates
 add-line c = omega (arith, line-index (c .before .before .before .before .before .args .t2) (c .before .before .before .before .before .pre .0 .valid) (gate-line (c .before .before .before .before .before .args .t2) (c .before .before .loop-test .taken)))
 
+element-copy-out-start : tie.Need-element-copy-out-start Inv-loop μ-loop
+unfolding maxInputs maxGates
+element-copy-out-start c = omega (arith, line-index (c .before .before .before .before .before .args .t2) (c .before .before .before .before .before .pre .0 .valid) (gate-line (c .before .before .before .before .before .args .t2) (c .before .before .loop-test .taken)))
+
 gate-block-requires : tie.Need-gate-block-requires Inv-loop μ-loop
 gate-block-requires c κs =
-    let a = c .before .before .before .before .before .before .args in
-    let loop = c .before .before .before .before .loop in (
-      shape-some (a .t2) (a .shape) (a .batch) (a .rows .now) (c .before .before .before .before .before .before .pre .0),
-      first-below (a .t2) (c .before .before .before .before .before .before .pre .0 .valid) (loop .q) (c .before .before .before .loop-test .taken),
-      second-below (a .t2) (c .before .before .before .before .before .before .pre .0 .valid) (loop .q) (c .before .before .before .loop-test .taken),
-      block-room (a .t2) (a .shape) (a .batch) (loop .rows) (sound-kept (a .t2) (a .shape) (a .batch) (a .rows .now) (c .before .before .before .before .before .before .pre .0) (loop .rows) (loop .inv .0))
-          (a .t2 .inputs + loop .q) (gate-line (a .t2) (c .before .before .before .loop-test .taken)),
+    let a = c .before .before .before .before .before .before .before .args in
+    let loop = c .before .before .before .before .before .loop in (
+      shape-some (a .t2) (a .shape) (a .batch) (a .rows .now) (c .before .before .before .before .before .before .before .pre .0),
+      first-below (a .t2) (c .before .before .before .before .before .before .before .pre .0 .valid) (loop .q) (c .before .before .before .before .loop-test .taken),
+      second-below (a .t2) (c .before .before .before .before .before .before .before .pre .0 .valid) (loop .q) (c .before .before .before .before .loop-test .taken),
+      block-room (a .t2) (a .shape) (a .batch) (loop .rows) (sound-kept (a .t2) (a .shape) (a .batch) (a .rows .now) (c .before .before .before .before .before .before .before .pre .0) (loop .rows) (loop .inv .0))
+          (a .t2 .inputs + loop .q) (gate-line (a .t2) (c .before .before .before .before .loop-test .taken)),
     )
 
 fix-line-requires : tie.Need-fix-line-requires Inv-loop μ-loop
 fix-line-requires c κs =
-    let a = c .before .before .before .before .before .before .before .before .before .before .args in
-    let loop = c .before .before .before .before .before .before .before .before .loop in
+    let a = c .before .before .before .before .before .before .before .before .before .before .before .args in
+    let loop = c .before .before .before .before .before .before .before .before .before .loop in
     let call = c .before .before .before .gate-block in (
-      sound-kept (a .t2) (a .shape) (a .batch) (a .rows .now) (c .before .before .before .before .before .before .before .before .before .before .pre .0) (call .last .0) (call .kept .0 ∙ loop .inv .0),
+      sound-kept (a .t2) (a .shape) (a .batch) (a .rows .now) (c .before .before .before .before .before .before .before .before .before .before .before .pre .0) (call .last .0) (call .kept .0 ∙ loop .inv .0),
       made-gate (a .t2) (a .shape) (a .batch) (loop .q) (loop .rows) (call .last .0)
-          (sound-kept (a .t2) (a .shape) (a .batch) (a .rows .now) (c .before .before .before .before .before .before .before .before .before .before .pre .0) (loop .rows) (loop .inv .0)) (loop .inv .1) (c .before .before .before .before .before .before .before .loop-test .taken)
-          _ (c .before .before .before .before .before .before .before .before .before .before .pre .1 .form (loop .q) (c .before .before .before .before .before .before .before .loop-test .taken)) (call .ensures),
-      gate-line (a .t2) (c .before .before .before .before .before .before .before .loop-test .taken),
-      c .before .before .before .before .before .before .before .before .before .before .pre .2,
+          (sound-kept (a .t2) (a .shape) (a .batch) (a .rows .now) (c .before .before .before .before .before .before .before .before .before .before .before .pre .0) (loop .rows) (loop .inv .0)) (loop .inv .1) (c .before .before .before .before .before .before .before .before .loop-test .taken)
+          _ (c .before .before .before .before .before .before .before .before .before .before .before .pre .1 .form (loop .q) (c .before .before .before .before .before .before .before .before .loop-test .taken)) (call .ensures),
+      gate-line (a .t2) (c .before .before .before .before .before .before .before .before .loop-test .taken),
+      c .before .before .before .before .before .before .before .before .before .before .before .pre .2,
+      refl,
     )
 
 add-q : tie.Need-add-q Inv-loop μ-loop
 unfolding maxGates
-add-q c = omega (arith, gate-index (c .before .before .before .before .before .before .before .before .before .before .loop-test .taken) (c .before .before .before .before .before .before .before .before .before .before .before .before .before .pre .0 .valid .gates-few))
+add-q c = omega (arith, gate-index (c .before .before .before .before .before .before .before .before .before .before .before .loop-test .taken) (c .before .before .before .before .before .before .before .before .before .before .before .before .before .before .pre .0 .valid .gates-few))
 
 loop-less : tie.Need-loop-less Inv-loop μ-loop
-loop-less c = falls _ _ (c .before .before .before .before .before .before .before .before .before .before .loop-test .taken)
+loop-less c = falls _ _ (c .before .before .before .before .before .before .before .before .before .before .before .loop-test .taken)
 
 loop-again : tie.Need-loop-again Inv-loop μ-loop
 loop-again c = (
-  c .before .before .fix-line .kept .0 ∙ c .before .before .before .before .before .before .gate-block .kept .0 ∙ c .before .before .before .before .before .before .before .before .before .before .before .loop .inv .0,
-  side-fewer (c .before .before .before .before .before .before .before .before .before .before .before .before .before .args .t2) (c .before .before .before .before .before .before .before .before .before .before .before .before .before .args .batch) _ _ (c .before .before .fix-line .last .0) (omega arith) (c .before .before .fix-line .ensures),
+  c .before .before .fix-line .kept .0 ∙ c .before .before .before .before .before .before .gate-block .kept .0 ∙ c .before .before .before .before .before .before .before .before .before .before .before .before .loop .inv .0,
+  side-fewer (c .before .before .before .before .before .before .before .before .before .before .before .before .before .before .args .t2) (c .before .before .before .before .before .before .before .before .before .before .before .before .before .before .args .batch) _ _ (c .before .before .fix-line .last .0) (omega arith) (c .before .before .fix-line .ensures),
 )
 
 same-length : tie.Need-same-length Inv-loop μ-loop
@@ -106,6 +111,7 @@ gate-blocks-spec =
     mul-form
     element-copy-out-form
     add-line
+    element-copy-out-start
     gate-block-requires
     fix-line-requires
     add-q
