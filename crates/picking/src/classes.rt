@@ -18,9 +18,9 @@ pub(crate) struct Classes {
     pub(crate) pending: [u16; MAX_ROWS],
 }
 
-// A number for each row, or for each of some rows, that stands for its label and a value: one test compares both.
-pub(crate) struct Keys {
-    pub(crate) of: [u32; MAX_ROWS],
+// A number for each row that stands for two labels: one test compares both.
+struct Keys {
+    of: [u32; MAX_ROWS],
 }
 
 // Two rows of one class whose marks differ, or no such rows.
@@ -29,19 +29,12 @@ pub(crate) enum Two {
     Both(usize, usize),
 }
 
-pub(crate) fn no_keys() -> Keys {
-    Keys {
-        of: [0u32; MAX_ROWS],
-    }
-}
-
 // The keys of the rows by their labels in two columns.
 fn joined(rows: usize, labels: &[u16], values: &[u16]) -> Keys
     requires { ⌜ (rows ≤ maxRows) × (rows ≤ length (now labels)) × (rows ≤ length (now values)) ⌝ }
     ensures { λ r. ⌜ Keyed rows (now (labels .entry)) (now (values .entry)) (r .of) ⌝ }
 {
-    let keys = no_keys();
-    let mut of = keys.of;
+    let mut of = [0u32; MAX_ROWS];
     let mut c = 0;
     while c < rows {
         of[c] = labels[c] as u32 * 65536 + values[c] as u32;

@@ -5,7 +5,7 @@ ghost use mathlib.Core.Bool.{not, cond};
 ghost use lib.Dec.{eqb};
 ghost use lib.ListN.{length, getD};
 ghost use Rattle.picking.specs.Matrix.{cell, maxRows};
-ghost use Rattle.picking.specs.Labels.{Holds, OpenFit, Gathered, Relabelled, Refines, pendingOf};
+ghost use Rattle.picking.specs.Labels.{OpenFit, Gathered, Relabelled, Refines, pendingOf};
 use crate::MAX_ROWS;
 use crate::classes::Classes;
 
@@ -22,14 +22,6 @@ struct Moved {
     keys: [u32; MAX_ROWS],
 }
 
-pub(crate) fn zeros() -> Column
-    ensures { λ r. ⌜ Holds maxRows (λ c. 0) (r .of) ⌝ }
-{
-    Column {
-        of: [0u16; MAX_ROWS],
-    }
-}
-
 // One for numbers that differ: rows are gathered without a branch.
 pub(crate) fn differs(a: u16, b: u16) -> usize
     ensures { λ r. ⌜ r ≡ cond (not (eqb a b)) 1 0 ⌝ }
@@ -44,10 +36,8 @@ fn moved_rows(work: &[u16], width: usize, labels: &[u16], pending: &[u16], entry
     requires { ⌜ OpenFit (now work) width (now labels) (now pending) × (entry < width) ⌝ }
     ensures { λ r. ⌜ Gathered (now (labels .entry)) (λ c. cell (now (work .entry)) width c entry) (now (pending .entry)) r ⌝ }
 {
-    let no_rows = zeros();
-    let no_keys = crate::classes::no_keys();
-    let mut of = no_rows.of;
-    let mut keys = no_keys.of;
+    let mut of = [0u16; MAX_ROWS];
+    let mut keys = [0u32; MAX_ROWS];
     let mut count = 0;
     let mut i = 0;
     while i < pending.len() {
