@@ -127,7 +127,7 @@ module _ (marks old list : List ℕ) where
   pub settling-none : length old ≡ maxRows → Settling old (replicate maxRows 0) 0 0
   settling-none e =
       record {
-        gathered = gathering-none (λ c. not (eqb (settledOf (parted old marks list) old c) c)) list;
+        gathered = gathering-none (λ c. not (eqb (settledOf (parted old marks list) old c) c)) list (replicate maxRows 0) (length-replicate maxRows 0);
         written = writing-none old (λ j. getD list j 0) (λ j. settledOf (parted old marks list) old (getD list j 0)) (length list) e;
       }
 

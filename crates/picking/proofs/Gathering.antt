@@ -17,7 +17,7 @@ use mathlib.Core.Logic.{⊎-elim}
 use mathlib.Core.List.{List, [], _∷_, _++_, append-nil}
 use borrow.Author.Tests.{eqb-true, eqb-false}
 use lib.Dec.{eqb}
-use lib.ListN.{length, take, getD, set, replicate, length-set, length-replicate}
+use lib.ListN.{length, take, getD, set, length-set}
 use lib.Seq.{getD-set-same, getD-set-other, take-suc-set, take-set-le, take-all}
 use mir.Syntax.{w16}
 use mir.Val.{Fits}
@@ -36,9 +36,9 @@ pub record Gathering (test : ℕ → Bool) (list of : List ℕ) (count i : ℕ) 
   pub sized : length of ≡ maxRows
   pub listed : take count of ≡ filtered test (take i list)
 
-pub gathering-none : (test : ℕ → Bool) (list : List ℕ) → Gathering test list (replicate maxRows 0) 0 0
+pub gathering-none : (test : ℕ → Bool) (list of : List ℕ) → length of ≡ maxRows → Gathering test list of 0 0
 unfolding filtered
-gathering-none test list = record { within = omega arith; few = omega arith; sized = length-replicate maxRows 0; listed = refl }
+gathering-none test list of e = record { within = omega arith; few = omega arith; sized = e; listed = refl }
 
 take-more : (t : Bool) (of : List ℕ) (count c : ℕ) → count < length of → take (count + cond t 1 0) (set of count c) ≡ take count of ++ cond t (c ∷ []) []
 take-more true of count c h = rw add-one (take-suc-set of count c h)
@@ -132,11 +132,11 @@ module _ (labels : List ℕ) (value : ℕ → ℕ) (list : List ℕ) where
     pub keyed : (j : ℕ) → j < count → getD keys j 0 ≡ getD labels (getD of j 0) 0 * 65536 + value (getD of j 0)
     pub small : (j : ℕ) → j < count → Fits w16 (value (getD of j 0))
 
-  pub moving-none : Moving (replicate maxRows 0) (replicate maxRows 0) 0 0
-  moving-none =
+  pub moving-none : (of keys : List ℕ) → length of ≡ maxRows → length keys ≡ maxRows → Moving of keys 0 0
+  moving-none of keys e f =
       record {
-        gathered = gathering-none (moves labels value) list;
-        sized = length-replicate maxRows 0;
+        gathered = gathering-none (moves labels value) list of e;
+        sized = f;
         keyed = λ j h. absurd (not-suc-le-zero h);
         small = λ j h. absurd (not-suc-le-zero h);
       }

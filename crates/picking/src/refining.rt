@@ -22,6 +22,14 @@ struct Moved {
     keys: [u32; MAX_ROWS],
 }
 
+fn nothing_moved() -> Moved {
+    Moved {
+        count: 0,
+        of: [0u16; MAX_ROWS],
+        keys: [0u32; MAX_ROWS],
+    }
+}
+
 // One for numbers that differ: rows are gathered without a branch.
 pub(crate) fn differs(a: u16, b: u16) -> usize
     ensures { λ r. ⌜ r ≡ cond (not (eqb a b)) 1 0 ⌝ }
@@ -36,8 +44,9 @@ fn moved_rows(work: &[u16], width: usize, labels: &[u16], pending: &[u16], entry
     requires { ⌜ OpenFit (now work) width (now labels) (now pending) × (entry < width) ⌝ }
     ensures { λ r. ⌜ Gathered (now (labels .entry)) (λ c. cell (now (work .entry)) width c entry) (now (pending .entry)) r ⌝ }
 {
-    let mut of = [0u16; MAX_ROWS];
-    let mut keys = [0u32; MAX_ROWS];
+    let nothing = nothing_moved();
+    let mut of = nothing.of;
+    let mut keys = nothing.keys;
     let mut count = 0;
     let mut i = 0;
     while i < pending.len() {
