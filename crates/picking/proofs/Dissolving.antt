@@ -1,6 +1,5 @@
 -- Which classes hold two marks, and dissolving the others (specs/Labels.antt).
 --
---   no-flags         flags that hold of no class
 --   Flagging         what a loop knows after i rows: the classes of which one of these has another mark than its label
 --   flagging-none, flagging-next, flagging-all   its start, its step and its end
 --   label-below      the label of a listed row is below any bound that the rows listed are below
@@ -18,7 +17,7 @@ use mathlib.Core.Bool.{Bool, true, false, not, cond, _&&_, _||_, or-false, and-f
 use mathlib.Core.List.{List}
 use borrow.Author.Tests.{eqb-true, eqb-false, eq-eqb, ne-eqb, not-true, not-false}
 use lib.Dec.{eqb}
-use lib.ListN.{length, take, getD, set, replicate, length-set, getD-replicate}
+use lib.ListN.{length, take, getD, set, replicate, length-set, length-replicate, getD-replicate}
 use lib.Seq.{getD-set-same, getD-set-other, take-all, take-length}
 use Rattle.bits.proofs.Tests.{and-l, and-r, and-i, clash}
 use Rattle.bits.specs.Passing.{passing}
@@ -45,13 +44,10 @@ pub record Flagging (labels marks list : List ℕ) (flags : List Bool) (i : ℕ)
   pub sized : length flags ≡ maxRows
   pub flagged : Flagged labels marks (take i list) flags
 
-pub no-flags : (label : ℕ) → label < maxRows → getD (replicate maxRows false) label false ≡ false
-no-flags label h = getD-replicate maxRows label false false h
-
-pub flagging-none : (labels marks list : List ℕ) (flags : List Bool) → length flags ≡ maxRows
-    → ((label : ℕ) → label < maxRows → getD flags label false ≡ false) → Flagging labels marks list flags 0
+pub flagging-none : (labels marks list : List ℕ) → Flagging labels marks list (replicate maxRows false) 0
 unfolding someOf
-flagging-none labels marks list flags e none = record { within = omega arith; sized = e; flagged = none }
+flagging-none labels marks list =
+    record { within = omega arith; sized = length-replicate maxRows false; flagged = λ label h. getD-replicate maxRows label false false h }
 
 module _ {labels marks list : List ℕ} {flags : List Bool} {i : ℕ} (w : Flagging labels marks list flags i) (h : i < length list) where
   abbrev row : ℕ
@@ -122,10 +118,10 @@ module _ (marks old list : List ℕ) where
     pub gathered : Gathering (λ c. not (eqb (settledOf (parted old marks list) old c) c)) list pending count i
     pub written : Writing old (λ j. getD list j 0) (λ j. settledOf (parted old marks list) old (getD list j 0)) (length list) labels i
 
-  pub settling-none : (of : List ℕ) → length old ≡ maxRows → length of ≡ maxRows → Settling old of 0 0
-  settling-none of e f =
+  pub settling-none : length old ≡ maxRows → Settling old (replicate maxRows 0) 0 0
+  settling-none e =
       record {
-        gathered = gathering-none (λ c. not (eqb (settledOf (parted old marks list) old c) c)) list of f;
+        gathered = gathering-none (λ c. not (eqb (settledOf (parted old marks list) old c) c)) list (replicate maxRows 0) (length-replicate maxRows 0);
         written = writing-none old (λ j. getD list j 0) (λ j. settledOf (parted old marks list) old (getD list j 0)) (length list) e;
       }
 

@@ -12,14 +12,14 @@ use mathlib.Core.List.{List}
 use borrow.Author.Count.{below-none, below-more}
 use borrow.Author.Tests.{eqb-true, eq-eqb, ne-eqb}
 use lib.Dec.{eqb}
-use lib.ListN.{length, getD, set}
+use lib.ListN.{getD, set, replicate}
 use mir.Syntax.{w16}
 use mir.Val.{Fits}
 use Rattle.bits.proofs.Tests.{and-l, and-r, and-i, clash}
 use Rattle.method.proofs.Pairs.{by-test}
 use Rattle.picking.specs.Matrix.{maxRows}
 use Rattle.picking.specs.Labels.{Keyed, valueIn, both, lowestFrom}
-use Rattle.picking.proofs.Columns.{Filling, filling-start, filling-next, filling-all}
+use Rattle.picking.proofs.Columns.{Filling, filling-none, filling-next, filling-all}
 
 pub keys-equal : (a b v w : ℕ) → Fits w16 v → Fits w16 w → eqb (a * 65536 + v) (b * 65536 + w) ≡ eqb a b && eqb v w
 keys-equal a b v w h l =
@@ -44,8 +44,8 @@ module _ (labels values : List ℕ) where
     pub filled : Filling maxRows rows keyOf of c
     pub small : (j : ℕ) → j < c → Fits w16 (getD values j 0)
 
-  pub keying-none : (rows : ℕ) (of : List ℕ) → length of ≡ maxRows → Keying rows of 0
-  keying-none rows of e = record { filled = filling-start rows keyOf of e; small = below-none (λ (j : ℕ). Fits w16 (getD values j 0)) }
+  pub keying-none : (rows : ℕ) → Keying rows (replicate maxRows 0) 0
+  keying-none rows = record { filled = filling-none rows keyOf; small = below-none (λ (j : ℕ). Fits w16 (getD values j 0)) }
 
   module _ {rows : ℕ} {of : List ℕ} {c : ℕ} (w : Keying rows of c) where
     pub keying-next : rows ≤ maxRows → c < rows → Fits w16 (getD values c 0) → Keying rows (set of c (keyOf c)) (c + 1)

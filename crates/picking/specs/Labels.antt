@@ -164,9 +164,6 @@ Refines value k of =
 abbrev pub parted : List ℕ → List ℕ → List ℕ → ℕ → Bool
 parted labels marks pending label = someOf (λ c. eqb (getD labels c 0) label && stray labels marks c) pending
 
-abbrev pub Unflagged : List Bool → Type 0
-Unflagged flags = (label : ℕ) → label < maxRows → getD flags label false ≡ false
-
 abbrev pub Flagged : List ℕ → List ℕ → List ℕ → List Bool → Type 0
 Flagged labels marks pending flags = (label : ℕ) → label < maxRows → getD flags label false ≡ parted labels marks pending label
 

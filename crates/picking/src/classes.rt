@@ -7,7 +7,7 @@ ghost use lib.ListN.{length, getD};
 ghost use Rattle.method.specs.Method.{firstPair, pairWith, Pair};
 ghost use Rattle.method.specs.Method.Pair.{pair};
 ghost use Rattle.picking.specs.Matrix.{maxRows};
-ghost use Rattle.picking.specs.Labels.{Low, Keyed, met, stray, someOf, lowestFrom, alikeMarked, pairTold};
+ghost use Rattle.picking.specs.Labels.{Low, Keyed, met, stray, someOf, lowestFrom, alikeMarked, pairTold, Covers, pendingOf};
 use crate::MAX_ROWS;
 
 // The label of each row. A class whose rows have one mark needs no more telling apart and is dissolved: each of its rows is its own label. The rows that
@@ -18,9 +18,9 @@ pub(crate) struct Classes {
     pub(crate) pending: [u16; MAX_ROWS],
 }
 
-// A number for each row, or for each of some rows, that stands for its label and a value: one test compares both.
-pub(crate) struct Keys {
-    pub(crate) of: [u32; MAX_ROWS],
+// A number for each row that stands for two labels: one test compares both.
+struct Keys {
+    of: [u32; MAX_ROWS],
 }
 
 // Two rows of one class whose marks differ, or no such rows.
@@ -29,19 +29,12 @@ pub(crate) enum Two {
     Both(usize, usize),
 }
 
-pub(crate) fn no_keys() -> Keys {
-    Keys {
-        of: [0u32; MAX_ROWS],
-    }
-}
-
 // The keys of the rows by their labels in two columns.
 fn joined(rows: usize, labels: &[u16], values: &[u16]) -> Keys
     requires { ⌜ (rows ≤ maxRows) × (rows ≤ length (now labels)) × (rows ≤ length (now values)) ⌝ }
     ensures { λ r. ⌜ Keyed rows (now (labels .entry)) (now (values .entry)) (r .of) ⌝ }
 {
-    let keys = no_keys();
-    let mut of = keys.of;
+    let mut of = [0u32; MAX_ROWS];
     let mut c = 0;
     while c < rows {
         of[c] = labels[c] as u32 * 65536 + values[c] as u32;
@@ -74,13 +67,7 @@ fn larger(a: usize, b: usize) -> usize
 
 // Whether every pending row has the mark of the lowest row that has its label in both columns: no row before its labels has them. A row that is its own
 // label in the one column is the lowest that has both.
-pub(crate) fn all_told(
-    rows: usize,
-    marks: &[u8],
-    labels: &[u16],
-    others: &[u16],
-    pending: &[u16],
-) -> bool
+fn all_told(rows: usize, marks: &[u8], labels: &[u16], others: &[u16], pending: &[u16]) -> bool
     requires { ⌜ (rows ≤ maxRows) × (rows ≤ length (now marks)) × (rows ≤ length (now labels)) × (rows ≤ length (now others)) × Low rows (now labels) × Low rows (now others) × ((i : ℕ) → i < length (now pending) → getD (now pending) i 0 < rows) ⌝ }
     ensures { λ r. ⌜ r ≡ not (someOf (stray (met rows (now (labels .entry)) (now (others .entry))) (now (marks .entry))) (now (pending .entry))) ⌝ }
 {
@@ -95,6 +82,22 @@ pub(crate) fn all_told(
         i += 1;
     }
     true
+}
+
+// Whether the entries of these and of the other classes together tell all needed pairs apart.
+pub(crate) fn told_together(rows: usize, marks: &[u8], classes: Classes, others: Classes) -> bool
+    requires { ⌜ (rows ≤ maxRows) × (rows ≤ length (now marks)) × Low rows (classes .labels) × Low rows (others .labels) × Covers rows (classes .labels) (pendingOf classes) × (classes .count ≤ maxRows) ⌝ }
+    ensures { λ r. ⌜ r ≡ not (someOf (stray (met rows (classes .labels) (others .labels)) (now (marks .entry))) (pendingOf classes)) ⌝ }
+{
+    let count = classes.count;
+    let pending = classes.pending;
+    all_told(
+        rows,
+        marks,
+        &classes.labels,
+        &others.labels,
+        &pending[..count],
+    )
 }
 
 // The lowest row after row a that has its label and not its mark, or `rows`.
@@ -131,12 +134,12 @@ fn search_pairs(rows: usize, marks: &[u8], labels: &[u16]) -> Two
 }
 
 // The same. Mostly no row is pending: then there are no such rows.
-pub(crate) fn first_pair(rows: usize, marks: &[u8], labels: &[u16], pending: usize) -> Two
-    requires { ⌜ (rows ≤ length (now marks)) × (rows ≤ length (now labels)) × (pending ≡ 0 → (c : ℕ) → c < rows → getD (now labels) c 0 ≡ c) ⌝ }
-    ensures { λ r. ⌜ pairTold r ≡ firstPair rows (alikeMarked (now (labels .entry)) (now (marks .entry))) ⌝ }
+pub(crate) fn first_pair(rows: usize, marks: &[u8], classes: Classes) -> Two
+    requires { ⌜ (rows ≤ maxRows) × (rows ≤ length (now marks)) × Covers rows (classes .labels) (pendingOf classes) ⌝ }
+    ensures { λ r. ⌜ pairTold r ≡ firstPair rows (alikeMarked (classes .labels) (now (marks .entry))) ⌝ }
 {
-    if pending == 0 {
+    if classes.count == 0 {
         return Two::Nobody;
     }
-    search_pairs(rows, marks, labels)
+    search_pairs(rows, marks, &classes.labels)
 }

@@ -70,33 +70,22 @@ pub(crate) fn pick_from(
     requires { ⌜ Fit (now work) width rows (now marks) × (allBelow width (now scan) ≡ true) × (at ≤ length (now scan)) × Begun (now work) width rows (now marks) (now scan) at classes ⌝ }
     ensures { λ r. ⌜ Picks (now (work .entry)) width rows (now (marks .entry)) (now (scan .entry)) at (classes .labels) r ⌝ }
 {
-    let count = classes.count;
-    let pending = classes.pending;
-    let next = crate::taking::next(work, width, &classes.labels, &pending[..count], scan, at);
+    let next = crate::taking::next_useful(work, width, classes, scan, at);
     if next == scan.len() {
         return nothing_kept(
             rows,
             marks,
-            crate::classes::first_pair(rows, marks, &classes.labels, count),
+            crate::classes::first_pair(rows, marks, classes),
         );
     }
     let entry = entry_at(scan, next);
     let finer = crate::settling::part(work, width, marks, classes, entry as usize);
     let kept = pick_from(work, width, rows, marks, scan, next + 1, finer);
-    if crate::classes::all_told(
-        rows,
-        marks,
-        &classes.labels,
-        &kept.classes.labels,
-        &pending[..count],
-    ) {
+    if crate::classes::told_together(rows, marks, classes, kept.classes) {
         return kept;
     }
-    keep(
-        kept,
-        entry,
-        crate::settling::part(work, width, marks, kept.classes, entry as usize),
-    )
+    let more = crate::settling::part(work, width, marks, kept.classes, entry as usize);
+    keep(kept, entry, more)
 }
 
 // The kept entries from the start on, the places after them 0.

@@ -5,7 +5,7 @@ ghost use mathlib.Core.Bool.{not, cond};
 ghost use lib.Dec.{eqb};
 ghost use lib.ListN.{length, getD};
 ghost use Rattle.picking.specs.Matrix.{cell, maxRows};
-ghost use Rattle.picking.specs.Labels.{Holds, OpenFit, Gathered, Relabelled, Refines, pendingOf};
+ghost use Rattle.picking.specs.Labels.{OpenFit, Gathered, Relabelled, Refines, pendingOf};
 use crate::MAX_ROWS;
 use crate::classes::Classes;
 
@@ -22,11 +22,11 @@ struct Moved {
     keys: [u32; MAX_ROWS],
 }
 
-pub(crate) fn zeros() -> Column
-    ensures { λ r. ⌜ Holds maxRows (λ c. 0) (r .of) ⌝ }
-{
-    Column {
+fn nothing_moved() -> Moved {
+    Moved {
+        count: 0,
         of: [0u16; MAX_ROWS],
+        keys: [0u32; MAX_ROWS],
     }
 }
 
@@ -44,10 +44,9 @@ fn moved_rows(work: &[u16], width: usize, labels: &[u16], pending: &[u16], entry
     requires { ⌜ OpenFit (now work) width (now labels) (now pending) × (entry < width) ⌝ }
     ensures { λ r. ⌜ Gathered (now (labels .entry)) (λ c. cell (now (work .entry)) width c entry) (now (pending .entry)) r ⌝ }
 {
-    let no_rows = zeros();
-    let no_keys = crate::classes::no_keys();
-    let mut of = no_rows.of;
-    let mut keys = no_keys.of;
+    let nothing = nothing_moved();
+    let mut of = nothing.of;
+    let mut keys = nothing.keys;
     let mut count = 0;
     let mut i = 0;
     while i < pending.len() {

@@ -4,7 +4,7 @@ ghost use mathlib.Core.Path.{_≡_};
 ghost use mathlib.Core.Bool.{true, cond, _||_};
 ghost use lib.ListN.{length};
 ghost use Rattle.picking.specs.Matrix.{maxRows};
-ghost use Rattle.picking.specs.Labels.{Holds, OpenMarked, Unflagged, Flagged, Settles, Classed, Settled, SomeReady, Parts};
+ghost use Rattle.picking.specs.Labels.{Holds, OpenMarked, Flagged, Settles, Classed, Settled, SomeReady, Parts};
 use crate::MAX_ROWS;
 use crate::classes::Classes;
 use crate::refining::Column;
@@ -12,14 +12,6 @@ use crate::refining::Column;
 // For each label whether its class holds two marks.
 struct Flags {
     of: [bool; MAX_ROWS],
-}
-
-fn no_flags() -> Flags
-    ensures { λ r. ⌜ Unflagged (r .of) ⌝ }
-{
-    Flags {
-        of: [false; MAX_ROWS],
-    }
 }
 
 fn either(a: bool, b: bool) -> bool
@@ -36,8 +28,7 @@ fn split_classes(marks: &[u8], labels: &[u16], pending: &[u16]) -> Flags
     requires { ⌜ OpenMarked (now marks) (now labels) (now pending) × (maxRows ≤ length (now labels)) ⌝ }
     ensures { λ r. ⌜ Flagged (now (labels .entry)) (now (marks .entry)) (now (pending .entry)) (r .of) ⌝ }
 {
-    let flags = no_flags();
-    let mut of = flags.of;
+    let mut of = [false; MAX_ROWS];
     let mut i = 0;
     while i < pending.len() {
         let c = pending[i] as usize;
@@ -64,8 +55,7 @@ fn settle(marks: &[u8], refined: Column, rows: &[u16]) -> Classes
 {
     let flags = split_classes(marks, &refined.of, rows);
     let mut labels = refined.of;
-    let no_rows = crate::refining::zeros();
-    let mut pending = no_rows.of;
+    let mut pending = [0u16; MAX_ROWS];
     let mut count = 0;
     let mut i = 0;
     while i < rows.len() {
@@ -105,14 +95,21 @@ pub(crate) fn part(
 fn every_row() -> Column
     ensures { λ r. ⌜ Holds maxRows (λ c. c) (r .of) ⌝ }
 {
-    let no_rows = crate::refining::zeros();
-    let mut of = no_rows.of;
+    let mut of = [0u16; MAX_ROWS];
     let mut c = 0;
     while c < MAX_ROWS {
         of[c] = c as u16;
         c += 1;
     }
     Column { of }
+}
+
+fn one_class() -> Column
+    ensures { λ r. ⌜ Holds maxRows (λ c. 0) (r .of) ⌝ }
+{
+    Column {
+        of: [0u16; MAX_ROWS],
+    }
 }
 
 // The classes by no entry: all rows are in one.
@@ -122,5 +119,5 @@ pub(crate) fn start(rows: usize, marks: &[u8]) -> Classes
 {
     let every = every_row();
     let of = every.of;
-    settle(marks, crate::refining::zeros(), &of[..rows])
+    settle(marks, one_class(), &of[..rows])
 }

@@ -4,8 +4,9 @@ ghost use Prim.Native.Nat.{_≤_, _<_};
 ghost use mathlib.Core.Path.{_≡_};
 ghost use mathlib.Core.Bool.{true};
 ghost use lib.ListN.{length, drop};
-ghost use Rattle.picking.specs.Matrix.{cell, allBelow};
-ghost use Rattle.picking.specs.Labels.{clear, seek, OpenFit};
+ghost use Rattle.picking.specs.Matrix.{cell, allBelow, maxRows};
+ghost use Rattle.picking.specs.Labels.{clear, seek, OpenFit, pendingOf};
+use crate::classes::Classes;
 
 // Whether all pending rows have their labels' numbers at an entry.
 fn is_clear(work: &[u16], width: usize, labels: &[u16], pending: &[u16], entry: usize) -> bool
@@ -24,7 +25,7 @@ fn is_clear(work: &[u16], width: usize, labels: &[u16], pending: &[u16], entry: 
 }
 
 // The place of the first entry, from a place on, that tells a pending row from its label.
-pub(crate) fn next(
+fn next(
     work: &[u16],
     width: usize,
     labels: &[u16],
@@ -46,4 +47,20 @@ pub(crate) fn next(
         at += 1;
     }
     at
+}
+
+// The place of the next entry to take.
+pub(crate) fn next_useful(
+    work: &[u16],
+    width: usize,
+    classes: Classes,
+    scan: &[u16],
+    from: usize,
+) -> usize
+    requires { ⌜ OpenFit (now work) width (classes .labels) (pendingOf classes) × (classes .count ≤ maxRows) × (allBelow width (now scan) ≡ true) × (from ≤ length (now scan)) ⌝ }
+    ensures { λ r. ⌜ r ≡ seek (clear (cell (now (work .entry)) width) (classes .labels) (pendingOf classes)) (drop from (now (scan .entry))) from ⌝ }
+{
+    let count = classes.count;
+    let pending = classes.pending;
+    next(work, width, &classes.labels, &pending[..count], scan, from)
 }

@@ -4,7 +4,7 @@ use native.Mathlib.Numerals.{add-one-le}
 use native.Mathlib.Omega.{arith}
 use lib.Dec.{lit<}
 use lib.ListN.{length}
-use borrow.Author.Needs.{scaled-fits, length-unmapped}
+use borrow.Author.Needs.{scaled-fits}
 use mir.Syntax.{w16}
 use mir.Facts.{fits-le, fits-widen}
 use Prim.Native.Nat.{_-_}
@@ -22,56 +22,53 @@ Inv-loop rows labels values of₀ c₀ of c = Keying labels values rows of c
 abbrev μ-loop : tie.MeasureT-loop
 μ-loop rows labels values of₀ c₀ of c = rows - c
 
-no-keys-requires : tie.Need-no-keys-requires Inv-loop μ-loop
-no-keys-requires c κs = tt
-
 loop-holds : tie.Need-loop-holds Inv-loop μ-loop
 unfolding maxRows
-loop-holds c = let a = c .before .before .before .before .args in keying-none (now (a .labels)) (now (a .values)) (a .rows) (c .before .no-keys .result .of) (length-unmapped _ (c .before .no-keys .result .of) _ (c .before .no-keys .ok .1 .1 .0 .1 .0 .1))
+loop-holds c = let a = c .args in keying-none (now (a .labels)) (now (a .values)) (a .rows)
 
 mul-of : tie.Need-mul-of Inv-loop μ-loop
-mul-of c = scaled-fits _ (length (now (c .before .before .before .before .before .before .args .labels))) 2 (lt-of-lt-of-le (c .loop-test .taken) (c .before .before .before .before .before .before .pre .1)) (c .before .before .before .before .before .before .good .1 .0 .1)
+mul-of c = scaled-fits _ (length (now (c .before .before .args .labels))) 2 (lt-of-lt-of-le (c .loop-test .taken) (c .before .before .pre .1)) (c .before .before .good .1 .0 .1)
 
 shared-slice-read-of : tie.Need-shared-slice-read-of Inv-loop μ-loop
-shared-slice-read-of c = lt-of-lt-of-le (c .before .loop-test .taken) (c .before .before .before .before .before .before .before .pre .1)
+shared-slice-read-of c = lt-of-lt-of-le (c .before .loop-test .taken) (c .before .before .before .pre .1)
 
 cast-of : tie.Need-cast-of Inv-loop μ-loop
-cast-of c = fits-widen {w = w16} tt (c .before .before .before .before .before .before .shared-slice-known .given (c .before .before .loop .c))
+cast-of c = fits-widen {w = w16} tt (c .shared-slice-known .given (c .before .before .loop .c))
 
 mul-of-2 : tie.Need-mul-of-2 Inv-loop μ-loop
-mul-of-2 c = omega (arith, c .before .before .before .before .before .before .shared-slice-known .given (c .before .before .loop .c))
+mul-of-2 c = omega (arith, c .shared-slice-known .given (c .before .before .loop .c))
 
 mul-of-3 : tie.Need-mul-of-3 Inv-loop μ-loop
-mul-of-3 c = scaled-fits _ (length (now (c .before .before .before .before .before .before .before .args .values))) 2 (lt-of-lt-of-le (c .before .loop-test .taken) (c .before .before .before .before .before .before .before .pre .2)) (c .before .before .before .before .before .before .before .good .1 .1 .0 .1)
+mul-of-3 c = scaled-fits _ (length (now (c .before .before .before .args .values))) 2 (lt-of-lt-of-le (c .before .loop-test .taken) (c .before .before .before .pre .2)) (c .before .before .before .good .1 .1 .0 .1)
 
 shared-slice-read-of-2 : tie.Need-shared-slice-read-of-2 Inv-loop μ-loop
-shared-slice-read-of-2 c = lt-of-lt-of-le (c .before .before .loop-test .taken) (c .before .before .before .before .before .before .before .before .pre .2)
+shared-slice-read-of-2 c = lt-of-lt-of-le (c .before .before .loop-test .taken) (c .before .before .before .before .pre .2)
 
 cast-of-2 : tie.Need-cast-of-2 Inv-loop μ-loop
-cast-of-2 c = fits-widen {w = w16} tt (c .before .before .before .before .before .before .shared-slice-known2 .given (c .before .before .before .loop .c))
+cast-of-2 c = fits-widen {w = w16} tt (c .shared-slice-known2 .given (c .before .before .before .loop .c))
 
 add-of : tie.Need-add-of Inv-loop μ-loop
-add-of c = omega (arith, c .before .before .before .before .before .before .before .shared-slice-known .given (c .before .before .before .loop .c), c .before .before .before .before .before .before .shared-slice-known2 .given (c .before .before .before .loop .c))
+add-of c = omega (arith, c .before .shared-slice-known .given (c .before .before .before .loop .c), c .shared-slice-known2 .given (c .before .before .before .loop .c))
 
 mul-of-4 : tie.Need-mul-of-4 Inv-loop μ-loop
 unfolding maxRows
-mul-of-4 c = scaled-fits _ 64 4 (filling-room (c .before .before .before .before .before .before .before .before .pre .0) (c .before .before .loop-test .taken)) (lit< tt)
+mul-of-4 c = scaled-fits _ 64 4 (filling-room (c .before .before .before .before .pre .0) (c .before .before .loop-test .taken)) (lit< tt)
 
 array-write-of : tie.Need-array-write-of Inv-loop μ-loop
 unfolding maxRows
-array-write-of c = filling-room (c .before .before .before .before .before .before .before .before .pre .0) (c .before .before .loop-test .taken)
+array-write-of c = filling-room (c .before .before .before .before .pre .0) (c .before .before .loop-test .taken)
 
 add-c : tie.Need-add-c Inv-loop μ-loop
-add-c c = fits-le (add-one-le (c .before .before .loop-test .taken)) (c .before .before .before .before .before .before .before .before .fits .rows)
+add-c c = fits-le (add-one-le (c .before .before .loop-test .taken)) (c .before .before .before .before .fits .rows)
 
 loop-less : tie.Need-loop-less Inv-loop μ-loop
 loop-less c = falls _ _ (c .before .before .loop-test .taken)
 
 loop-again : tie.Need-loop-again Inv-loop μ-loop
-loop-again c = let a = c .before .before .before .before .before .before .before .before .args in keying-next (now (a .labels)) (now (a .values)) (c .before .before .before .loop .inv) (c .before .before .before .before .before .before .before .before .pre .0) (c .before .before .loop-test .taken) (c .before .before .before .before .before .before .shared-slice-known2 .given (c .before .before .before .loop .c))
+loop-again c = let a = c .before .before .before .before .args in keying-next (now (a .labels)) (now (a .values)) (c .before .before .before .loop .inv) (c .before .before .before .before .pre .0) (c .before .before .loop-test .taken) (c .shared-slice-known2 .given (c .before .before .before .loop .c))
 
 returns : tie.Need-returns Inv-loop μ-loop
-returns c = let a = c .before .before .before .before .before .before .args in keying-all (now (a .labels)) (now (a .values)) (c .before .loop .inv) (c .loop-test .left)
+returns c = let a = c .before .before .args in keying-all (now (a .labels)) (now (a .values)) (c .before .loop .inv) (c .loop-test .left)
 
 pub joined-spec : {M : Type 1} → statement M
 joined-spec =
@@ -79,7 +76,6 @@ joined-spec =
     (tie.spec
     Inv-loop
     μ-loop
-    no-keys-requires
     loop-holds
     mul-of
     shared-slice-read-of

@@ -2,13 +2,13 @@
 use native.Mathlib.Nat.{le-refl}
 use native.Mathlib.Numerals.{add-one-le}
 use lib.Dec.{lit<}
-use borrow.Author.Needs.{scaled-fits, length-unmapped}
+use borrow.Author.Needs.{scaled-fits}
 use Prim.Native.Nat.{_-_}
 use mathlib.Core.Path.{refl}
 use borrow.Author.Count.{falls}
 use Rattle.picking.specs.Matrix.{maxRows}
 use Rattle.picking.proofs.Sizes.{row-place}
-use Rattle.picking.proofs.Columns.{Filling, filling-start, row-fits, filling-next, filling-all}
+use Rattle.picking.proofs.Columns.{Filling, filling-none, row-fits, filling-next, filling-all}
 use Rattle.picking.proofs.settling.every_row.Statement.{statement}
 use Rattle.picking.proofs.settling.every_row.Tie as tie
 
@@ -18,12 +18,9 @@ Inv-loop of₀ c₀ of c = Filling maxRows maxRows (λ j. j) of c
 abbrev μ-loop : tie.MeasureT-loop
 μ-loop of₀ c₀ of c = maxRows - c
 
-zeros-requires : tie.Need-zeros-requires Inv-loop μ-loop
-zeros-requires c κs = tt
-
 loop-holds : tie.Need-loop-holds Inv-loop μ-loop
 unfolding maxRows
-loop-holds c = filling-start maxRows (λ j. j) (c .before .zeros .result .of) (length-unmapped _ (c .before .zeros .result .of) _ (c .before .zeros .ok .1 .1 .0 .1 .0 .1))
+loop-holds c = filling-none _ _
 
 cast-of : tie.Need-cast-of Inv-loop μ-loop
 unfolding maxRows
@@ -57,7 +54,6 @@ every-row-spec =
     (tie.spec
     Inv-loop
     μ-loop
-    zeros-requires
     loop-holds
     cast-of
     mul-of

@@ -26,76 +26,73 @@ split-classes-requires : tie.Need-split-classes-requires Inv-loop μ-loop
 unfolding maxRows
 split-classes-requires c κs = (c .before .before .before .before .before .pre, count-within (c .split-classes-arg2 .given .0) (le-refl maxRows))
 
-zeros-requires : tie.Need-zeros-requires Inv-loop μ-loop
-zeros-requires c κs = tt
-
 loop-holds : tie.Need-loop-holds Inv-loop μ-loop
 unfolding maxRows
-loop-holds c = let a = c .before .before .before .before .before .before .before .before .before .args in settling-none (now (a .marks)) (a .t2 .of) (now (a .rows)) (c .before .zeros .result .of) (length-unmapped _ (a .t2 .of) _ (c .before .before .before .before .before .before .before .before .before .good .1 .0 .1 .1 .0 .1 .0 .1)) (length-unmapped _ (c .before .zeros .result .of) _ (c .before .zeros .ok .1 .1 .0 .1 .0 .1))
+loop-holds c = let a = c .before .before .before .before .before .before .before .args in settling-none (now (a .marks)) (a .t2 .of) (now (a .rows)) (length-unmapped _ (a .t2 .of) _ (c .before .before .before .before .before .before .before .good .1 .0 .1 .1 .0 .1 .0 .1))
 
 mul-c : tie.Need-mul-c Inv-loop μ-loop
-mul-c c = scaled-fits (c .before .loop .i) (length (now (c .before .before .before .before .before .before .before .before .before .before .before .args .rows))) 2 (c .loop-test .taken) (c .before .before .before .before .before .before .before .before .before .before .before .good .1 .1 .0 .1)
+mul-c c = scaled-fits (c .before .loop .i) (length (now (c .before .before .before .before .before .before .before .before .before .args .rows))) 2 (c .loop-test .taken) (c .before .before .before .before .before .before .before .before .before .good .1 .1 .0 .1)
 
 shared-slice-read-c : tie.Need-shared-slice-read-c Inv-loop μ-loop
 shared-slice-read-c c = c .before .loop-test .taken
 
 cast-label : tie.Need-cast-label Inv-loop μ-loop
-cast-label c = row-place (le-of-lt (c .before .before .before .before .before .before .before .before .before .before .before .before .pre .listed (c .before .before .loop .i) (c .before .loop-test .taken)))
+cast-label c = row-place (le-of-lt (c .before .before .before .before .before .before .before .before .before .before .pre .listed (c .before .before .loop .i) (c .before .loop-test .taken)))
 
 mul-label : tie.Need-mul-label Inv-loop μ-loop
 unfolding maxRows
-mul-label c = scaled-fits _ 64 2 (c .before .before .before .before .before .before .before .before .before .before .before .before .pre .listed (c .before .before .loop .i) (c .before .loop-test .taken)) (lit< tt)
+mul-label c = scaled-fits _ 64 2 (c .before .before .before .before .before .before .before .before .before .before .pre .listed (c .before .before .loop .i) (c .before .loop-test .taken)) (lit< tt)
 
 element-copy-out-label : tie.Need-element-copy-out-label Inv-loop μ-loop
 unfolding maxRows
-element-copy-out-label c = c .before .before .before .before .before .before .before .before .before .before .before .before .pre .listed (c .before .before .loop .i) (c .before .loop-test .taken)
+element-copy-out-label c = c .before .before .before .before .before .before .before .before .before .before .pre .listed (c .before .before .loop .i) (c .before .loop-test .taken)
 
 cast-settled-label : tie.Need-cast-settled-label Inv-loop μ-loop
-cast-settled-label c = row-place (le-of-lt (label-below (c .before .before .before .before .before .before .before .before .before .before .before .before .before .pre) (c .before .before .before .before .before .before .before .before .before .before .before .before .before .pre .listed) (c .before .before .before .loop .i) (c .before .before .loop-test .taken)))
+cast-settled-label c = row-place (le-of-lt (label-below (c .before .before .before .before .before .before .before .before .before .before .before .pre) (c .before .before .before .before .before .before .before .before .before .before .before .pre .listed) (c .before .before .before .loop .i) (c .before .before .loop-test .taken)))
 
 element-copy-out-settled-label : tie.Need-element-copy-out-settled-label Inv-loop μ-loop
 unfolding maxRows
-element-copy-out-settled-label c = label-below (c .before .before .before .before .before .before .before .before .before .before .before .before .before .pre) (c .before .before .before .before .before .before .before .before .before .before .before .before .before .pre .listed) (c .before .before .before .loop .i) (c .before .before .loop-test .taken)
+element-copy-out-settled-label c = label-below (c .before .before .before .before .before .before .before .before .before .before .before .pre) (c .before .before .before .before .before .before .before .before .before .before .before .pre .listed) (c .before .before .before .loop .i) (c .before .before .loop-test .taken)
 
 settled-label-requires : tie.Need-settled-label-requires Inv-loop μ-loop
 settled-label-requires c κs = tt
 
 cast-labels : tie.Need-cast-labels Inv-loop μ-loop
-cast-labels c = row-place (le-of-lt (c .before .before .before .before .before .before .before .before .before .before .before .before .before .before .before .pre .listed (c .before .before .before .before .before .loop .i) (c .before .before .before .before .loop-test .taken)))
+cast-labels c = row-place (le-of-lt (c .before .before .before .before .before .before .before .before .before .before .before .before .before .pre .listed (c .before .before .before .before .before .loop .i) (c .before .before .before .before .loop-test .taken)))
 
 mul-labels : tie.Need-mul-labels Inv-loop μ-loop
 unfolding maxRows
-mul-labels c = scaled-fits _ 64 2 (c .before .before .before .before .before .before .before .before .before .before .before .before .before .before .before .pre .listed (c .before .before .before .before .before .loop .i) (c .before .before .before .before .loop-test .taken)) (lit< tt)
+mul-labels c = scaled-fits _ 64 2 (c .before .before .before .before .before .before .before .before .before .before .before .before .before .pre .listed (c .before .before .before .before .before .loop .i) (c .before .before .before .before .loop-test .taken)) (lit< tt)
 
 array-write-labels : tie.Need-array-write-labels Inv-loop μ-loop
 unfolding maxRows
-array-write-labels c = c .before .before .before .before .before .before .before .before .before .before .before .before .before .before .before .pre .listed (c .before .before .before .before .before .loop .i) (c .before .before .before .before .loop-test .taken)
+array-write-labels c = c .before .before .before .before .before .before .before .before .before .before .before .before .before .pre .listed (c .before .before .before .before .before .loop .i) (c .before .before .before .before .loop-test .taken)
 
 mul-pending : tie.Need-mul-pending Inv-loop μ-loop
 unfolding maxRows
-mul-pending c = scaled-fits _ 64 2 (gathering-room (c .before .before .before .before .before .loop .inv .gathered) (c .before .before .before .before .before .before .before .before .before .before .before .before .before .before .before .pre .few) (c .before .before .before .before .loop-test .taken)) (lit< tt)
+mul-pending c = scaled-fits _ 64 2 (gathering-room (c .before .before .before .before .before .loop .inv .gathered) (c .before .before .before .before .before .before .before .before .before .before .before .before .before .pre .few) (c .before .before .before .before .loop-test .taken)) (lit< tt)
 
 array-write-pending : tie.Need-array-write-pending Inv-loop μ-loop
 unfolding maxRows
-array-write-pending c = gathering-room (c .before .before .before .before .before .loop .inv .gathered) (c .before .before .before .before .before .before .before .before .before .before .before .before .before .before .before .pre .few) (c .before .before .before .before .loop-test .taken)
+array-write-pending c = gathering-room (c .before .before .before .before .before .loop .inv .gathered) (c .before .before .before .before .before .before .before .before .before .before .before .before .before .pre .few) (c .before .before .before .before .loop-test .taken)
 
 differs-requires : tie.Need-differs-requires Inv-loop μ-loop
 differs-requires c κs = tt
 
 add-count : tie.Need-add-count Inv-loop μ-loop
-add-count c = let a = c .before .before .before .before .before .before .before .before .before .before .before .before .before .before .before .before .args in let r = getD (now (a .rows)) (c .before .before .before .before .before .before .loop .i) 0 in place-fits 1 (c .before .before .before .before .before .before .before .before .before .before .before .before .before .before .before .before .good .1 .1 .0 .1) (gathering-count (c .before .before .before .before .before .before .loop .inv .gathered) (c .before .before .before .before .before .loop-test .taken) (flagged-differs (a .t2 .of) (now (a .marks)) (now (a .rows)) r (flagged-label (a .t2 .of) (now (a .marks)) (now (a .rows)) (c .before .before .before .before .before .before .before .before .before .before .split-classes .result .of) (c .before .before .before .before .before .before .before .before .before .before .split-classes .ensures) r (label-below (c .before .before .before .before .before .before .before .before .before .before .before .before .before .before .before .before .pre) (c .before .before .before .before .before .before .before .before .before .before .before .before .before .before .before .before .pre .listed) (c .before .before .before .before .before .before .loop .i) (c .before .before .before .before .before .loop-test .taken)) (c .before .settled-label .ensures)) (c .differs .ensures)))
+add-count c = let a = c .before .before .before .before .before .before .before .before .before .before .before .before .before .before .args in let r = getD (now (a .rows)) (c .before .before .before .before .before .before .loop .i) 0 in place-fits 1 (c .before .before .before .before .before .before .before .before .before .before .before .before .before .before .good .1 .1 .0 .1) (gathering-count (c .before .before .before .before .before .before .loop .inv .gathered) (c .before .before .before .before .before .loop-test .taken) (flagged-differs (a .t2 .of) (now (a .marks)) (now (a .rows)) r (flagged-label (a .t2 .of) (now (a .marks)) (now (a .rows)) (c .before .before .before .before .before .before .before .before .split-classes .result .of) (c .before .before .before .before .before .before .before .before .split-classes .ensures) r (label-below (c .before .before .before .before .before .before .before .before .before .before .before .before .before .before .pre) (c .before .before .before .before .before .before .before .before .before .before .before .before .before .before .pre .listed) (c .before .before .before .before .before .before .loop .i) (c .before .before .before .before .before .loop-test .taken)) (c .before .settled-label .ensures)) (c .differs .ensures)))
 
 add-i : tie.Need-add-i Inv-loop μ-loop
-add-i c = place-fits 1 (c .before .before .before .before .before .before .before .before .before .before .before .before .before .before .before .before .good .1 .1 .0 .1) (add-one-le (c .before .before .before .before .before .loop-test .taken))
+add-i c = place-fits 1 (c .before .before .before .before .before .before .before .before .before .before .before .before .before .before .good .1 .1 .0 .1) (add-one-le (c .before .before .before .before .before .loop-test .taken))
 
 loop-less : tie.Need-loop-less Inv-loop μ-loop
 loop-less c = falls _ _ (c .before .before .before .before .before .loop-test .taken)
 
 loop-again : tie.Need-loop-again Inv-loop μ-loop
-loop-again c = let a = c .before .before .before .before .before .before .before .before .before .before .before .before .before .before .before .before .args in let r = getD (now (a .rows)) (c .before .before .before .before .before .before .loop .i) 0 in let e = flagged-label (a .t2 .of) (now (a .marks)) (now (a .rows)) (c .before .before .before .before .before .before .before .before .before .before .split-classes .result .of) (c .before .before .before .before .before .before .before .before .before .before .split-classes .ensures) r (label-below (c .before .before .before .before .before .before .before .before .before .before .before .before .before .before .before .before .pre) (c .before .before .before .before .before .before .before .before .before .before .before .before .before .before .before .before .pre .listed) (c .before .before .before .before .before .before .loop .i) (c .before .before .before .before .before .loop-test .taken)) (c .before .settled-label .ensures) in settling-next (now (a .marks)) (a .t2 .of) (now (a .rows)) (c .before .before .before .before .before .before .loop .inv) (c .before .before .before .before .before .before .before .before .before .before .before .before .before .before .before .before .pre .few) (c .before .before .before .before .before .loop-test .taken) (c .before .before .before .before .before .before .before .before .before .before .before .before .before .before .before .before .pre .listed (c .before .before .before .before .before .before .loop .i) (c .before .before .before .before .before .loop-test .taken)) e (c .differs .ensures)
+loop-again c = let a = c .before .before .before .before .before .before .before .before .before .before .before .before .before .before .args in let r = getD (now (a .rows)) (c .before .before .before .before .before .before .loop .i) 0 in let e = flagged-label (a .t2 .of) (now (a .marks)) (now (a .rows)) (c .before .before .before .before .before .before .before .before .split-classes .result .of) (c .before .before .before .before .before .before .before .before .split-classes .ensures) r (label-below (c .before .before .before .before .before .before .before .before .before .before .before .before .before .before .pre) (c .before .before .before .before .before .before .before .before .before .before .before .before .before .before .pre .listed) (c .before .before .before .before .before .before .loop .i) (c .before .before .before .before .before .loop-test .taken)) (c .before .settled-label .ensures) in settling-next (now (a .marks)) (a .t2 .of) (now (a .rows)) (c .before .before .before .before .before .before .loop .inv) (c .before .before .before .before .before .before .before .before .before .before .before .before .before .before .pre .few) (c .before .before .before .before .before .loop-test .taken) (c .before .before .before .before .before .before .before .before .before .before .before .before .before .before .pre .listed (c .before .before .before .before .before .before .loop .i) (c .before .before .before .before .before .loop-test .taken)) e (c .differs .ensures)
 
 returns : tie.Need-returns Inv-loop μ-loop
-returns c = let a = c .before .before .before .before .before .before .before .before .before .before .before .args in settling-all (now (a .marks)) (a .t2 .of) (now (a .rows)) (c .before .loop .inv) (c .before .before .before .before .before .before .before .before .before .before .before .pre .few) (c .loop-test .left)
+returns c = let a = c .before .before .before .before .before .before .before .before .before .args in settling-all (now (a .marks)) (a .t2 .of) (now (a .rows)) (c .before .loop .inv) (c .before .before .before .before .before .before .before .before .before .pre .few) (c .loop-test .left)
 
 pub settle-spec : {M : Type 1} → statement M
 settle-spec =
@@ -104,7 +101,6 @@ settle-spec =
     Inv-loop
     μ-loop
     split-classes-requires
-    zeros-requires
     loop-holds
     mul-c
     shared-slice-read-c
