@@ -2,7 +2,7 @@
 --
 --   column-start    a column of zeros
 --   Filling         what a loop knows that has filled c rows of an array
---   filling-start, filling-next, filling-all   its start, in any array and in a column, its step and its end
+--   filling-start, filling-none, filling-next, filling-all   its start, in any array and in a column, its step and its end
 --   filling-room    there is room for another row
 --   row-fits        the number of a row fits an entry of a column
 --   cell-within     a row's number at an entry lies within the work
@@ -30,6 +30,9 @@ pub record Filling (room rows : ℕ) (f : ℕ → ℕ) (of : List ℕ) (c : ℕ)
 
 pub filling-start : {room : ℕ} (rows : ℕ) (f : ℕ → ℕ) (of : List ℕ) → length of ≡ room → Filling room rows f of 0
 filling-start rows f of e = record { within = omega arith; whole = e; done = below-none (λ (k : ℕ). getD of k 0 ≡ f k) }
+
+pub filling-none : (rows : ℕ) (f : ℕ → ℕ) → Filling maxRows rows f (replicate maxRows 0) 0
+filling-none rows f = filling-start rows f (replicate maxRows 0) (length-replicate maxRows 0)
 
 pub filling-room : {rows c : ℕ} → rows ≤ maxRows → c < rows → c < maxRows
 filling-room h l = omega arith

@@ -6,7 +6,7 @@
 --   flagged-label, flagged-differs   which label a flag gives, and whether it is another row
 --   Settling         what a loop knows that has dissolved i rows: their labels, and which of them are listed
 --   settling-none, settling-next, settling-all   its start, its step and its end
---   differs-yes, differs-no   whether numbers differ, and which label a row has then
+--   differs-yes, differs-no   whether numbers differ
 --   settled-classed  labels stay those of a relation when classes of one mark are dissolved
 --   settled-settled  and every class that is left holds two marks
 use Prim.Native.Nat.{ℕ, zero, suc, _+_, _≤_, _<_}
