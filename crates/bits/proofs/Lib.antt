@@ -6,6 +6,7 @@ pub mod Bytes
 pub mod Digits
 pub mod Fields
 pub mod Packed
+pub mod Passing
 pub mod Tests
 pub mod Unpacked
 pub mod Window
