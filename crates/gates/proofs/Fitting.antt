@@ -9,7 +9,7 @@
 --   step-outside, first-late, step-second   the gate step's test, by its parts
 --   step-fits               it passes where the table ends within the rows, and two others before it
 --   no-room, too-high, bit-inside           the test of bytes that alternate, by its parts
---   alternate-fits          it passes where there is room, and a word has the bit
+--   alternate-fits          it passes where there is room, and a byte has the bit
 use Prim.Native.Nat.{ℕ, _+_, _-_, _≤_, _<_}
 use native.Mathlib.Omega.{arith}
 use mathlib.Core.Path.{_≡_, sym, ap, _∙_}
@@ -72,13 +72,13 @@ module _ (x y to count length : ℕ) where
 
 module _ (to count bit length : ℕ) where
   pub no-room : hasRoom length to count ≡ false → alternateFits to count bit length ≡ false
-  no-room e = ap (λ (t : Bool). t && ltb bit 64) e
+  no-room e = ap (λ (t : Bool). t && ltb bit 8) e
 
-  pub too-high : hasRoom length to count ≡ true → 64 ≤ bit → alternateFits to count bit length ≡ false
-  too-high room h = and-then room (le-ltb bit 64 h)
+  pub too-high : hasRoom length to count ≡ true → 8 ≤ bit → alternateFits to count bit length ≡ false
+  too-high room h = and-then room (le-ltb bit 8 h)
 
-  pub bit-inside : hasRoom length to count ≡ true → bit < 64 → alternateFits to count bit length ≡ true
-  bit-inside room h = and-then room (lt-ltb bit 64 h)
+  pub bit-inside : hasRoom length to count ≡ true → bit < 8 → alternateFits to count bit length ≡ true
+  bit-inside room h = and-then room (lt-ltb bit 8 h)
 
-  pub alternate-fits : to + count ≤ length → bit < 64 → alternateFits to count bit length ≡ true
+  pub alternate-fits : to + count ≤ length → bit < 8 → alternateFits to count bit length ≡ true
   alternate-fits h = bit-inside (room-fits length to count h)

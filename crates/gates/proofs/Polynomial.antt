@@ -6,9 +6,10 @@
 --   bit-both       that of both
 --   copies-fit     eight copies of a bit fit a byte
 --   step-lt        the polynomial's value is a byte where the mask is one
+--   slope-lt, slope-digit   so for the polynomial of a gate's slope
 --   step-digit     a bit of its value is the kind's answer to that bit of the operands, or 0 where the mask is 0
 use Prim.Native.Nat.{ℕ, _*_, _/_, _%_, _^_, _<_}
-use native.Mathlib.Nat.{lt-of-le-of-lt}
+use native.Mathlib.Nat.{lt-of-le-of-lt, zero-div}
 use native.Mathlib.Omega.{arith}
 use mathlib.Core.Path.{_≡_, ap, ap₂, _∙_}
 use mathlib.Core.Bool.{Bool}
@@ -21,7 +22,7 @@ use mir.Val.{Fits}
 use Rattle.bits.proofs.Below.{allBelow, all-below, equal-below}
 use Rattle.bits.proofs.Digits.{digit-lt, digit-and, digit-xor}
 use Rattle.gates.specs.Answers.{answers, answer}
-use Rattle.gates.specs.Form.{step, formWith, formOf}
+use Rattle.gates.specs.Form.{step, formWith, formOf, slopeForm}
 use Rattle.gates.specs.declared.Form.{Form}
 use Rattle.gates.proofs.Answers.{answers-lt}
 use Rattle.gates.proofs.Kept.{full-digit}
@@ -62,6 +63,17 @@ formed-lt made h row x y =
 pub step-lt : (row : List ℕ) (keep : ℕ) → keep < 256 → (x y : ℕ) → step (formOf row keep) x y < 256
 unfolding formOf
 step-lt row keep h = formed-lt (λ b. bitAnd (255 * b) keep) (λ b. lt-of-le-of-lt (and-le-r (255 * b) keep) h) row
+
+sloped-lt : (a b x y : ℕ) → a < 256 → b < 256 → step (record { constant = 0; first = a; second = 0; both = b }) x y < 256
+sloped-lt a b x y ha hb =
+    let none : 0 < 256 = omega arith in
+    xor-lt 8 _ _ (xor-lt 8 _ _ (xor-lt 8 0 _ none (and-byte a x ha)) (and-byte 0 y none)) (and-byte b (bitAnd x y) hb)
+
+pub slope-lt : (row : List ℕ) (keep : ℕ) → keep < 256 → (x y : ℕ) → step (slopeForm (formOf row keep)) x y < 256
+unfolding formOf formWith
+slope-lt row keep h x y =
+    sloped-lt _ _ x y (lt-of-le-of-lt (and-le-r (255 * bitXor (getD row 0 0) (getD row 2 0)) keep) h)
+    (lt-of-le-of-lt (and-le-r (255 * bitXor (bitXor (getD row 0 0) (getD row 1 0)) (bitXor (getD row 2 0) (getD row 3 0))) keep) h)
 
 -- ---- the bits
 
@@ -109,3 +121,31 @@ step-digit kind keep x y k h l =
     digit-step (formOf (getD answers kind []) keep) x y k
     ∙ ap (λ (f : Form). step f (x / 2 ^ k % 2) (y / 2 ^ k % 2)) (digit-form (getD answers kind []) keep k (answers-lt kind h) l)
     ∙ step-bits kind (keep / 2 ^ k % 2) (x / 2 ^ k % 2) (y / 2 ^ k % 2) h (digit-lt keep k) (digit-lt x k) (digit-lt y k)
+
+abbrev slopeTest : ℕ → ℕ → Bool
+unfolding formWith answer
+slopeTest kind b =
+    allBelow (λ x. allBelow (λ y. eqb (step (slopeForm (formWith (λ c. bitAnd c b) (getD answers kind []))) x y) (b * answer 0 x (answer 4 (answer kind 0 y) (answer kind 1 y)))) 2) 2
+
+slope-bits : (kind b x y : ℕ) → kind < 8 → b < 2 → x < 2 → y < 2
+    → step (slopeForm (formWith (λ c. bitAnd c b) (getD answers kind []))) x y ≡ b * answer 0 x (answer 4 (answer kind 0 y) (answer kind 1 y))
+unfolding formWith answer
+slope-bits kind b x y hk hb hx hy =
+    equal-below (λ x y. step (slopeForm (formWith (λ c. bitAnd c b) (getD answers kind []))) x y) (λ x y. b * answer 0 x (answer 4 (answer kind 0 y) (answer kind 1 y))) 2 2
+    (all-below (slopeTest kind) 2 (all-below (λ kind. allBelow (slopeTest kind) 2) 8 tt kind hk) b hb) x y hx hy
+
+-- bit k of the constants of a slope are those of its gate
+slope-form : (f g : Form) (k : ℕ) → digitForm f k ≡ g → digitForm (slopeForm f) k ≡ slopeForm g
+unfolding digitForm
+slope-form f g k e =
+    let none : 0 / 2 ^ k % 2 ≡ 0 = ap (λ (x : ℕ). x % 2) (zero-div (2 ^ k)) in
+    λ i. record { constant = none i; first = e i .first; second = none i; both = e i .both }
+
+pub slope-digit : (kind keep x y k : ℕ) → kind < 8 → k < 8
+    → step (slopeForm (formOf (getD answers kind []) keep)) x y / 2 ^ k % 2
+    ≡ keep / 2 ^ k % 2 * answer 0 (x / 2 ^ k % 2) (answer 4 (answer kind 0 (y / 2 ^ k % 2)) (answer kind 1 (y / 2 ^ k % 2)))
+slope-digit kind keep x y k h l =
+    digit-step (slopeForm (formOf (getD answers kind []) keep)) x y k
+    ∙ ap (λ (f : Form). step f (x / 2 ^ k % 2) (y / 2 ^ k % 2))
+    (slope-form (formOf (getD answers kind []) keep) _ k (digit-form (getD answers kind []) keep k (answers-lt kind h) l))
+    ∙ slope-bits kind (keep / 2 ^ k % 2) (x / 2 ^ k % 2) (y / 2 ^ k % 2) h (digit-lt keep k) (digit-lt x k) (digit-lt y k)

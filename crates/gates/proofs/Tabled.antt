@@ -1,12 +1,16 @@
 -- Rows of bytes that are packed tables (specs/Rows.antt, specs/Form.antt).
 --
 --   row-packed           bytes whose bits are a table's entries where the mask is 1, and 0 elsewhere
+--   bitFor               bit 7 − (m mod 8) of a byte
+--   entry-part           an entry of the table at a place
 --   answered             the table of a kind's answers to the tables at two places
 --   gate-packed          the bytes of the gate step are that table
+--   slope-packed         so for the table where a gate's answer changes with one of its lines
 --   level-packed         the mask in every byte, or 0, is the table of a level
 --   patternOf            an input's entries within a byte, for the first three inputs
 --   pattern-rest         the pattern of a line that is neither 0 nor 1
 --   pattern-packed       the masked pattern in every byte is the table of one of the first three inputs
+--   alternate-low        the bit of a place within a byte
 --   alternate-packed     bytes that alternate are the table of a further input
 use Prim.Native.Nat.{ℕ, _+_, _-_, _*_, _/_, _%_, _^_, _≤_, _<_}
 use native.Mathlib.Nat.{zero-mul, one-mul, mul-one, mul-zero, zero-div, div-add-mod', lt-of-le-of-lt}
@@ -27,17 +31,17 @@ use Rattle.bits.proofs.Digits.{digit-lt, digit-above, digit-and}
 use Rattle.bits.proofs.Packed.{Bytes, length-tabulate, tabulate-at, tabulate-past, packed-unique}
 use Rattle.job.specs.Record.{levelNumber}
 use Rattle.gates.specs.Answers.{answers, answer}
-use Rattle.gates.specs.Form.{tableBytes, keepOf, combined, kindForm, alternating}
+use Rattle.gates.specs.Form.{tableBytes, keepOf, combined, kindForm, slopeForm, alternating}
 use Rattle.gates.specs.Rows.{part}
 use Rattle.gates.specs.Values.{inputValue}
 use Rattle.gates.proofs.Kept.{keep-lt, keep-digit, keep-full, full-digit}
-use Rattle.gates.proofs.Polynomial.{copies-fit, step-lt, step-digit}
+use Rattle.gates.proofs.Polynomial.{copies-fit, step-lt, step-digit, slope-lt, slope-digit}
 
 bytes-tabulate : (n : ℕ) (g : ℕ → ℕ) → ((i : ℕ) → g i < 256) → Bytes (tabulate n g)
 bytes-tabulate n g h i = ⊎-elim (λ l. rw (tabulate-at n g i l) (h i)) (λ l. rw (tabulate-past n g i l) (omega arith)) (lt-or-ge i n)
 
 -- bit 7 − (m mod 8) of a byte, where entry m stands
-abbrev bitFor : ℕ → ℕ → ℕ
+abbrev pub bitFor : ℕ → ℕ → ℕ
 bitFor m byte = byte / 2 ^ (7 - m % 8) % 2
 
 module _ (n : ℕ) (f g : ℕ → ℕ) (byte : (i : ℕ) → g i < 256)
@@ -53,7 +57,7 @@ module _ (n : ℕ) (f g : ℕ → ℕ) (byte : (i : ℕ) → g i < 256)
       (λ m h. entry-row m (omega arith) ∙ rw (lt-ltb m (2 ^ n) h) (one-mul (f m)))
       (λ m h l. entry-row m (rw length-tabulate at l) ∙ rw (le-ltb m (2 ^ n) h) (zero-mul (f m)))
 
-entry-part : (x count : ℕ) (rows : List ℕ) (m : ℕ) → m < 8 * count → entry (part x count rows) m ≡ bitFor m (getD rows (x + m / 8) 0)
+pub entry-part : (x count : ℕ) (rows : List ℕ) (m : ℕ) → m < 8 * count → entry (part x count rows) m ≡ bitFor m (getD rows (x + m / 8) 0)
 unfolding entry
 entry-part x count rows m h = ap (bitFor m) (getD-take count (drop x rows) (m / 8) 0 (omega arith) ∙ getD-drop x rows (m / 8) 0)
 
@@ -67,6 +71,16 @@ gate-packed n kind x y rows h =
     row-packed n _ (combined (kindForm kind (keepOf n)) x y rows) (λ i. step-lt (getD answers kind []) (keepOf n) (keep-lt n) _ _)
     (λ m l. step-digit kind (keepOf n) _ _ (7 - m % 8) h (omega arith)
     ∙ ap₂ (λ (a b : ℕ). bitFor m (keepOf n) * answer kind a b) (sym (entry-part x (tableBytes n) rows m l)) (sym (entry-part y (tableBytes n) rows m l)))
+
+pub slope-packed : (n kind x y : ℕ) (rows : List ℕ) → kind < 8
+    → tabulate (tableBytes n) (combined (slopeForm (kindForm kind (keepOf n))) x y rows)
+    ≡ packed (2 ^ n) (λ m. answer 0 (entry (part x (tableBytes n) rows) m)
+    (answer 4 (answer kind 0 (entry (part y (tableBytes n) rows) m)) (answer kind 1 (entry (part y (tableBytes n) rows) m))))
+slope-packed n kind x y rows h =
+    row-packed n _ (combined (slopeForm (kindForm kind (keepOf n))) x y rows) (λ i. slope-lt (getD answers kind []) (keepOf n) (keep-lt n) _ _)
+    (λ m l. slope-digit kind (keepOf n) _ _ (7 - m % 8) h (omega arith)
+    ∙ ap₂ (λ (a b : ℕ). bitFor m (keepOf n) * answer 0 a (answer 4 (answer kind 0 b) (answer kind 1 b)))
+    (sym (entry-part x (tableBytes n) rows m l)) (sym (entry-part y (tableBytes n) rows m l)))
 
 pub level-packed : (n : ℕ) (level : Bool) → tabulate (tableBytes n) (λ i. cond level (keepOf n) 0) ≡ packed (2 ^ n) (λ m. levelNumber level)
 level-packed n true = row-packed n (λ m. 1) (λ i. keepOf n) (λ i. keep-lt n) (λ m l. sym (mul-one (bitFor m (keepOf n))))
@@ -99,6 +113,10 @@ pattern-packed n line h =
 
 byte-digit : (m line : ℕ) → 3 ≤ line → m / 8 / 2 ^ (line - 3) % 2 ≡ m / 2 ^ line % 2
 byte-digit m line h = ap (λ (x : ℕ). x % 2) (shr-shr m 3 (line - 3)) ∙ (let e : 3 + (line - 3) ≡ line = omega arith in rw e)
+
+pub alternate-low : (bit i : ℕ) → bit < 8 → 255 * (i % 256 / 2 ^ bit % 2) ≡ alternating bit i
+alternate-low bit i h =
+    ap (λ (b : ℕ). 255 * b) (sym (digit-above 8 bit (i / 256) (i % 256) h) ∙ ap (λ (x : ℕ). x / 2 ^ bit % 2) (div-add-mod' i 256))
 
 pub alternate-packed : (n line : ℕ) → 3 ≤ line → line < n → tabulate (tableBytes n) (alternating (line - 3)) ≡ packed (2 ^ n) (λ m. inputValue m line)
 unfolding inputValue

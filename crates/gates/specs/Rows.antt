@@ -4,7 +4,7 @@
 --   splice          the bytes with new ones from a place on
 --   hasRoom         so many bytes from a place on end within a length
 --   stepFits        a table of so many bytes at a place ends within a length, and two others end before it
---   alternateFits   so many bytes from a place on end within a length, and a word has the bit
+--   alternateFits   so many bytes from a place on end within a length, and a byte has the bit
 use Prim.Native.Nat.{ℕ, _+_}
 use mathlib.Core.Bool.{Bool, _&&_}
 use mathlib.Core.List.{List, _++_}
@@ -24,4 +24,4 @@ abbrev pub stepFits : ℕ → ℕ → ℕ → ℕ → ℕ → Bool
 stepFits x y to count length = hasRoom length to count && (hasRoom to x count && hasRoom to y count)
 
 abbrev pub alternateFits : ℕ → ℕ → ℕ → ℕ → Bool
-alternateFits to count bit length = hasRoom length to count && ltb bit 64
+alternateFits to count bit length = hasRoom length to count && ltb bit 8

@@ -50,6 +50,8 @@ pub fn form_of(gate: Gate, keep: u8) -> Form
 // The bits of a word: a shift must be by fewer.
 const WORD_BITS: usize = 64;
 
+const BYTE_BITS: usize = 8;
+
 // The entries of a table of n inputs, which are as many as its coefficients; 0 where no word holds their number.
 pub fn places(n: usize) -> usize
     ensures { λ r. ⌜ r ≡ placesOf n ⌝ }
@@ -131,26 +133,28 @@ fn fill_bytes(rows: &mut [u8], to: usize, count: usize, byte: u8)
     }
 }
 
-// Fills `count` bytes at `to`, byte i with eight copies of bit `bit` of i, if they end within the rows and a word has such a bit.
+// Fills `count` bytes at `to`, byte i with eight copies of bit `bit` of i, if they end within the rows and a byte has such a bit.
 pub fn alternate(rows: &mut [u8], to: usize, count: usize, bit: usize)
     ensures { λ r. ⌜ now (rows .exit) ≡ cond (alternateFits to count bit (length (now (rows .entry)))) (splice (now (rows .entry)) to (tabulate count (alternating bit))) (now (rows .entry)) ⌝ }
 {
     if !has_room(rows.len(), to, count) {
         return;
     }
-    if WORD_BITS <= bit {
+    if BYTE_BITS <= bit {
         return;
     }
     alternate_bytes(rows, to, count, bit);
 }
 
+// In bytes throughout, so that many are worked out at a time.
 fn alternate_bytes(rows: &mut [u8], to: usize, count: usize, bit: usize)
-    requires { ⌜ (to + count ≤ length (now rows)) × (bit < 64) ⌝ }
+    requires { ⌜ (to + count ≤ length (now rows)) × (bit < 8) ⌝ }
     ensures { λ r. ⌜ now (rows .exit) ≡ splice (now (rows .entry)) to (tabulate count (alternating bit)) ⌝ }
 {
     let mut i = 0;
     while i < count {
-        rows[to + i] = 255 * ((i >> bit) % 2) as u8;
+        let low = (i % 256) as u8;
+        rows[to + i] = 255 * ((low >> bit) % 2);
         i += 1;
     }
 }

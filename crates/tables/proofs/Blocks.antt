@@ -5,7 +5,6 @@
 --   block-append     a block behind a block
 --   length-block     a block has as many bytes as its tables together
 --   tabulate-block   bytes worked out one by one are a block of tables, each of the bytes at its own place
---   part-block       rows that follow each other are a block
 --   splice-none      no new bytes
 --   splice-append    new bytes put behind new bytes
 --   block-row        where a block is put, each of its rows holds its table
@@ -71,16 +70,6 @@ row-end : (r w c i : ℕ) → i < c → (r + i) * w + w ≤ (r + c) * w
 row-end r w c i h =
     let l : suc (r + i) ≤ r + c = omega arith in
     omega (arith, native.Mathlib.Nat.mul-le-mul-right w l, suc-mul (r + i) w)
-
-pub part-block : (rows : List ℕ) (r w c : ℕ) → (r + c) * w ≤ length rows → part (r * w) (c * w) rows ≡ block c (λ i. part ((r + i) * w) w rows)
-part-block rows r w c h =
-    sym (tabulate-part rows (r * w) (c * w) (omega (arith, add-mul r c w)))
-    ∙ tabulate-block c w (λ t. getD rows (r * w + t) 0)
-    ∙ block-ext c (λ i. tabulate w (λ t. getD rows (r * w + (i * w + t)) 0)) (λ i. part ((r + i) * w) w rows)
-    (λ i l.
-    tabulate-ext w (λ t. getD rows (r * w + (i * w + t)) 0) (λ t. getD rows ((r + i) * w + t) 0)
-    (λ t m. ap (λ (k : ℕ). getD rows k 0) (sym (add-assoc (r * w) (i * w) t) ∙ ap (λ (k : ℕ). k + t) (sym (add-mul r i w))))
-    ∙ tabulate-part rows ((r + i) * w) w (omega (arith, row-end r w c i l)))
 
 pub splice-append : (out : List ℕ) (at : ℕ) (a b : List ℕ) (k : ℕ) → at + length a ≡ k → k ≤ length out → splice (splice out at a) k b ≡ splice out at (a ++ b)
 splice-append out at a b k e h =

@@ -2,19 +2,17 @@
 --
 --   length-table        a circuit's table has tableBytes bytes
 --   length-tablesTo     the tables of c circuits have c times as many
---   wide-one, wide-block   the lent rows have room for the good circuit and one more, or as many as fit a block
 --   table-count-fits    the bytes of all tables of a valid job fit a usize
 --   fixes               a valid fault fixes lines of the circuit
---   output-table        the table of the output line is the circuit's
---   good-output         the good circuit's row of the output is its table
---   side-output         the block of the output is the tables of the batch
 --   splice-start        new bytes at the start, then the rest as it was
 --   tables-all          the good circuit's table, and then those of the faulty circuits
---   tables-more         the tables of a batch behind those of the batches before
---   table-single        a batch of one circuit
-use Prim.Native.Nat.{ℕ, zero, suc, _+_, _*_, _/_, _^_, _≤_, _<_}
+--   table-single        the table of one circuit
+--   tables-block        the tables of all circuits, as those from the good one on (tables-start)
+--   single-room         what working out the table of one circuit asks for
+--   all-room            so for those of all circuits
+use Prim.Native.Nat.{ℕ, zero, suc, _+_, _*_, _^_, _≤_, _<_}
 use native.Mathlib.Omega.{arith}
-use native.Mathlib.Nat.{lt-of-le-of-lt, zero-add, add-zero, add-le-add, add-mul, mul-add, mul-assoc, mul-one, one-mul, mul-le-mul, div-mul-le-self, zero-mul, suc-mul}
+use native.Mathlib.Nat.{lt-of-le-of-lt, zero-add, add-zero, add-mul, one-mul, mul-le-mul, zero-mul, suc-mul}
 use mathlib.Core.Path.{_≡_, refl, sym, ap, ap₂, subst, _∙_}
 use mathlib.Core.Bool.{true}
 use mathlib.Core.List.{List, _++_}
@@ -26,27 +24,21 @@ use lib.ListN.{length, drop, length-append}
 use Rattle.bits.proofs.Packed.{length-packed}
 use Rattle.bits.proofs.Tests.{and-r}
 use Rattle.job.specs.Check.{Valid, faultLineOk, faultOrderOk}
-use Rattle.job.specs.Layout.{maxInputs, maxGates, maxFaults}
+use Rattle.job.specs.Layout.{maxFaults}
 use Rattle.job.specs.Record.{faultAt, lines}
 use Rattle.job.specs.declared.Fault.{Fault}
 use Rattle.job.specs.declared.Fault.the-variants.{Stuck, Bridge}
 use Rattle.job.specs.declared.Job.{Job}
 use Rattle.gates.specs.Form.{tableBytes}
 use Rattle.tables.specs.Sizes.{shapeOf, block}
-use Rattle.gates.specs.Rows.{part, splice}
+use Rattle.gates.specs.Rows.{splice}
 use Rattle.tables.specs.declared.rows.Shape.{Shape}
-use Rattle.tables.specs.Circuit.{circuitEntry, circuitTable, fixingOf}
-use Rattle.tables.specs.Lines.{maxLines, rowOf}
-use Rattle.tables.specs.Work.{maxTableBytes, blockBytes, rowBytes, allRowBytes, lineValue, lineTable, rowAt, Fixes, Wide, Good, Side, tablesFrom}
-use Rattle.tables.specs.declared.circuit.Batch.{Batch}
+use Rattle.tables.specs.Circuit.{circuitEntry, circuitTable}
+use Rattle.tables.specs.Work.{Fixes, tablesFrom}
 use Rattle.tables.specs.Operations.{tablesTo}
 use Rattle.tables.proofs.Sizes.{all-tables-fit}
-use Rattle.tables.proofs.Blocks.{block-ext, block-append, length-block, part-block, splice-append}
-use Rattle.tables.proofs.Space.{lines-most, tableBytes-most}
-
--- a row and a block a line
-side-by-side : (lines width bytes : ℕ) → (lines + lines * width) * bytes ≡ lines * (bytes + width * bytes)
-side-by-side lines width bytes = add-mul lines (lines * width) bytes ∙ ap (λ (k : ℕ). lines * bytes + k) (mul-assoc lines width bytes) ∙ sym (mul-add lines bytes (width * bytes))
+use Rattle.tables.proofs.Blocks.{block-ext, block-append, length-block, splice-append}
+use Rattle.tables.proofs.Space.{tableBytes-most}
 
 pub length-table : (j : Job) (c : ℕ) → length (circuitTable j c) ≡ tableBytes (j .inputs)
 unfolding circuitTable
@@ -57,29 +49,6 @@ unfolding tablesTo
 length-tablesTo j zero = sym (zero-mul (tableBytes (j .inputs)))
 length-tablesTo j (suc c) =
     length-append (tablesTo j c) (circuitTable j c) ∙ ap₂ _+_ (length-tablesTo j c) (length-table j c) ∙ sym (suc-mul c (tableBytes (j .inputs)))
-
-module _ (j : Job) (shape : Shape) (rows : List ℕ) (v : Valid j) (e : shape ≡ shapeOf (j .inputs)) where
-  pub wide-one : length rows ≡ rowBytes → Wide j shape 1 rows
-  unfolding rowBytes
-  wide-one h =
-      let few : lines j + lines j * 1 ≤ 2 * (maxInputs + maxGates) = omega (arith, v .few, v .gates-few, mul-one (lines j)) in
-      record {
-        valid = v;
-        shaped = e;
-        room = subst (λ (k : ℕ). (lines j + lines j * 1) * tableBytes (j .inputs) ≤ k) (sym h) (mul-le-mul few (tableBytes-most (j .inputs) (v .few)));
-      }
-
-  pub wide-block : length rows ≡ allRowBytes → Wide j shape (blockBytes / tableBytes (j .inputs)) rows
-  unfolding allRowBytes
-  wide-block h =
-      record {
-        valid = v;
-        shaped = e;
-        room =
-            subst (λ (k : ℕ). (lines j + lines j * (blockBytes / tableBytes (j .inputs))) * tableBytes (j .inputs) ≤ k) (sym h)
-            (subst (λ (k : ℕ). k ≤ (maxInputs + maxGates) * (maxTableBytes + blockBytes)) (sym (side-by-side (lines j) (blockBytes / tableBytes (j .inputs)) (tableBytes (j .inputs))))
-            (mul-le-mul (lines-most j v) (add-le-add (tableBytes-most (j .inputs) (v .few)) (div-mul-le-self blockBytes (tableBytes (j .inputs))))));
-      }
 
 pub table-count-fits : (j : Job) → Valid j → Fits w64 ((j .«fault_count» + 1) * tableBytes (j .inputs))
 table-count-fits j v =
@@ -96,25 +65,10 @@ fixes-of j (Bridge a b is-and) p q =
 pub fixes : (j : Job) (i : ℕ) → Valid j → i < j .«fault_count» → Fixes j (faultAt j i)
 fixes j i v h = fixes-of j (faultAt j i) (v .fault-line i h) (v .fault-order i h)
 
-pub output-table : (j : Job) (c : ℕ) → lineTable (fixingOf j c) j (j .output) ≡ circuitTable j c
-unfolding circuitTable circuitEntry lineValue
-output-table j c = refl
-
-pub good-output : (j : Job) (rows : List ℕ) → Valid j → Good j rows → rowAt j (j .output) rows ≡ circuitTable j 0
-unfolding circuitTable circuitEntry lineValue fixingOf
-good-output j rows valid good = good .line (j .output) (valid .output)
-
-pub side-output : (j : Job) (b : Batch) (rows : List ℕ) → Valid j → Side j b (lines j) rows → (rowOf b (j .output) + b .count) * tableBytes (j .inputs) ≤ length rows
-    → part (rowOf b (j .output) * tableBytes (j .inputs)) (b .count * tableBytes (j .inputs)) rows ≡ tablesFrom j (b .first) (b .count)
-side-output j b rows valid side inside =
-    part-block rows (rowOf b (j .output)) (tableBytes (j .inputs)) (b .count) inside
-    ∙ block-ext (b .count) (λ i. rowAt j (rowOf b (j .output) + i) rows) (λ i. circuitTable j (b .first + i))
-    (λ i h. side .line (j .output) i (valid .output) h ∙ output-table j (b .first + i))
-
 pub splice-start : (out new : List ℕ) → splice out 0 new ≡ new ++ drop (length new) out
 splice-start out new = ap (λ (k : ℕ). new ++ drop k out) (zero-add (length new))
 
-tables-block : (j : Job) (c : ℕ) → tablesTo j c ≡ block c (circuitTable j)
+pub tables-block : (j : Job) (c : ℕ) → tablesTo j c ≡ block c (circuitTable j)
 unfolding tablesTo block
 tables-block j zero = refl
 tables-block j (suc c) = ap (λ (l : List ℕ). l ++ circuitTable j c) (tables-block j c)
@@ -128,20 +82,20 @@ tables-all j out faults h =
     splice-append out 0 (circuitTable j 0) (tablesFrom j 1 faults) (tableBytes (j .inputs)) (zero-add (length (circuitTable j 0)) ∙ length-table j 0) h
     ∙ ap (splice out 0) (block-append 1 faults (circuitTable j) ∙ ap (λ (k : ℕ). block k (circuitTable j)) e ∙ sym (tables-block j (faults + 1)))
 
--- the tables of a batch behind those of the batches before
-pub tables-more : (j : Job) (done count : ℕ) (out : List ℕ) → (done + 1) * tableBytes (j .inputs) ≤ length out
-    → splice (splice out (tableBytes (j .inputs)) (tablesFrom j 1 done)) ((done + 1) * tableBytes (j .inputs)) (tablesFrom j (done + 1) count)
-    ≡ splice out (tableBytes (j .inputs)) (tablesFrom j 1 (done + count))
-tables-more j done count out h =
-    splice-append out (tableBytes (j .inputs)) (tablesFrom j 1 done) (tablesFrom j (done + 1) count) ((done + 1) * tableBytes (j .inputs))
-    (ap (λ (k : ℕ). tableBytes (j .inputs) + k) (length-block (tableBytes (j .inputs)) (λ i. circuitTable j (1 + i)) (λ i. length-table j (1 + i)) done)
-    ∙ (let e : tableBytes (j .inputs) + done * tableBytes (j .inputs) ≡ (done + 1) * tableBytes (j .inputs) = omega (arith, add-mul done 1 (tableBytes (j .inputs)), one-mul (tableBytes (j .inputs))) in e)) h
-    ∙ ap (splice out (tableBytes (j .inputs)))
-    (ap (λ (l : List ℕ). tablesFrom j 1 done ++ l)
-    (block-ext count (λ i. circuitTable j (done + 1 + i)) (λ i. circuitTable j (1 + (done + i)))
-    (λ i l. let e : done + 1 + i ≡ 1 + (done + i) = omega arith in ap (circuitTable j) e))
-    ∙ block-append done count (λ i. circuitTable j (1 + i)))
-
 pub table-single : (j : Job) (c : ℕ) → tablesFrom j c 1 ≡ circuitTable j c
 unfolding block
 table-single j c = ap (circuitTable j) (add-zero c)
+
+pub tables-start : (j : Job) (c : ℕ) → tablesFrom j 0 c ≡ tablesTo j c
+tables-start j c = block-ext c (λ i. circuitTable j (0 + i)) (circuitTable j) (λ i l. ap (circuitTable j) (zero-add i)) ∙ sym (tables-block j c)
+
+module _ (j : Job) (shape : Shape) (size : ℕ) (valid : Valid j) (shaped : shape ≡ shapeOf (j .inputs)) where
+  pub single-room : (c : ℕ) → c ≤ j .«fault_count» → shape .bytes ≤ size
+      → Valid j × (shape ≡ shapeOf (j .inputs)) × (1 ≤ 1) × (c + 1 ≤ j .«fault_count» + 1) × (1 * tableBytes (j .inputs) ≤ size)
+  single-room c h room =
+      (valid, shaped, omega arith, omega arith, omega (arith, one-mul (tableBytes (j .inputs)), ap (λ (s : Shape). s .bytes) shaped))
+
+  pub all-room : (j .«fault_count» + 1) * shape .bytes ≤ size
+      → Valid j × (shape ≡ shapeOf (j .inputs)) × (1 ≤ j .«fault_count» + 1) × (0 + (j .«fault_count» + 1) ≤ j .«fault_count» + 1)
+      × ((j .«fault_count» + 1) * tableBytes (j .inputs) ≤ size)
+  all-room room = (valid, shaped, omega arith, omega arith, subst (λ (s : Shape). (j .«fault_count» + 1) * s .bytes ≤ size) shaped room)

@@ -1,45 +1,49 @@
 -- The lines that a fault fixes, and their tables (specs/Circuit.antt, specs/Sizes.antt).
 --
+--   or-right        a test of two passes if the second does
+--   loose-first, loose-second   neither passes where the two together fail
 --   fixedBy-loose   a fault leaves the lines that are not its own
 --   fixedBy-bit     a fault keeps bits
---   fault-loose     a line that the test finds not fixed is left as it is
+--   fixes-low, fixes-high   the test finds a fault's lines fixed
+--   given           what a fault gives the lines that it fixes
 --   fixed-value     a fixed line has its level, or the bridge's value, whatever it would have by itself
---   fixed-table     the table of a fixed line, from the good circuit's rows
---   fixing-bits     the fixing of any circuit keeps bits
---   fixing-fault    the fixing of a circuit that is not the good one is its fault's
-use Prim.Native.Nat.{ℕ, zero, suc, _+_, _-_, _*_, _^_, _≤_, _<_}
+--   given-table     the table of that, from the good circuit's rows
+use Prim.Native.Nat.{ℕ, _-_, _*_, _^_, _<_}
 use native.Mathlib.Omega.{arith}
 use mathlib.Core.Path.{_≡_, refl, sym, ap, _∙_}
 use mathlib.Core.Bool.{Bool, true, false, cond, _||_, true≢false}
 use mathlib.Core.List.{List}
-use borrow.Author.Tests.{eq-eqb, ne-eqb, eqb-true, eqb-false}
+use borrow.Author.Tests.{eq-eqb, ne-eqb}
 use lib.Dec.{eqb}
-use lib.ListN.{length, getD}
+use lib.ListN.{getD}
 use Rattle.bits.specs.Packed.{packed, entry}
 use Rattle.bits.proofs.Packed.{packed-ext}
-use Rattle.job.specs.Record.{faultA, faultB, faultAt, lines, levelNumber}
+use Rattle.job.specs.Record.{faultA, faultB, lines, levelNumber}
 use Rattle.job.specs.declared.Fault.{Fault}
 use Rattle.job.specs.declared.Fault.the-variants.{Stuck, Bridge}
 use Rattle.job.specs.declared.Job.{Job}
-use Rattle.gates.specs.Form.{tableBytes}
-use Rattle.gates.specs.Rows.{part}
 use Rattle.gates.specs.Values.{bridged}
-use Rattle.tables.specs.Circuit.{Fixing, free, valuesTo, fixedBy, fixingOf}
+use Rattle.tables.specs.Circuit.{free, valuesTo, fixedBy}
 use Rattle.tables.specs.Lines.{isFixed}
+use Rattle.tables.specs.Side.{Good}
 use Rattle.tables.specs.Sizes.{shapeOf, fixedRow}
-use Rattle.tables.specs.Work.{lineValue, lineTable, rowAt, goodFix, faultFix, Loose, Good, Fixes}
-use Rattle.tables.proofs.Held.{Bits, line-read}
-use Rattle.tables.proofs.Values.{answer-bit, cond-bit, line-own}
+use Rattle.tables.specs.Work.{lineValue, rowAt, goodFix, Fixes}
+use Rattle.tables.proofs.Held.{line-read}
+use Rattle.tables.proofs.Values.{answer-bit, cond-bit}
 
--- a test of two that fails, and one that passes
+-- tests of which one passes, and of which none does
+pub or-right : (t u : Bool) → u ≡ true → (t || u) ≡ true
+or-right true u e = refl
+or-right false u e = e
+
 neither : {a b : Bool} → a ≡ false → b ≡ false → a || b ≡ false
 neither {a} {b} p q = ap (λ (t : Bool). t || b) p ∙ q
 
-loose-first : (a b : Bool) → a || b ≡ false → a ≡ false
+pub loose-first : (a b : Bool) → a || b ≡ false → a ≡ false
 loose-first true b h = h
 loose-first false b h = refl
 
-loose-second : (a b : Bool) → a || b ≡ false → b ≡ false
+pub loose-second : (a b : Bool) → a || b ≡ false → b ≡ false
 loose-second true b h = absurd (true≢false h)
 loose-second false b h = h
 
@@ -63,14 +67,14 @@ fixedBy-bit (Stuck line level) values l v h = cond-bit (eqb l line) (levelNumber
 fixedBy-bit (Bridge a b is-and) values l v h =
     cond-bit (eqb l a || eqb l b) (bridged is-and (getD values a 0) (getD values b 0)) v (bridged-bit is-and (getD values a 0) (getD values b 0)) h
 
-pub fault-loose : (j : Job) (x : Fault) (l : ℕ) → isFixed x l ≡ false → Loose (faultFix j x) l
-fault-loose j x l h m v =
-    fixedBy-loose x (valuesTo free j m (lines j)) l v
-    (eqb-false l (faultA x) (loose-first (eqb l (faultA x)) (eqb l (faultB x)) h))
-    (eqb-false l (faultB x) (loose-second (eqb l (faultA x)) (eqb l (faultB x)) h))
+pub fixes-low : (x : Fault) (l : ℕ) → faultA x ≡ l → isFixed x l ≡ true
+fixes-low x l e = ap (λ (t : Bool). t || eqb l (faultB x)) (eq-eqb l (faultA x) (sym e))
+
+pub fixes-high : (x : Fault) (l : ℕ) → faultB x ≡ l → isFixed x l ≡ true
+fixes-high x l e = or-right (eqb l (faultA x)) (eqb l (faultB x)) (eq-eqb l (faultB x) (sym e))
 
 -- what a fault gives the lines that it fixes
-abbrev given : Fault → List ℕ → ℕ
+abbrev pub given : Fault → List ℕ → ℕ
 given (Stuck line level) good = levelNumber level
 given (Bridge a b is-and) good = bridged is-and (getD good a 0) (getD good b 0)
 
@@ -83,32 +87,15 @@ unfolding fixedBy
 fixed-value (Stuck line level) good l v h = ap (λ (t : Bool). cond t (levelNumber level) v) (either (eqb l line) h)
 fixed-value (Bridge a b is-and) good l v h = ap (λ (t : Bool). cond t (bridged is-and (getD good a 0) (getD good b 0)) v) h
 
-module _ (j : Job) (rows : List ℕ) (good : Good j rows) where
-  line-given : (x : Fault) (l : ℕ) → l < lines j → isFixed x l ≡ true → (m : ℕ) → given x (valuesTo free j m (lines j)) ≡ lineValue (faultFix j x) j l m
-  line-given x l below h m = sym (line-own (faultFix j x) j m l below ∙ fixed-value x (valuesTo free j m (lines j)) l _ h)
-
-  read : (k : ℕ) → k < lines j → (m : ℕ) → m < 2 ^ (j .inputs) → entry (rowAt j k rows) m ≡ getD (valuesTo free j m (lines j)) k 0
+module _ (j : Job) (width : ℕ) (rows : List ℕ) (good : Good j width rows) where
+  read : (k : ℕ) → k < lines j → (m : ℕ) → m < 2 ^ (j .inputs) → entry (rowAt j (k * width) rows) m ≡ getD (valuesTo free j m (lines j)) k 0
   unfolding lineValue
-  read k h = line-read goodFix (λ m l v bit. bit) j k h (rowAt j k rows) (good .line k h)
+  read k h = line-read goodFix (λ m l v bit. bit) j k h (rowAt j (k * width) rows) (good .line k h)
 
-  pub fixed-table : (x : Fault) → Fixes j x → (l : ℕ) → l < lines j → isFixed x l ≡ true → fixedRow (shapeOf (j .inputs)) x rows ≡ lineTable (faultFix j x) j l
+  pub given-table : (x : Fault) → Fixes j x → fixedRow (shapeOf (j .inputs)) width x rows ≡ packed (2 ^ (j .inputs)) (λ m. given x (valuesTo free j m (lines j)))
   unfolding fixedRow
-  fixed-table (Stuck line level) fixes l below h =
-      packed-ext (2 ^ (j .inputs)) (λ m. levelNumber level) (lineValue (faultFix j (Stuck line level)) j l)
-      (λ m _. line-given (Stuck line level) l below h m)
-  fixed-table (Bridge a b is-and) fixes l below h =
-      packed-ext (2 ^ (j .inputs)) (λ m. bridged is-and (entry (rowAt j a rows) m) (entry (rowAt j b rows) m)) (lineValue (faultFix j (Bridge a b is-and)) j l)
-      (λ m k.
-      (λ i. bridged is-and (read a (omega (arith, fixes .low, fixes .high)) m k i) (read b (fixes .high) m k i))
-      ∙ line-given (Bridge a b is-and) l below h m)
-
-pub fixing-bits : (j : Job) (c : ℕ) → Bits (fixingOf j c)
-unfolding fixingOf
-fixing-bits j zero m l v h = h
-fixing-bits j (suc i) m l v h = fixedBy-bit (faultAt j i) (valuesTo free j m (lines j)) l v h
-
-pub fixing-fault : (j : Job) (first i : ℕ) → 1 ≤ first → fixingOf j (first + i) ≡ faultFix j (faultAt j (first - 1 + i))
-unfolding fixingOf
-fixing-fault j first i h =
-    let e : first + i ≡ suc (first - 1 + i) = omega arith in
-    ap (fixingOf j) e
+  given-table (Stuck line level) fixes = refl
+  given-table (Bridge a b is-and) fixes =
+      packed-ext (2 ^ (j .inputs)) (λ m. bridged is-and (entry (rowAt j (a * width) rows) m) (entry (rowAt j (b * width) rows) m))
+      (λ m. given (Bridge a b is-and) (valuesTo free j m (lines j)))
+      (λ m k. λ i. bridged is-and (read a (omega (arith, fixes .low, fixes .high)) m k i) (read b (fixes .high) m k i))

@@ -1,42 +1,47 @@
--- The polynomials of a job's gates, worked out gate after gate (specs/Lines.antt).
+-- The polynomials of the kinds of gates, worked out kind after kind (specs/Lines.antt).
 --
---   Forming        those of the first q gates are worked out
+--   kind-of        the gate of a kind's number has the kind
+--   Forming        those of the first kinds are worked out
 --   forming-none   none yet
 --   forming-next   one more
 --   forming-all    all
 use Prim.Native.Nat.{ℕ, _+_, _≤_, _<_}
 use native.Mathlib.Omega.{arith}
-use mathlib.Core.Path.{_≡_, _∙_}
+use mathlib.Core.Path.{_≡_, ap, _∙_}
 use mathlib.Core.List.{List}
 use borrow.Author.Count.{below-none, below-more}
 use lib.ListN.{length, getD, set, replicate, length-set, length-replicate}
 use lib.Seq.{getD-set-same, getD-set-other}
-use Rattle.job.specs.Layout.{maxGates}
-use Rattle.job.specs.Record.{gateKind, gateAt}
-use Rattle.job.specs.declared.Job.{Job}
+use Rattle.bits.proofs.Below.{equal-below}
+use Rattle.job.specs.Record.{gateKind, gateOf}
+use Rattle.job.specs.declared.Gate.{Gate}
 use Rattle.gates.specs.Form.{kindForm}
 use Rattle.gates.specs.declared.Form.{Form}
 use Rattle.tables.specs.Lines.{noForm, Formed}
 use Rattle.tables.specs.declared.circuit.Forms.{Forms}
 
-pub record Forming (j : Job) (keep : ℕ) (of : List Form) (q : ℕ) : Type 0 where
-  pub whole : length of ≡ maxGates
-  pub done : (k : ℕ) → k < q → getD of k noForm ≡ kindForm (gateKind (gateAt j k)) keep
+pub kind-of : (kind : ℕ) → kind < 8 → gateKind (gateOf kind 0 0) ≡ kind
+kind-of kind h = equal-below (λ kind _. gateKind (gateOf kind 0 0)) (λ kind _. kind) 8 1 tt kind 0 h (omega arith)
 
-module _ (j : Job) (keep : ℕ) where
-  pub forming-none : Forming j keep (replicate maxGates noForm) 0
-  forming-none = record { whole = length-replicate maxGates noForm; done = below-none (λ (k : ℕ). getD (replicate maxGates noForm) k noForm ≡ kindForm (gateKind (gateAt j k)) keep) }
+pub record Forming (keep : ℕ) (of : List Form) (kind : ℕ) : Type 0 where
+  pub whole : length of ≡ 8
+  pub done : (k : ℕ) → k < kind → getD of k noForm ≡ kindForm k keep
 
-  pub forming-next : (of : List Form) (q : ℕ) (form : Form) → Forming j keep of q → q < maxGates → form ≡ kindForm (gateKind (gateAt j q)) keep
-      → Forming j keep (set of q form) (q + 1)
-  forming-next of q form w h e =
+module _ (keep : ℕ) where
+  pub forming-none : Forming keep (replicate 8 noForm) 0
+  forming-none = record { whole = length-replicate 8 noForm; done = below-none (λ (k : ℕ). getD (replicate 8 noForm) k noForm ≡ kindForm k keep) }
+
+  pub forming-next : (of : List Form) (kind : ℕ) (gate : Gate) (form : Form) → Forming keep of kind → kind < 8 → gate ≡ gateOf kind 0 0
+      → form ≡ kindForm (gateKind gate) keep → Forming keep (set of kind form) (kind + 1)
+  forming-next of kind gate form w h is e =
       record {
-        whole = length-set of q form ∙ w .whole;
+        whole = length-set of kind form ∙ w .whole;
         done =
-            below-more (λ (k : ℕ). getD (set of q form) k noForm ≡ kindForm (gateKind (gateAt j k)) keep) q
-            (λ k l. getD-set-other of q k form noForm (λ (e : k ≡ q). absurd (omega arith)) ∙ w .done k l)
-            (getD-set-same of q form noForm (omega (arith, w .whole)) ∙ e);
+            below-more (λ (k : ℕ). getD (set of kind form) k noForm ≡ kindForm k keep) kind
+            (λ k l. getD-set-other of kind k form noForm (λ (e : k ≡ kind). absurd (omega arith)) ∙ w .done k l)
+            (getD-set-same of kind form noForm (omega (arith, w .whole)) ∙ e
+            ∙ ap (λ (g : Gate). kindForm (gateKind g) keep) is ∙ ap (λ (k : ℕ). kindForm k keep) (kind-of kind h));
       }
 
-  pub forming-all : (forms : Forms) (q : ℕ) → Forming j keep (forms .of) q → j .«gate_count» ≤ q → Formed j keep forms
-  forming-all forms q w h = record { form = λ k l. w .done k (omega arith) }
+  pub forming-all : (forms : Forms) (kind : ℕ) → Forming keep (forms .of) kind → 8 ≤ kind → Formed keep forms
+  forming-all forms kind w h = record { form = λ k l. w .done k (omega arith) }

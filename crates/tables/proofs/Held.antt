@@ -5,7 +5,6 @@
 --   line-read     an entry of bytes that are a line's table is the line's value
 --   Puts          a row is put, and the others are as they were
 --   row-puts      so where a row is spliced
---   row-stays     so where the row stands already
 --   input-table   the table of an input that is not fixed
 --   gate-table    the table of a gate that is not fixed, from the tables that it reads
 use Prim.Native.Nat.{ℕ, _+_, _*_, _^_, _≤_, _<_}
@@ -45,9 +44,6 @@ module _ (j : Job) (r : ℕ) (table rows after : List ℕ) where
         row = ap (rowAt j r) put ∙ part-same rows (r * tableBytes (j .inputs)) (tableBytes (j .inputs)) table long inside;
         kept = λ k ne. ap (rowAt j k) put ∙ part-other rows k r (tableBytes (j .inputs)) table long inside ne;
       }
-
-  pub row-stays : rowAt j r rows ≡ table → after ≡ rows → Puts j r table rows after
-  row-stays is same = record { row = ap (rowAt j r) same ∙ is; kept = λ k ne. ap (rowAt j k) same }
 
 module _ (fix : ℕ → Fixing) (bits : Bits fix) (j : Job) where
   pub line-read : (l : ℕ) → l < lines j → (s : List ℕ) → s ≡ lineTable fix j l → (m : ℕ) → m < 2 ^ (j .inputs) → entry s m ≡ lineValue fix j l m

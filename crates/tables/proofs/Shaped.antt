@@ -130,34 +130,34 @@ gate-columns n kind r s i rows h =
     place a t = sym (add-assoc (a * tableBytes n) (i * tableBytes n) t) ∙ ap (λ (k : ℕ). k + t) (sym (add-mul a i (tableBytes n)))
 
 -- the table that a fault gives its lines
-module _ (shape : Shape) (to : ℕ) (rows : List ℕ) (x : Fault) (below : Below shape (faultA x * shape .bytes) (faultB x * shape .bytes) to rows) where
+module _ (shape : Shape) (to width : ℕ) (rows : List ℕ) (x : Fault) (below : Below shape (faultA x * width * shape .bytes) (faultB x * width * shape .bytes) to rows) where
   pub fixed-stuck : (l : ℕ) (level : Bool) → x ≡ Stuck l level → {out : List ℕ} → out ≡ splice rows to (packed (2 ^ (shape .inputs)) (λ m. levelNumber level))
-      → out ≡ splice rows to (fixedRow shape x rows)
+      → out ≡ splice rows to (fixedRow shape width x rows)
   unfolding fixedRow
-  fixed-stuck l level is e = e ∙ ap (λ (y : Fault). splice rows to (fixedRow shape y rows)) (sym is)
+  fixed-stuck l level is e = e ∙ ap (λ (y : Fault). splice rows to (fixedRow shape width y rows)) (sym is)
 
   pub fixed-bridge : (a b : ℕ) (is-and : Bool) → x ≡ Bridge a b is-and → (form : Form) → form ≡ kindForm (cond is-and 0 1) (shape .keep) → {out : List ℕ}
-      → out ≡ cond (stepFits (a * shape .bytes) (b * shape .bytes) to (shape .bytes) (length rows))
-      (splice rows to (tabulate (shape .bytes) (combined form (a * shape .bytes) (b * shape .bytes) rows))) rows
-      → out ≡ splice rows to (fixedRow shape x rows)
+      → out ≡ cond (stepFits (a * width * shape .bytes) (b * width * shape .bytes) to (shape .bytes) (length rows))
+      (splice rows to (tabulate (shape .bytes) (combined form (a * width * shape .bytes) (b * width * shape .bytes) rows))) rows
+      → out ≡ splice rows to (fixedRow shape width x rows)
   unfolding fixedRow
   fixed-bridge a b is-and is form formed e =
-      bridge-spliced shape (a * shape .bytes) (b * shape .bytes) to rows
-      (subst (λ (y : Fault). Below shape (faultA y * shape .bytes) (faultB y * shape .bytes) to rows) is below) is-and form formed e
-      ∙ ap (λ (y : Fault). splice rows to (fixedRow shape y rows)) (sym is)
+      bridge-spliced shape (a * width * shape .bytes) (b * width * shape .bytes) to rows
+      (subst (λ (y : Fault). Below shape (faultA y * width * shape .bytes) (faultB y * width * shape .bytes) to rows) is below) is-and form formed e
+      ∙ ap (λ (y : Fault). splice rows to (fixedRow shape width y rows)) (sym is)
 
-  pub low-fits : length rows < 2 ^ 64 → {a b : ℕ} {is-and : Bool} → x ≡ Bridge a b is-and → Fits w64 (a * shape .bytes)
-  low-fits short is = record { fits = omega (arith, below .at .room, below .first, ap (λ (y : Fault). faultA y * shape .bytes) is) }
+  pub low-fits : length rows < 2 ^ 64 → {a b : ℕ} {is-and : Bool} → x ≡ Bridge a b is-and → Fits w64 (a * width * shape .bytes)
+  low-fits short is = record { fits = omega (arith, below .at .room, below .first, ap (λ (y : Fault). faultA y * width * shape .bytes) is) }
 
-  pub high-fits : length rows < 2 ^ 64 → {a b : ℕ} {is-and : Bool} → x ≡ Bridge a b is-and → Fits w64 (b * shape .bytes)
-  high-fits short is = record { fits = omega (arith, below .at .room, below .second, ap (λ (y : Fault). faultB y * shape .bytes) is) }
+  pub high-fits : length rows < 2 ^ 64 → {a b : ℕ} {is-and : Bool} → x ≡ Bridge a b is-and → Fits w64 (b * width * shape .bytes)
+  high-fits short is = record { fits = omega (arith, below .at .room, below .second, ap (λ (y : Fault). faultB y * width * shape .bytes) is) }
 
 -- the gate step over the blocks of a gate's line and of the lines that it reads
-pub gate-stepped : (b : Batch) (line p q bytes : ℕ) (rows : List ℕ) → p < line → q < line → rowOf b line * bytes + b .count * bytes ≤ length rows
+pub gate-stepped : (b : Batch) (line p q bytes : ℕ) (rows : List ℕ) → p < line → q < line → rowOf b line * bytes + b .width * bytes ≤ length rows
     → {x y to : ℕ} → x ≡ rowOf b p * bytes → y ≡ rowOf b q * bytes → to ≡ rowOf b line * bytes → (form : Form) {out : List ℕ}
-    → out ≡ cond (stepFits x y to (b .count * bytes) (length rows)) (splice rows to (tabulate (b .count * bytes) (combined form x y rows))) rows
-    → out ≡ splice rows (rowOf b line * bytes) (tabulate (b .count * bytes) (combined form (rowOf b p * bytes) (rowOf b q * bytes) rows))
+    → out ≡ cond (stepFits x y to (b .width * bytes) (length rows)) (splice rows to (tabulate (b .width * bytes) (combined form x y rows))) rows
+    → out ≡ splice rows (rowOf b line * bytes) (tabulate (b .width * bytes) (combined form (rowOf b p * bytes) (rowOf b q * bytes) rows))
 gate-stepped b line p q bytes rows hp hq room {x} {y} {to} ex ey eto form e =
     fitted _ rows
-    (step-fits x y to (b .count * bytes) (length rows) (omega arith) (omega (arith, block-before b p line bytes hp)) (omega (arith, block-before b q line bytes hq))) e
-    ∙ (λ i. splice rows (eto i) (tabulate (b .count * bytes) (combined form (ex i) (ey i) rows)))
+    (step-fits x y to (b .width * bytes) (length rows) (omega arith) (omega (arith, block-before b p line bytes hp)) (omega (arith, block-before b q line bytes hq))) e
+    ∙ (λ i. splice rows (eto i) (tabulate (b .width * bytes) (combined form (ex i) (ey i) rows)))

@@ -1,24 +1,25 @@
--- Laws of the room that the rows have (specs/Work.antt): what the functions that fill rows require, and that the places of rows fit a word.
+-- Laws of the room that the rows have (specs/Side.antt, specs/Known.antt): what the functions that fill rows require, and that the places of rows fit a word.
 --
 --   gate-index       a gate's number is an index of the record's gates
 --   lines-most       the lines of a valid job are no more than those of the largest circuit
 --   line-index       so each of them is an index of an array of lines
 --   input-line, gate-line   inputs and gates have lines
---   fault-number     the circuits of a batch without the good one have faults of the job
 --   fault-index      a fault's number is an index of the record's faults
 --   tableBytes-most  no table has more bytes than that of the most inputs
 --   bytes-some       each has one
+--   row-order        a row before another ends before it
 --   times-some       a factor of a product that fits a word fits one
---   batch-good, batch-faulty   where there are rows for a batch, a batch is sound
---   wide-kept, wide-fewer      so for rows of the same length, and for fewer circuits
---   shape-bytes, wide-bytes   the shape has the table's bytes, one or more (shape-some, wide-some)
---   sound-kept       rows of the same length stay sound
 --   block-before     a line's block ends before those of later lines
+--   reads-small      so the place of a block that is read fits a word
 --   row-before       the rows of a line's block are before those of later lines
+--   row-behind       and before those behind all blocks
+--   shape-bytes      the shape has the table's bytes, one or more (shape-some)
+--   sound-kept       rows of the same length stay sound
+--   input-shape      an input of the job is one of the shape
 --   row-inside       a row of a line's block lies within the rows, and so does the block (block-inside, block-room)
 --   block-space      there is room for the block, and its place fits a word (place-small)
---   column-fits, offset-fits   so does the place of a row in it
---   column-below     the good circuit's rows are before a row of a faulty circuit
+--   spacious-kept, spacious-bytes, spacious-some   so for rows with differences behind the blocks
+--   narrow-inside    the blocks lie within these
 use Prim.Native.Nat.{ℕ, suc, _+_, _-_, _*_, _^_, _≤_, _<_}
 use native.Mathlib.Nat.{le-trans, mul-le-mul-left, mul-le-mul-right, suc-mul, add-mul, mul-one}
 use native.Mathlib.Omega.{arith}
@@ -28,19 +29,19 @@ use lib.ListN.{length}
 use lib.Pow.{pow-mono, pow-pos}
 use mir.Syntax.{w64}
 use mir.Val.{Fits}
-use Rattle.job.proofs.Sizes.{most-inputs}
 use Rattle.job.specs.Check.{Valid}
 use Rattle.job.specs.Layout.{maxInputs, maxGates, maxFaults}
-use Rattle.job.specs.Record.{faultA, faultB, lines}
-use Rattle.job.specs.declared.Fault.{Fault}
+use Rattle.job.specs.Record.{lines}
 use Rattle.job.specs.declared.Job.{Job}
 use Rattle.gates.specs.Form.{tableBytes}
-use Rattle.tables.specs.Sizes.{shapeOf, Room, Space, Below}
+use Rattle.tables.specs.Sizes.{shapeOf, Space}
 use Rattle.tables.specs.Lines.{maxLines, rowOf}
-use Rattle.tables.specs.Work.{maxTableBytes, Wide, Sound, Fixes}
+use Rattle.tables.specs.Known.{Spacious, Narrow}
+use Rattle.tables.specs.Side.{Sound, Reached}
+use Rattle.tables.specs.Work.{maxTableBytes}
 use Rattle.tables.specs.declared.circuit.Batch.{Batch}
 use Rattle.tables.specs.declared.rows.Shape.{Shape}
-use Rattle.tables.proofs.Sizes.{table-fits}
+use Rattle.tables.proofs.Sizes.{table-fits, byte-inputs}
 
 pub gate-index : {q count : ℕ} → q < count → count ≤ maxGates → q < maxGates
 gate-index h few = omega arith
@@ -57,9 +58,6 @@ input-line j h = omega arith
 pub gate-line : (j : Job) {q : ℕ} → q < j .«gate_count» → j .inputs + q < lines j
 gate-line j h = omega arith
 
-pub fault-number : {first count faults i : ℕ} → 1 ≤ first → first + count ≤ faults + 1 → i < count → first - 1 + i < faults
-fault-number h within l = omega arith
-
 pub fault-index : (j : Job) → Valid j → {k : ℕ} → k < j .«fault_count» → k < maxFaults
 fault-index j valid h = omega (arith, valid .faults-few)
 
@@ -70,78 +68,50 @@ pub bytes-some : (n : ℕ) → 1 ≤ tableBytes n
 bytes-some n = omega (arith, pow-pos n)
 
 -- a row before another ends before it
-row-order : (r s w : ℕ) → r < s → r * w + w ≤ s * w
+pub row-order : (r s w : ℕ) → r < s → r * w + w ≤ s * w
 row-order r s w h = omega (arith, mul-le-mul-right w h, suc-mul r w)
 
 pub times-some : (row bytes : ℕ) → 1 ≤ bytes → row * bytes < 2 ^ 64 → row < 2 ^ 64
 times-some row bytes some h = omega (arith, mul-le-mul-left row some, mul-one row)
 
-module _ (j : Job) (shape : Shape) (width : ℕ) (rows : List ℕ) (wide : Wide j shape width rows) where
-  pub batch-good : Sound j shape (record { base = 0; first = 0; count = 1 }) rows
-  batch-good =
-      let few : 0 + lines j * 1 ≤ lines j + lines j * width = omega (arith, mul-one (lines j)) in
-      record {
-        valid = wide .valid;
-        shaped = wide .shaped;
-        room = le-trans (mul-le-mul-right (tableBytes (j .inputs)) few) (wide .room);
-        behind = λ h. absurd (omega arith);
-        within = omega arith;
-        alone = λ _. refl;
-      }
-
-  pub batch-faulty : (first : ℕ) → 1 ≤ first → first + width ≤ j .«fault_count» + 1 → Sound j shape (record { base = lines j; first = first; count = width }) rows
-  batch-faulty first some h =
-      record { valid = wide .valid; shaped = wide .shaped; room = wide .room; behind = λ _. omega arith; within = h; alone = λ none. absurd (omega (arith, none)) }
-
-  pub wide-kept : (after : List ℕ) → length after ≡ length rows → Wide j shape width after
-  wide-kept after e =
-      record { valid = wide .valid; shaped = wide .shaped; room = subst (λ (k : ℕ). (lines j + lines j * width) * tableBytes (j .inputs) ≤ k) (sym e) (wide .room) }
-
-  pub wide-fewer : (count : ℕ) → count ≤ width → Wide j shape count rows
-  wide-fewer count h =
-      let few : lines j + lines j * count ≤ lines j + lines j * width = omega (arith, mul-le-mul-left (lines j) h) in
-      record { valid = wide .valid; shaped = wide .shaped; room = le-trans (mul-le-mul-right (tableBytes (j .inputs)) few) (wide .room) }
-
-  pub wide-bytes : shape .bytes ≡ tableBytes (j .inputs)
-  wide-bytes = ap (λ (s : Shape). s .bytes) (wide .shaped)
-
-  pub wide-some : 1 ≤ shape .bytes
-  wide-some = subst (λ (k : ℕ). 1 ≤ k) (sym wide-bytes) (bytes-some (j .inputs))
-
 -- a line's block ends before those of later lines
-pub block-before : (b : Batch) (k l bytes : ℕ) → k < l → rowOf b k * bytes + b .count * bytes ≤ rowOf b l * bytes
+pub block-before : (b : Batch) (k l bytes : ℕ) → k < l → rowOf b k * bytes + b .width * bytes ≤ rowOf b l * bytes
 block-before b k l bytes h =
-    let e : rowOf b k + b .count ≤ rowOf b l = omega (arith, mul-le-mul-right (b .count) h, suc-mul k (b .count)) in
-    omega (arith, mul-le-mul-right bytes e, add-mul (rowOf b k) (b .count) bytes)
+    let e : rowOf b k + b .width ≤ rowOf b l = omega (arith, mul-le-mul-right (b .width) h, suc-mul k (b .width)) in
+    omega (arith, mul-le-mul-right bytes e, add-mul (rowOf b k) (b .width) bytes)
 
 -- so the place of a block that is read fits a word
-pub reads-small : (b : Batch) (l bytes : ℕ) (rows : List ℕ) {k a : ℕ} → k < l → a ≡ k → rowOf b l * bytes + b .count * bytes ≤ length rows
+pub reads-small : (b : Batch) (l bytes : ℕ) (rows : List ℕ) {k a : ℕ} → k < l → a ≡ k → rowOf b l * bytes + b .width * bytes ≤ length rows
     → length rows < 2 ^ 64 → rowOf b a * bytes < 2 ^ 64
 reads-small b l bytes rows {k} {a} h e room short = omega (arith, block-before b k l bytes h, ap (λ (n : ℕ). rowOf b n * bytes) e)
 
-pub row-before : (b : Batch) (k l i : ℕ) → k < l → i < b .count → rowOf b k + i < rowOf b l
-row-before b k l i h less = omega (arith, mul-le-mul-right (b .count) h, suc-mul k (b .count))
+pub row-before : (b : Batch) (k l i : ℕ) → k < l → i < b .width → rowOf b k + i < rowOf b l
+row-before b k l i h less = omega (arith, mul-le-mul-right (b .width) h, suc-mul k (b .width))
 
-module _ (j : Job) (shape : Shape) (b : Batch) (rows : List ℕ) (sound : Sound j shape b rows) where
+pub row-behind : (j : Job) (b : Batch) (l i : ℕ) → l < lines j → i < b .width → rowOf b l + i < lines j * b .width
+row-behind j b l i h less = omega (arith, mul-le-mul-right (b .width) h, suc-mul l (b .width))
+
+module _ (j : Job) (shape : Shape) (stems : List ℕ) (b : Batch) (rows : List ℕ) (sound : Sound j shape stems b rows) where
   pub shape-bytes : shape .bytes ≡ tableBytes (j .inputs)
   shape-bytes = ap (λ (s : Shape). s .bytes) (sound .shaped)
 
-  pub sound-kept : (after : List ℕ) → length after ≡ length rows → Sound j shape b after
+  pub sound-kept : (after : List ℕ) → length after ≡ length rows → Sound j shape stems b after
   sound-kept after e =
       record {
         valid = sound .valid;
         shaped = sound .shaped;
-        room = subst (λ (k : ℕ). (b .base + lines j * b .count) * tableBytes (j .inputs) ≤ k) (sym e) (sound .room);
-        behind = sound .behind;
-        within = sound .within;
-        alone = sound .alone;
+        room = subst (λ (k : ℕ). lines j * b .width * tableBytes (j .inputs) ≤ k) (sym e) (sound .room);
+        some = sound .some;
+        listed = sound .listed;
+        rising = sound .rising;
+        below = sound .below;
       }
 
   pub shape-some : 1 ≤ shape .bytes
   shape-some = subst (λ (k : ℕ). 1 ≤ k) (sym shape-bytes) (bytes-some (j .inputs))
 
-  few : shape .inputs < 64
-  few = omega (arith, ap (λ (s : Shape). s .inputs) (sound .shaped), sound .valid .few, most-inputs)
+  few : shape .inputs ≤ 11
+  few = omega (arith, ap (λ (s : Shape). s .inputs) (sound .shaped), sound .valid .few, byte-inputs)
 
   shaped : shape ≡ shapeOf (shape .inputs)
   shaped = sound .shaped ∙ ap (λ (s : Shape). shapeOf (s .inputs)) (sym (sound .shaped))
@@ -150,51 +120,46 @@ module _ (j : Job) (shape : Shape) (b : Batch) (rows : List ℕ) (sound : Sound 
   input-shape h = omega (arith, ap (λ (s : Shape). s .inputs) (sound .shaped))
 
   module _ (l : ℕ) (h : l < lines j) where
-    pub block-inside : (rowOf b l + b .count) * tableBytes (j .inputs) ≤ length rows
+    pub block-inside : (rowOf b l + b .width) * tableBytes (j .inputs) ≤ length rows
     block-inside =
-        let e : rowOf b l + b .count ≤ b .base + lines j * b .count = omega (arith, mul-le-mul-right (b .count) h, suc-mul l (b .count)) in
+        let e : rowOf b l + b .width ≤ lines j * b .width = omega (arith, mul-le-mul-right (b .width) h, suc-mul l (b .width)) in
         le-trans (mul-le-mul-right (tableBytes (j .inputs)) e) (sound .room)
 
-    pub block-room : rowOf b l * shape .bytes + b .count * shape .bytes ≤ length rows
+    pub block-room : rowOf b l * shape .bytes + b .width * shape .bytes ≤ length rows
     block-room =
-        subst (λ (w : ℕ). rowOf b l * w + b .count * w ≤ length rows) (sym shape-bytes)
-        (omega (arith, add-mul (rowOf b l) (b .count) (tableBytes (j .inputs)), block-inside))
+        subst (λ (w : ℕ). rowOf b l * w + b .width * w ≤ length rows) (sym shape-bytes)
+        (omega (arith, add-mul (rowOf b l) (b .width) (tableBytes (j .inputs)), block-inside))
 
-    pub block-space : {to : ℕ} → to ≡ rowOf b l * shape .bytes → Space shape to (b .count) rows
+    pub block-space : {to : ℕ} → to ≡ rowOf b l * shape .bytes → Space shape to (b .width) rows
     block-space e =
-        record { shaped = shaped; few = few; room = subst (λ (k : ℕ). k + b .count * shape .bytes ≤ length rows) (sym e) block-room }
+        record { shaped = shaped; few = few; room = subst (λ (k : ℕ). k + b .width * shape .bytes ≤ length rows) (sym e) block-room }
 
     pub place-small : length rows < 2 ^ 64 → rowOf b l * shape .bytes < 2 ^ 64
     place-small short = omega (arith, block-room)
 
-    module _ (i : ℕ) (less : i < b .count) where
-      pub row-inside : (rowOf b l + i) * tableBytes (j .inputs) + tableBytes (j .inputs) ≤ length rows
-      row-inside = le-trans (row-order (rowOf b l + i) (rowOf b l + b .count) (tableBytes (j .inputs)) (omega arith)) block-inside
+    pub row-inside : (i : ℕ) → i < b .width → (rowOf b l + i) * tableBytes (j .inputs) + tableBytes (j .inputs) ≤ length rows
+    row-inside i less = le-trans (row-order (rowOf b l + i) (rowOf b l + b .width) (tableBytes (j .inputs)) (omega arith)) block-inside
 
-      pub column-inside : rowOf b l * shape .bytes + i * shape .bytes + shape .bytes ≤ length rows
-      column-inside =
-          subst (λ (w : ℕ). rowOf b l * w + i * w + w ≤ length rows) (sym shape-bytes)
-          (omega (arith, add-mul (rowOf b l) i (tableBytes (j .inputs)), row-inside))
+module _ (j : Job) (shape : Shape) (place : ℕ) (rows : List ℕ) (spacious : Spacious j shape place rows) where
+  pub spacious-kept : (after : List ℕ) → length after ≡ length rows → Spacious j shape place after
+  spacious-kept after e =
+      record {
+        valid = spacious .valid;
+        shaped = spacious .shaped;
+        room = subst (λ (k : ℕ). (place + 2) * tableBytes (j .inputs) ≤ k) (sym e) (spacious .room);
+      }
 
-      pub column-fits : length rows < 2 ^ 64 → {to : ℕ} → to ≡ rowOf b l * shape .bytes → Fits w64 (to + i * shape .bytes)
-      column-fits short e = record { fits = omega (arith, column-inside) }
+  pub spacious-bytes : shape .bytes ≡ tableBytes (j .inputs)
+  spacious-bytes = ap (λ (s : Shape). s .bytes) (spacious .shaped)
 
-      pub offset-fits : length rows < 2 ^ 64 → Fits w64 (i * shape .bytes)
-      offset-fits short = record { fits = omega (arith, column-inside) }
+  pub spacious-some : 1 ≤ shape .bytes
+  spacious-some = subst (λ (k : ℕ). 1 ≤ k) (sym spacious-bytes) (bytes-some (j .inputs))
 
-      pub column-below : (x : Fault) → Fixes j x → 1 ≤ b .first → {to : ℕ} → to ≡ rowOf b l * shape .bytes
-          → Below shape (faultA x * shape .bytes) (faultB x * shape .bytes) (to + i * shape .bytes) rows
-      column-below x fixes some {to} e =
-          record {
-            at = record { shaped = shaped; few = few; room = subst (λ (k : ℕ). k + i * shape .bytes + shape .bytes ≤ length rows) (sym e) column-inside };
-            first = before (faultA x) (omega (arith, fixes .low, fixes .high));
-            second = before (faultB x) (fixes .high);
-          }
-        where
-          before : (a : ℕ) → a < lines j → a * shape .bytes + shape .bytes ≤ to + i * shape .bytes
-          before a less =
-              omega (
-                arith,
-                row-order a (rowOf b l + i) (shape .bytes) (omega (arith, sound .behind some)),
-                add-mul (rowOf b l) i (shape .bytes),
-              )
+  -- a row up to the one behind the differences
+  pub spacious-row : (r : ℕ) → r ≤ place + 1 → r * shape .bytes + shape .bytes ≤ length rows
+  spacious-row r h =
+      le-trans (row-order r (place + 2) (shape .bytes) (omega arith)) (subst (λ (k : ℕ). (place + 2) * k ≤ length rows) (sym spacious-bytes) (spacious .room))
+
+  pub narrow-inside : (width : ℕ) → Narrow j width place → lines j * width * tableBytes (j .inputs) ≤ length rows
+  narrow-inside width narrow =
+      let e : lines j * width ≤ place + 2 = omega (arith, narrow) in le-trans (mul-le-mul-right (tableBytes (j .inputs)) e) (spacious .room)

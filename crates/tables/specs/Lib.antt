@@ -1,6 +1,8 @@
-pub mod Chains
 pub mod Circuit
+pub mod Differences
+pub mod Known
 pub mod Lines
 pub mod Operations
+pub mod Side
 pub mod Sizes
 pub mod Work

@@ -10,6 +10,7 @@
 use Prim.Native.Nat.{ℕ, zero, suc, _+_, _*_, _^_, _≤_, _<_}
 use mathlib.Core.Path.{_≡_}
 use mathlib.Core.List.{List, [], _++_}
+use mathlib.Core.Logic.{_⊎_}
 use lib.ListN.{length}
 use Rattle.bits.specs.Packed.{packed, entry}
 use Rattle.job.specs.Record.{levelNumber}
@@ -28,9 +29,10 @@ pub record Room (shape : Shape) (to : ℕ) (rows : List ℕ) : Type 0 where
   pub few : shape .inputs < 64
   pub room : to + shape .bytes ≤ length rows
 
+-- a byte has a bit for each input behind the third
 pub record Space (shape : Shape) (to count : ℕ) (rows : List ℕ) : Type 0 where
   pub shaped : shape ≡ shapeOf (shape .inputs)
-  pub few : shape .inputs < 64
+  pub few : shape .inputs ≤ 11
   pub room : to + count * shape .bytes ≤ length rows
 
 pub record Below (shape : Shape) (x y to : ℕ) (rows : List ℕ) : Type 0 where
@@ -42,13 +44,15 @@ unfoldable pub block : ℕ → (ℕ → List ℕ) → List ℕ
 block zero table = []
 block (suc i) table = block i table ++ table i
 
-unfoldable pub fixedRow : Shape → Fault → List ℕ → List ℕ
-fixedRow shape (Stuck l level) rows = packed (2 ^ (shape .inputs)) (λ m. levelNumber level)
-fixedRow shape (Bridge a b is-and) rows =
+-- the rows of the good circuit's tables are so many apart
+unfoldable pub fixedRow : Shape → ℕ → Fault → List ℕ → List ℕ
+fixedRow shape width (Stuck l level) rows = packed (2 ^ (shape .inputs)) (λ m. levelNumber level)
+fixedRow shape width (Bridge a b is-and) rows =
     packed (2 ^ (shape .inputs))
-    (λ m. bridged is-and (entry (part (a * shape .bytes) (shape .bytes) rows) m) (entry (part (b * shape .bytes) (shape .bytes) rows) m))
+    (λ m. bridged is-and (entry (part (a * width * shape .bytes) (shape .bytes) rows) m) (entry (part (b * width * shape .bytes) (shape .bytes) rows) m))
 
 pub record Least (a b c : ℕ) : Type 0 where
   pub first : c ≤ a
   pub second : c ≤ b
   pub some : 1 ≤ a → 1 ≤ b → 1 ≤ c
+  pub either : (c ≡ a) ⊎ (c ≡ b)

@@ -1,10 +1,10 @@
 -- `gates::alternate_bytes` meets its contract. The loop has written one byte for each turn.
 use Prim.Native.Nat.{_-_}
 use native.Mathlib.Omega.{arith}
-use mathlib.Core.Path.{refl}
 use borrow.Author.Count.{falls}
 use Rattle.gates.specs.Form.{alternating}
 use Rattle.gates.proofs.Splice.{Written, written-none, written-more, written-length, written-all}
+use Rattle.gates.proofs.Tabled.{alternate-low}
 use Rattle.gates.proofs.alternate_bytes.Statement.{statement}
 use Rattle.gates.proofs.alternate_bytes.Tie as tie
 
@@ -17,11 +17,14 @@ abbrev μ-loop : tie.MeasureT-loop
 loop-holds : tie.Need-loop-holds Inv-loop μ-loop
 loop-holds c = written-none (c .pre .0)
 
-shr-rows : tie.Need-shr-rows Inv-loop μ-loop
-shr-rows c = c .before .before .pre .1
+cast-low : tie.Need-cast-low Inv-loop μ-loop
+cast-low c = omega arith
 
 cast-rows : tie.Need-cast-rows Inv-loop μ-loop
-cast-rows c = omega arith
+cast-rows c = omega (arith, c .before .before .pre .1)
+
+shr-rows : tie.Need-shr-rows Inv-loop μ-loop
+shr-rows c = c .before .before .pre .1
 
 mul-rows : tie.Need-mul-rows Inv-loop μ-loop
 mul-rows c = omega arith
@@ -39,7 +42,7 @@ loop-less : tie.Need-loop-less Inv-loop μ-loop
 loop-less c = falls _ _ (c .loop-test .taken)
 
 loop-again : tie.Need-loop-again Inv-loop μ-loop
-loop-again c = written-more (c .before .loop .inv) _ (c .loop-test .taken) refl
+loop-again c = written-more (c .before .loop .inv) _ (c .loop-test .taken) (alternate-low (c .before .before .args .bit) (c .before .loop .i) (c .before .before .pre .1))
 
 same-length : tie.Need-same-length Inv-loop μ-loop
 same-length c = written-length (c .before .loop .inv)
@@ -54,8 +57,9 @@ alternate-bytes-spec =
     Inv-loop
     μ-loop
     loop-holds
-    shr-rows
+    cast-low
     cast-rows
+    shr-rows
     mul-rows
     add-rows
     slice-write-rows

@@ -1,16 +1,16 @@
 -- `tables::tables` meets its contract.
 use native.Mathlib.Omega.{arith}
 use Prim.Native.Nat.{ℕ, _+_, _*_, _≤_, _<_}
-use mathlib.Core.Path.{ap, subst}
+use mathlib.Core.Path.{ap, subst, _∙_}
 use denote.Ref.{now}
-use lib.ListN.{length, length-replicate}
-use Rattle.job.specs.Layout.{maxInputs, maxGates}
+use lib.ListN.{length}
+use Rattle.job.specs.Layout.{maxInputs}
 use Rattle.reading.specs.Reading.{reading}
 use Rattle.reading.proofs.Telling.{told-refused, told-done, told-valid}
+use Rattle.gates.specs.Rows.{splice}
 use Rattle.tables.specs.declared.rows.Shape.{Shape}
-use Rattle.tables.specs.Work.{maxTableBytes, blockBytes, allRowBytes}
 use Rattle.tables.proofs.Answering.{tables-unread, tables-memory, tables-done}
-use Rattle.tables.proofs.Delivered.{wide-block, table-count-fits}
+use Rattle.tables.proofs.Delivered.{table-count-fits, all-room, tables-start}
 use borrow.Author.Needs.{needs}
 use Rattle.tables.proofs.tables.Statement.{statement}
 use Rattle.tables.proofs.tables.Tie as tie
@@ -46,24 +46,23 @@ mul-if1 c = let a = c .before .before .before .before .before .before .before .b
 returns-2 : tie.Need-returns-2
 returns-2 c = let a = c .before .before .before .before .before .before .before .before .before .before .before .args in let r = c .before .before .before .before .before .before .before .before .read in let done = c .before .before .before .before .before .before .enum-told in tables-memory (now (a .bytes)) (now (a .out)) (r .result .job) (told-done (r .result) (reading (now (a .bytes))) (r .ensures) (done .given .1)) (subst (λ (k : ℕ). length (now (a .out)) < (r .result .job .«fault_count» + 1) * k) (ap (λ (x : Shape). x .bytes) (c .before .before .shape-of .ensures)) (c .if1 .taken))
 
-slice-aggregate-put-tables : tie.Need-slice-aggregate-put-tables
-slice-aggregate-put-tables c = search needs
+add-put-circuits : tie.Need-add-put-circuits
+add-put-circuits c = search needs
 
-put-tables-requires : tie.Need-put-tables-requires
-unfolding maxInputs maxGates maxTableBytes blockBytes allRowBytes
-put-tables-requires c κs = let a = c .before .before .before .before .before .before .before .before .before .before .before .before .before .args in let r = c .before .before .before .before .before .before .before .before .before .before .read in let done = c .before .before .before .before .before .before .before .before .enum-told in (wide-block (r .result .job) _ _ (told-valid (r .result) (now (a .bytes)) (r .ensures) (done .given .1)) (c .before .before .before .before .shape-of .ensures) (length-replicate {A = ℕ} 39168 0), subst (λ (k : ℕ). (r .result .job .«fault_count» + 1) * k ≤ length (now (a .out))) (ap (λ (x : Shape). x .bytes) (c .before .before .before .before .shape-of .ensures)) (c .before .before .if1 .left))
+put-circuits-requires : tie.Need-put-circuits-requires
+put-circuits-requires c κs = let a = c .before .before .before .before .before .before .before .before .before .before .before .before .args in let r = c .before .before .before .before .before .before .before .before .before .read in let done = c .before .before .before .before .before .before .before .enum-told in all-room (r .result .job) (c .before .before .before .shape-of .result) (length (now (a .out))) (told-valid (r .result) (now (a .bytes)) (r .ensures) (done .given .1)) (c .before .before .before .shape-of .ensures) (c .before .if1 .left)
 
 cast-t10 : tie.Need-cast-t10
 cast-t10 c = search needs
 
-cast-t11 : tie.Need-cast-t11
-cast-t11 c = search needs
+cast-t9 : tie.Need-cast-t9
+cast-t9 c = search needs
 
 same-length : tie.Need-same-length
-same-length c = c .before .before .before .before .before .put-tables .kept .0
+same-length c = c .before .before .before .before .put-circuits .kept .0
 
 returns-3 : tie.Need-returns-3
-returns-3 c = let a = c .before .before .before .before .before .before .before .before .before .before .before .before .before .before .before .before .before .before .before .args in let r = c .before .before .before .before .before .before .before .before .before .before .before .before .before .before .before .before .read in let done = c .before .before .before .before .before .before .before .before .before .before .before .before .before .before .enum-told in tables-done (now (a .bytes)) (now (a .out)) (r .result .job) (told-done (r .result) (reading (now (a .bytes))) (r .ensures) (done .given .1)) _ (subst (λ (k : ℕ). (r .result .job .«fault_count» + 1) * k ≤ length (now (a .out))) (ap (λ (x : Shape). x .bytes) (c .before .before .before .before .before .before .before .before .before .before .shape-of .ensures)) (c .before .before .before .before .before .before .before .before .if1 .left)) (c .before .before .before .before .before .put-tables .ensures)
+returns-3 c = let a = c .before .before .before .before .before .before .before .before .before .before .before .before .before .before .before .before .before .args in let r = c .before .before .before .before .before .before .before .before .before .before .before .before .before .before .read in let done = c .before .before .before .before .before .before .before .before .before .before .before .before .enum-told in tables-done (now (a .bytes)) (now (a .out)) (r .result .job) (told-done (r .result) (reading (now (a .bytes))) (r .ensures) (done .given .1)) _ (subst (λ (k : ℕ). (r .result .job .«fault_count» + 1) * k ≤ length (now (a .out))) (ap (λ (x : Shape). x .bytes) (c .before .before .before .before .before .before .before .before .shape-of .ensures)) (c .before .before .before .before .before .before .if1 .left)) (c .before .before .before .before .put-circuits .ensures ∙ ap (splice (now (a .out)) 0) (tables-start (r .result .job) (r .result .job .«fault_count» + 1)))
 
 pub tables-spec : {M : Type 1} → statement M
 tables-spec =
@@ -79,9 +78,9 @@ tables-spec =
     add-if1
     mul-if1
     returns-2
-    slice-aggregate-put-tables
-    put-tables-requires
+    add-put-circuits
+    put-circuits-requires
     cast-t10
-    cast-t11
+    cast-t9
     same-length
     returns-3)

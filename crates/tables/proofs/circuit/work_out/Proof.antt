@@ -1,25 +1,35 @@
--- `tables::circuit::work_out` meets its contract.
+-- `tables::circuit::work_out` meets its contract: the inputs, then the gates.
+use native.Mathlib.Omega.{arith}
 use mathlib.Core.Path.{_∙_}
+use Rattle.tables.proofs.Batching.{behind-then}
 use Rattle.tables.proofs.Space.{sound-kept}
 use Rattle.tables.proofs.circuit.work_out.Statement.{statement}
 use Rattle.tables.proofs.circuit.work_out.Tie as tie
 
-chain-of-requires : tie.Need-chain-of-requires
-chain-of-requires c κs = (c .before .pre .0 .valid, c .before .pre .0 .within)
+element-copy-out-not : tie.Need-element-copy-out-not
+element-copy-out-not c = omega arith
 
 input-blocks-requires : tie.Need-input-blocks-requires
-input-blocks-requires c κs = (c .before .before .before .pre .0, c .before .chain-of .ensures, c .before .before .before .pre .2)
+input-blocks-requires c κs = (c .before .before .before .before .pre .0, c .before .before .before .before .pre .1 .form 6 (omega arith))
 
 gate-blocks-requires : tie.Need-gate-blocks-requires
-gate-blocks-requires c κs = (sound-kept (c .before .before .before .before .before .before .before .args .job) (c .before .before .before .before .before .before .before .args .shape) (c .before .before .before .before .before .before .before .args .batch) (c .before .before .before .before .before .before .before .args .rows .now) (c .before .before .before .before .before .before .before .pre .0) (c .before .before .before .input-blocks .last .0) (c .before .before .before .input-blocks .kept .0), c .before .before .before .before .before .before .before .pre .1, c .before .before .before .before .before .chain-of .ensures, c .before .before .before .input-blocks .ensures)
+gate-blocks-requires c κs = (
+  sound-kept (c .before .before .before .before .before .before .before .before .args .job) (c .before .before .before .before .before .before .before .before .args .shape) (c .before .before .before .before .before .before .before .before .args .stems .now) (c .before .before .before .before .before .before .before .before .args .batch) (c .before .before .before .before .before .before .before .before .args .rows .now) (c .before .before .before .before .before .before .before .before .pre .0) (c .before .before .before .input-blocks .last .0) (c .before .before .before .input-blocks .kept .0),
+  c .before .before .before .before .before .before .before .before .pre .1,
+  c .before .before .before .input-blocks .ensures .0,
+  c .before .before .before .input-blocks .ensures .2,
+)
 
 same-length : tie.Need-same-length
 same-length c = c .before .before .gate-blocks .kept .0 ∙ c .before .before .before .before .before .before .input-blocks .kept .0
 
 returns : tie.Need-returns
-returns c = c .before .before .gate-blocks .ensures
+returns c = (
+  c .before .before .gate-blocks .ensures .0,
+  behind-then (c .before .before .before .before .before .before .before .before .before .before .before .args .job) (c .before .before .before .before .before .before .before .before .before .before .before .args .batch) (c .before .before .before .before .before .before .before .before .before .before .before .args .rows .now) (c .before .before .before .before .before .before .input-blocks .last .0) (c .before .before .gate-blocks .last .0) (c .before .before .before .before .before .before .input-blocks .ensures .1) (c .before .before .gate-blocks .ensures .1),
+)
 
 pub work-out-spec : {M : Type 1} → statement M
 work-out-spec =
     tie.close
-    (tie.spec chain-of-requires input-blocks-requires gate-blocks-requires same-length returns)
+    (tie.spec element-copy-out-not input-blocks-requires gate-blocks-requires same-length returns)
