@@ -7,7 +7,7 @@ use native.Mathlib.Omega.{arith}
 use mathlib.Core.List.{List·Memᴰ}
 use lib.ListN.{length}
 use Rattle.job.specs.declared.Job.{Job}
-use Rattle.spectra.specs.declared.Kind.{Kind}
+use Rattle.transform.specs.declared.Kind.{Kind}
 use Rattle.method.proofs.Signatures.{signature-from, signature-bounded}
 use Rattle.choosing.specs.Choosing.{needed, coefOf, scanOrder, signatureIn}
 use Rattle.choosing.specs.declared.Purpose.{Purpose}

@@ -33,7 +33,7 @@ use Rattle.tables.specs.declared.Counts.{Counts}
 use Rattle.tables.specs.declared.TablesAnswer.{TablesAnswer}
 use Rattle.tables.specs.declared.TablesAnswer.the-variants as tables
 use Rattle.spectra.specs.Operations.{circuitSpectra, jobSpectraOf}
-use Rattle.spectra.specs.declared.Kind.{Kind}
+use Rattle.transform.specs.declared.Kind.{Kind}
 use Rattle.spectra.proofs.WorkPlaces.{length-circuitSpectra, circuitSpectra-at}
 use Rattle.picking.specs.Labels.{Holds}
 use Rattle.picking.specs.Matrix.{cell, apart, allBelow, fits, maxRows, picked, pickedBy, choiceOf, signatureOf}

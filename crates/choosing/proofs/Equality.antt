@@ -12,8 +12,8 @@ use Rattle.job.specs.Check.{Valid}
 use Rattle.job.specs.declared.Job.{Job}
 use Rattle.tables.specs.Circuit.{circuitEntry, circuitTable}
 use Rattle.spectra.specs.Operations.{sameNumbers}
-use Rattle.spectra.specs.declared.Kind.{Kind}
-use Rattle.spectra.proofs.Bounds.{coefficient-ext}
+use Rattle.transform.specs.declared.Kind.{Kind}
+use Rattle.transform.proofs.Bounds.{coefficient-ext}
 use Rattle.spectra.proofs.Delivered.{entry-bit}
 use Rattle.spectra.proofs.Undone.{sameNumbers-refl, sameNumbers-true}
 use Rattle.spectra.proofs.Unique.{coefficients-unique}

@@ -21,9 +21,10 @@ use Rattle.reading.specs.Reading.{reading}
 use Rattle.tables.specs.Circuit.{circuitEntry, circuitTable}
 use Rattle.tables.specs.Operations.{countsOf}
 use Rattle.tables.specs.declared.Counts.{Counts}
-use Rattle.spectra.specs.Operations.{polarityOk, circuitSpectra, sameNumbers}
-use Rattle.spectra.specs.Spectrum.{coefficient}
-use Rattle.spectra.specs.declared.Kind.{Kind}
+use Rattle.transform.specs.Operations.{polarityOk}
+use Rattle.spectra.specs.Operations.{circuitSpectra, sameNumbers}
+use Rattle.transform.specs.Spectrum.{coefficient}
+use Rattle.transform.specs.declared.Kind.{Kind}
 use Rattle.bits.specs.Passing.{passing}
 use Rattle.picking.specs.Matrix.{signatureOf}
 use Rattle.method.specs.Method.{signature, firstPair, Pair}

@@ -14,9 +14,9 @@ ghost use Rattle.choosing.specs.Looking.{maxPlaces, maxOrders, ofOrder, 
 use bits::Refusal;
 use picking::Found;
 use picking::Signature;
-use spectra::Kind;
 use tables::Counts;
 use tables::TablesAnswer;
+use transform::Kind;
 
 // To tell every two circuits apart, or the good one from each fault.
 pub enum Purpose {

@@ -9,8 +9,9 @@ use Rattle.job.specs.Record.{noGates, noFaults, emptyJob}
 use Rattle.reading.specs.Reading.{entryFields, gate, fault, entriesFrom, spare, fromEnd, fromFaults, fromFaultCount, fromOutput, fromGates, wholeJob, reading}
 use Rattle.bits.specs.Bits.{bytesTo, bytesOf}
 use Rattle.bits.specs.Packed.{tabulate, packed, entry}
-use Rattle.spectra.specs.Operations.{zeroFrom, tableOk, spectrumOf, sameNumbers, isSpectrum, undoneOf}
-use Rattle.spectra.specs.Spectrum.{inside, sumTo, subsetSum, coefficient, spectrum, recovered}
+use Rattle.transform.specs.Operations.{zeroFrom, tableOk}
+use Rattle.spectra.specs.Operations.{spectrumOf, sameNumbers, isSpectrum, undoneOf}
+use Rattle.transform.specs.Spectrum.{inside, sumTo, subsetSum, coefficient, spectrum, recovered}
 use Rattle.gates.specs.Answers.{answers, answer}
 use Rattle.gates.specs.Values.{inputValue, bridged}
 use Rattle.tables.specs.Circuit.{gateValue, ownValue, valuesTo, fixedBy, fixingOf, circuitEntry, circuitTable}

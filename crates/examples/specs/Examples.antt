@@ -13,8 +13,8 @@ use Rattle.bits.specs.Answer.Answer.{gives, refused}
 use Rattle.job.specs.declared.Job.{Job}
 use Rattle.reading.specs.Reading.{reading}
 use Rattle.spectra.specs.Operations.{spectrumOf, undoneOf, sameNumbers}
-use Rattle.spectra.specs.declared.Kind.{Kind}
-use Rattle.spectra.specs.declared.Kind.the-variants.{Rm, Mrm}
+use Rattle.transform.specs.declared.Kind.{Kind}
+use Rattle.transform.specs.declared.Kind.the-variants.{Rm, Mrm}
 use Rattle.choosing.specs.Choosing.{Finding, Choice, chosenOf}
 use Rattle.choosing.specs.Choosing.Finding.{chosen, alike}
 use Rattle.choosing.specs.declared.Purpose.{Purpose}

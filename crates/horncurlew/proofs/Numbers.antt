@@ -25,8 +25,8 @@ use Rattle.writing.specs.Writing.{written, writtenTold}
 use Rattle.writing.specs.declared.Written.{Written}
 use Rattle.writing.specs.declared.Written.the-variants as writing
 use Rattle.tables.proofs.Answering.{kept}
-use Rattle.spectra.specs.declared.Kind.{Kind}
-use Rattle.spectra.specs.declared.Kind.the-variants.{Mrm}
+use Rattle.transform.specs.declared.Kind.{Kind}
+use Rattle.transform.specs.declared.Kind.the-variants.{Mrm}
 use Rattle.picking.specs.declared.Signature.{Signature}
 use Rattle.choosing.specs.Choosing.{Chose, verdictTold}
 use Rattle.choosing.specs.declared.Purpose.{Purpose}

@@ -14,8 +14,8 @@ use Rattle.bits.specs.Answer.Answer.{gives, refused}
 use Rattle.job.specs.declared.Job.{Job}
 use Rattle.reading.specs.Reading.{reading}
 use Rattle.writing.specs.Writing.{written}
-use Rattle.spectra.specs.declared.Kind.{Kind}
-use Rattle.spectra.specs.declared.Kind.the-variants.{Rm, Mrm}
+use Rattle.transform.specs.declared.Kind.{Kind}
+use Rattle.transform.specs.declared.Kind.the-variants.{Rm, Mrm}
 use Rattle.picking.specs.declared.Signature.{Signature}
 use Rattle.choosing.specs.Choosing.{Finding, Chose}
 use Rattle.choosing.specs.Choosing.Finding.{chosen, alike}

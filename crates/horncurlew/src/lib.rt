@@ -17,7 +17,7 @@ use choosing::Verdict;
 use locating::Located;
 use picking::Signature;
 use sheet::Reported;
-use spectra::Kind;
+use transform::Kind;
 use writing::Written;
 
 // The counts of a job.

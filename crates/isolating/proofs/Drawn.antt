@@ -26,7 +26,7 @@ use Rattle.bits.specs.Answer.Answer.{refused}
 use Rattle.job.specs.Layout.{maxInputs, maxFaults}
 use Rattle.job.proofs.Sizes.{most-inputs, most-places}
 use Rattle.tables.specs.declared.Counts.{Counts}
-use Rattle.spectra.specs.declared.Kind.{Kind}
+use Rattle.transform.specs.declared.Kind.{Kind}
 use Rattle.bits.proofs.Fields.{shift-exact}
 use Rattle.picking.specs.Matrix.{maxEntries}
 use Rattle.picking.specs.declared.Signature.{Signature}

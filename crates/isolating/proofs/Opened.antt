@@ -20,7 +20,7 @@ use Rattle.bits.proofs.Tests.{and-i}
 use Rattle.job.specs.declared.Job.{Job}
 use Rattle.reading.specs.Reading.{reading}
 use Rattle.spectra.specs.Operations.{circuitSpectra, sameNumbers}
-use Rattle.spectra.specs.declared.Kind.{Kind}
+use Rattle.transform.specs.declared.Kind.{Kind}
 use Rattle.picking.specs.Matrix.{signatureOf}
 use Rattle.choosing.specs.Choosing.{Choice, choice, chosenOf, chose}
 use Rattle.choosing.specs.declared.Purpose.{Purpose}

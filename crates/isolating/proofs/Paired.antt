@@ -15,7 +15,7 @@ use borrow.Author.Tests.{ne-eqb}
 use Rattle.bits.proofs.Tests.{and-r, and-i, clash}
 use Rattle.job.specs.Check.{Valid}
 use Rattle.job.specs.declared.Job.{Job}
-use Rattle.spectra.specs.declared.Kind.{Kind}
+use Rattle.transform.specs.declared.Kind.{Kind}
 use Rattle.method.specs.Method.{Pair, agree, full}
 use Rattle.method.specs.Method.Pair.{nobody, pair}
 use Rattle.method.proofs.Pairs.{by-test, all-full}

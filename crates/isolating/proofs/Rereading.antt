@@ -27,8 +27,9 @@ use Rattle.reading.specs.Reading.{reading}
 use Rattle.reading.proofs.Valid.{reading-valid}
 use Rattle.tables.specs.Operations.{countsOf}
 use Rattle.tables.specs.declared.Counts.{Counts}
-use Rattle.spectra.specs.Operations.{polarityOk, circuitSpectra}
-use Rattle.spectra.specs.declared.Kind.{Kind}
+use Rattle.transform.specs.Operations.{polarityOk}
+use Rattle.spectra.specs.Operations.{circuitSpectra}
+use Rattle.transform.specs.declared.Kind.{Kind}
 use Rattle.spectra.proofs.WorkPlaces.{length-circuitSpectra, circuitSpectra-at}
 use Rattle.method.specs.Method.{Pair}
 use Rattle.method.specs.Method.Pair.{nobody, pair}

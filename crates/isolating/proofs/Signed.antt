@@ -11,7 +11,7 @@ use mathlib.Core.List.{List}
 use lib.ListN.{length}
 use Rattle.job.specs.Check.{Valid}
 use Rattle.job.specs.declared.Job.{Job}
-use Rattle.spectra.specs.declared.Kind.{Kind}
+use Rattle.transform.specs.declared.Kind.{Kind}
 use Rattle.method.specs.Method.{agree}
 use Rattle.method.proofs.Pairs.{full-all}
 use Rattle.method.proofs.Signatures.{signature-full, signature-minimal}

@@ -24,7 +24,7 @@ use Rattle.reading.proofs.Valid.{reading-valid}
 use Rattle.tables.specs.Operations.{countsOf}
 use Rattle.tables.specs.declared.Counts.{Counts}
 use Rattle.spectra.specs.Operations.{sameNumbers}
-use Rattle.spectra.specs.declared.Kind.{Kind}
+use Rattle.transform.specs.declared.Kind.{Kind}
 use Rattle.spectra.proofs.Undone.{sameNumbers-refl, sameNumbers-true}
 use Rattle.method.specs.Method.{Pair}
 use Rattle.method.specs.Method.Pair.{nobody, pair}

@@ -13,7 +13,7 @@ use Rattle.reading.specs.Reading.{reading}
 use Rattle.tables.specs.Circuit.{circuitEntry}
 use Rattle.tables.specs.Operations.{countsOf}
 use Rattle.spectra.specs.Operations.{sameNumbers}
-use Rattle.spectra.specs.declared.Kind.{Kind}
+use Rattle.transform.specs.declared.Kind.{Kind}
 use Rattle.method.specs.Method.{without}
 use Rattle.choosing.specs.Choosing.{Chose, chosenOf, chose, signatureIn}
 use Rattle.choosing.specs.Choosing.Finding.{chosen, alike}

@@ -15,7 +15,7 @@ use Rattle.bits.specs.Answer.Answer.{gives, refused}
 use Rattle.job.specs.Layout.{maxInputs, maxFaults}
 use Rattle.job.specs.declared.Job.{Job}
 use Rattle.tables.specs.declared.Counts.{Counts}
-use Rattle.spectra.specs.declared.Kind.{Kind}
+use Rattle.transform.specs.declared.Kind.{Kind}
 use Rattle.picking.specs.Matrix.{maxEntries}
 use Rattle.picking.specs.declared.Signature.{Signature}
 use Rattle.choosing.specs.Choosing.{Finding}

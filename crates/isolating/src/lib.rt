@@ -11,8 +11,8 @@ use choosing::Purpose;
 use choosing::Verdict;
 use locating::Located;
 use picking::Signature;
-use spectra::Kind;
 use tables::Counts;
+use transform::Kind;
 
 // Puts the numbers of a row of the work at the listed indices to the start of `readings`.
 fn readings_at(work: &[u16], start: usize, list: &[u16], readings: &mut [u16])

@@ -5,10 +5,10 @@ ghost use Prim.Native.Nat.{_+_, _*_, _<_, _≤_};
 ghost use lib.ListN.{length};
 use bits::Refusal;
 use libc::STDOUT_FILENO;
-use spectra::Kind;
 use tables::ALL_TABLES_BYTES;
 use tables::Counts;
 use tables::TablesAnswer;
+use transform::Kind;
 
 // One byte more than the longest job, whose 4 + 7 + 64 × 17 + 7 + 6 + 63 × 16 bits fill 265 bytes: so that a longer input is
 // seen to be longer.

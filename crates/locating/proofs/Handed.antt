@@ -1,49 +1,40 @@
 -- Locating a job: the tables that are delivered are handed on (specs/Locating.antt, specs/Scanning.antt).
 --
---   rows-end           the rows end within the bytes
---   rows-length        so many bytes are taken for them
 --   rows-taken         the bytes of so many tables
 --   located-unread     reading's refusals
---   rows-of-job        the spectra of the rows are those of the circuits, or they find no room
 --   located-circuits   locating among the tables of all circuits
 --   located-onward     past reading, locating among the delivered rows is locating the job
-use Prim.Native.Nat.{ℕ, _+_, _*_, _^_, _≤_, _<_}
-use mathlib.Core.Path.{_≡_, refl, sym, ap, ap₂, subst, _∙_}
+use Prim.Native.Nat.{ℕ, _+_, _*_, _^_}
+use mathlib.Core.Path.{_≡_, refl, sym, ap, ap₂, _∙_}
 use mathlib.Core.Bool.{Bool, true, false}
 use mathlib.Core.List.{List, [], append-nil}
-use borrow.Author.Tests.{ltb-true, le-leb, eq-eqb}
+use borrow.Author.Tests.{ltb-true}
 use lib.Dec.{ltb, leb, eqb}
 use lib.ListN.{length, getD, take}
-use lib.Seq.{length-take-le, take-at}
+use lib.Seq.{take-at}
 use Rattle.bits.specs.Answer.{Answer, Fills, leaves, unless, onward}
 use Rattle.bits.specs.Answer.Answer.{gives, refused}
 use Rattle.job.specs.Check.{Valid}
-use Rattle.job.specs.Layout.{maxInputs}
 use Rattle.job.specs.declared.Job.{Job}
 use Rattle.reading.specs.Reading.{reading}
 use Rattle.reading.proofs.Valid.{reading-valid}
 use Rattle.gates.specs.Form.{tableBytes}
-use Rattle.tables.specs.Circuit.{circuitEntry, circuitTable}
+use Rattle.tables.specs.Circuit.{circuitEntry}
 use Rattle.tables.specs.Operations.{tablesTo}
 use Rattle.tables.specs.declared.Counts.{Counts}
 use Rattle.tables.proofs.Answering.{kept}
 use Rattle.tables.proofs.Delivered.{length-tablesTo}
-use Rattle.spectra.specs.Operations.{polarityOk, rowsOf, tableRow, circuitSpectra, sameNumbers}
-use Rattle.spectra.specs.Spectrum.{coefficient}
-use Rattle.spectra.specs.declared.Kind.{Kind}
-use Rattle.spectra.proofs.Delivered.{Delivers, row-circuit, rows-circuits}
+use Rattle.transform.specs.Operations.{polarityOk, rowsOf, tableRow}
+use Rattle.spectra.specs.Operations.{circuitSpectra, sameNumbers}
+use Rattle.transform.specs.Spectrum.{coefficient}
+use Rattle.transform.specs.declared.Kind.{Kind}
+use Rattle.spectra.proofs.Delivered.{Delivers, row-circuit}
+use Rattle.spectra.proofs.Handed.{rows-of-job}
 use Rattle.spectra.proofs.WorkPlaces.{circuitSpectra-at}
 use Rattle.locating.specs.Locating.{Location, location, agreeing, indicesOk, readingsOf, locatedOf}
 use Rattle.locating.specs.Scanning.{workAgrees, rowsLocated}
 use Rattle.locating.proofs.Indexed.{numbers-same}
 use Rattle.locating.proofs.Sought.{agreeing-same}
-use Rattle.locating.proofs.Whole.{rows-whole}
-
-pub rows-end : (n rows : ℕ) {bytes room : ℕ} → bytes ≡ tableBytes n → rows * tableBytes n ≤ room → rows * bytes ≤ room
-rows-end n rows {bytes} {room} e h = subst (λ (x : ℕ). rows * x ≤ room) (sym e) h
-
-pub rows-length : (n rows : ℕ) (s : List ℕ) {bytes : ℕ} → bytes ≡ tableBytes n → rows * tableBytes n ≤ length s → rows * bytes ≡ length (take (rows * bytes) s)
-rows-length n rows s {bytes} e h = sym (length-take-le (rows * bytes) s (rows-end n rows e h))
 
 pub rows-taken : (n rows : ℕ) (s : List ℕ) (kind : Kind) (k : ℕ) (indices readings work : List ℕ) {bytes : ℕ} → bytes ≡ tableBytes n
     → leaves (rowsLocated n rows (take (rows * bytes) s) kind k indices readings (length work)) work
@@ -55,14 +46,6 @@ pub located-unread : (s : List ℕ) (kind : Kind) (k : ℕ) (indices readings wo
     → record { answer = refused i; memory = work } ≡ leaves (locatedOf s kind k indices readings (length work)) work
 unfolding locatedOf
 located-unread s kind k indices readings work {i} e = kept (locatedOf s kind k indices readings (length work)) i work (rw e)
-
-pub rows-of-job : (j : Job) (s : List ℕ) (d : ℕ) (kind : Kind) (k room : ℕ) → Valid j → k < 2 ^ (j .inputs) → length s ≡ d * tableBytes (j .inputs)
-    → ((c : ℕ) → c < d → tableRow (j .inputs) s c ≡ circuitTable j c) → ltb k (2 ^ (j .inputs)) ≡ true
-    → rowsOf (j .inputs) d s kind k room
-    ≡ unless (leb (d * 2 ^ (j .inputs)) room) 10 (gives (record { value = tt; filled = circuitSpectra kind k j d }))
-unfolding rowsOf
-rows-of-job j s d kind k room v h long same e =
-    simp (le-leb 1 (j .inputs) (v .some), le-leb (j .inputs) maxInputs (v .few), eq-eqb (length s) (d * tableBytes (j .inputs)) long, rows-whole j s d v same, e, rows-circuits kind k j s v h d same)
 
 module _ (j : Job) (kind : Kind) (k : ℕ) (indices readings : List ℕ) (room : ℕ) (v : Valid j) where
   abbrev count : ℕ

@@ -3,4 +3,3 @@ pub mod Indexed
 pub mod Compared
 pub mod Sought
 pub mod Handed
-pub mod Whole

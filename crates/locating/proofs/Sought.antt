@@ -24,9 +24,10 @@ use Rattle.bits.proofs.Answers.{gives-same, never-gives, unless-gives}
 use Rattle.job.specs.Check.{inputsOk}
 use Rattle.gates.specs.Form.{tableBytes}
 use Rattle.tables.proofs.Answering.{kept}
-use Rattle.spectra.specs.Operations.{polarityOk, rowsOk, rowsOf, rowSpectra, sameNumbers}
-use Rattle.spectra.specs.declared.Kind.{Kind}
-use Rattle.spectra.proofs.Filling.{length-rowSpectra}
+use Rattle.transform.specs.Operations.{polarityOk, rowsOk, rowsOf, rowSpectra}
+use Rattle.spectra.specs.Operations.{sameNumbers}
+use Rattle.transform.specs.declared.Kind.{Kind}
+use Rattle.transform.proofs.Filling.{length-rowSpectra}
 use Rattle.locating.specs.Locating.{Location, location, agreeing, indicesOk}
 use Rattle.locating.specs.Scanning.{workAgrees, rowsLocated}
 use Rattle.locating.proofs.Indexed.{numbers-same}

@@ -17,9 +17,10 @@ use Rattle.bits.specs.Passing.{passing}
 use Rattle.job.specs.declared.Job.{Job}
 use Rattle.reading.specs.Reading.{reading}
 use Rattle.tables.specs.Circuit.{circuitEntry}
-use Rattle.spectra.specs.Operations.{polarityOk, circuitSpectra, sameNumbers}
-use Rattle.spectra.specs.Spectrum.{coefficient}
-use Rattle.spectra.specs.declared.Kind.{Kind}
+use Rattle.transform.specs.Operations.{polarityOk}
+use Rattle.spectra.specs.Operations.{circuitSpectra, sameNumbers}
+use Rattle.transform.specs.Spectrum.{coefficient}
+use Rattle.transform.specs.declared.Kind.{Kind}
 use Rattle.locating.specs.declared.Located.{Located}
 use Rattle.locating.specs.declared.Located.the-variants.{Alone, Several, Nowhere, Refused}
 

@@ -13,8 +13,9 @@ use lib.Dec.{eqb}
 use lib.ListN.{length, getD}
 use Rattle.bits.specs.Answer.{Answer, Fills, unless, onward}
 use Rattle.bits.specs.Answer.Answer.{gives}
-use Rattle.spectra.specs.Operations.{polarityOk, rowsOf, sameNumbers}
-use Rattle.spectra.specs.declared.Kind.{Kind}
+use Rattle.transform.specs.Operations.{polarityOk, rowsOf}
+use Rattle.spectra.specs.Operations.{sameNumbers}
+use Rattle.transform.specs.declared.Kind.{Kind}
 use Rattle.locating.specs.Locating.{Location, location, agreeing, indicesOk}
 use Rattle.locating.specs.Locating.Location.{alone, several, nowhere}
 

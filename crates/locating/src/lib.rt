@@ -14,10 +14,10 @@ ghost use Rattle.locating.specs.Locating.{locatedOf, locatedTold, locati
 ghost use Rattle.locating.specs.Scanning.{numbersAt, workAgrees, locationOf, rowsLocated, Readable};
 use bits::Outcome;
 use bits::Refusal;
-use spectra::Kind;
 use tables::ALL_TABLES_BYTES;
 use tables::Counts;
 use tables::TablesAnswer;
+use transform::Kind;
 
 // The one agreeing circuit; the lowest agreeing circuit and how many agree; none; or the refusal.
 pub enum Located {
@@ -136,7 +136,7 @@ fn locate_rows(
     if indices.len() != readings.len() {
         return Located::Refused(Refusal::ReadingCount);
     }
-    let outcome = spectra::row_spectra(n, rows, tables, kind, polarity, work);
+    let outcome = transform::row_spectra(n, rows, tables, kind, polarity, work);
     match outcome {
         Outcome::Refused(cause) => Located::Refused(cause),
         Outcome::Done => scan(work, indices, readings, n, rows),

@@ -8,7 +8,7 @@ use choosing::Verdict;
 use libc::STDIN_FILENO;
 use libc::STDOUT_FILENO;
 use locating::Located;
-use spectra::Kind;
+use transform::Kind;
 
 // The longest job, and a byte more.
 const MAX_JOB_BYTES: usize = 266;

@@ -9,8 +9,8 @@ ghost use lib.ListN.{length};
 use bits::Outcome;
 use libc::STDIN_FILENO;
 use libc::STDOUT_FILENO;
-use spectra::Kind;
 use tables::TablesAnswer;
+use transform::Kind;
 
 // The longest job, and a byte more.
 const MAX_JOB_BYTES: usize = 266;

@@ -28,9 +28,10 @@ use Rattle.reading.proofs.Valid.{reading-valid}
 use Rattle.tables.specs.Circuit.{circuitEntry}
 use Rattle.tables.specs.Operations.{countsOf}
 use Rattle.tables.specs.declared.Counts.{Counts}
-use Rattle.spectra.specs.Operations.{polarityOk, circuitSpectra}
-use Rattle.spectra.specs.declared.Kind.the-variants.{Mrm}
-use Rattle.spectra.proofs.Bounds.{coefficient-le}
+use Rattle.transform.specs.Operations.{polarityOk}
+use Rattle.spectra.specs.Operations.{circuitSpectra}
+use Rattle.transform.specs.declared.Kind.the-variants.{Mrm}
+use Rattle.transform.proofs.Bounds.{coefficient-le}
 use Rattle.spectra.proofs.Delivered.{entry-bit}
 use Rattle.spectra.proofs.WorkPlaces.{length-circuitSpectra, circuitSpectra-at}
 use Rattle.method.specs.Method.{Pair}

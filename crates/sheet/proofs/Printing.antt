@@ -23,7 +23,7 @@ use Rattle.reading.proofs.Valid.{reading-valid}
 use Rattle.tables.specs.Operations.{countsOf}
 use Rattle.gates.specs.Rows.{splice}
 use Rattle.spectra.specs.Operations.{circuitSpectra}
-use Rattle.spectra.specs.declared.Kind.the-variants.{Mrm}
+use Rattle.transform.specs.declared.Kind.the-variants.{Mrm}
 use Rattle.spectra.proofs.WorkPlaces.{length-circuitSpectra}
 use Rattle.method.specs.Method.{Pair}
 use Rattle.method.specs.Method.Pair.{nobody, pair}

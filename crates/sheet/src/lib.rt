@@ -11,8 +11,8 @@ use choosing::Purpose;
 use choosing::Verdict;
 use job::MAX_FAULTS;
 use picking::Signature;
-use spectra::Kind;
 use tables::Counts;
+use transform::Kind;
 
 // No text is longer: 28 characters of counts; 10 of a signature's line and 4 for each entry, which are no more than faults; a line for each circuit, of 3 and
 // again 4 for each entry.

@@ -1,82 +1,27 @@
--- What the operations on spectra answer and leave, case by case (specs/Operations.antt, specs/Filling.antt).
+-- What the operation on one table answers (specs/Operations.antt).
 --
---   room-of                 so many places, counted by a quotient, hold so many spectra
---   filled-polarity, filled-memory, filled-done   the spectra of tables: 13, 10, success
---   rows-few, rows-many     the rows of tables: 2
---   rows-shape              12
---   rows-onward             past these checks the spectra are filled
---   spectrum-row            the spectrum of a table is that of one row
-use Prim.Native.Nat.{ℕ, _-_, _*_, _/_, _^_, _≤_, _<_}
-use native.Mathlib.Nat.{one-mul, div-lt-iff-lt-mul, le-div-iff-mul-le}
-use mathlib.Core.Path.{_≡_, refl, sym, ap, ap₂, subst, _∙_}
+--   spectrum-row    the spectrum of a table is that of one row
+--   row-done        which is left in memory of its size where no test fails
+use Prim.Native.Nat.{ℕ, _-_, _*_, _^_, _≤_, _<_}
+use native.Mathlib.Nat.{one-mul, le-of-eq}
+use mathlib.Core.Path.{_≡_, refl, sym, ap, ap₂, _∙_}
 use mathlib.Core.Bool.{Bool, true, false, _&&_}
-use mathlib.Core.List.{List, _++_}
-use borrow.Author.Tests.{eqb-true, le-leb, lt-leb, lt-ltb, le-ltb}
+use mathlib.Core.List.{List, _++_, append-nil}
+use borrow.Author.Tests.{eqb-true, le-leb, lt-ltb}
 use lib.Dec.{leb, eqb}
-use lib.ListN.{length, drop}
-use lib.Pow.{pow-pos}
-use Rattle.bits.specs.Answer.{Answer, Fills, leaves, unless}
-use Rattle.bits.specs.Answer.Answer.{gives, refused}
+use lib.ListN.{length, drop-of-length-le}
+use Rattle.bits.specs.Answer.{Answer, Fills, Leaves, leaves, unless}
+use Rattle.bits.specs.Answer.Answer.{gives}
 use Rattle.bits.specs.Packed.{entry}
-use Rattle.bits.proofs.Tests.{and-i}
 use Rattle.job.specs.Check.{inputsOk}
 use Rattle.job.specs.Layout.{maxInputs}
 use Rattle.gates.specs.Form.{tableBytes}
-use Rattle.spectra.specs.Filling.{rowsFit, spectraFilled}
-use Rattle.spectra.specs.Operations.{zeroFrom, tableOk, tableRow, rowsOk, polarityOk, rowSpectra, spectrumOf, rowsOf}
-use Rattle.spectra.specs.Spectrum.{spectrum}
-use Rattle.spectra.specs.declared.Kind.{Kind}
-use Rattle.tables.proofs.Answering.{kept}
-use Rattle.spectra.proofs.Filling.{length-rowSpectra, row-whole}
-
-pub room-of : (n : ℕ) {size rows room : ℕ} → size ≡ 2 ^ n → rows ≤ room / size → rows * 2 ^ n ≤ room
-room-of n {size} {rows} {room} e h = le-div-iff-mul-le (pow-pos n) .0 (subst (λ (x : ℕ). rows ≤ room / x) e h)
-
-module _ {A : Type 0} (n : ℕ) {size : ℕ} (e : size ≡ 2 ^ n) (v : A) (rows : ℕ) (s : List ℕ) (kind : Kind) (k : ℕ) (out : List ℕ) where
-  pub filled-polarity : size ≤ k → record { answer = refused 13; memory = out } ≡ leaves (spectraFilled v n rows s kind k (length out)) out
-  unfolding spectraFilled
-  filled-polarity h = kept (spectraFilled v n rows s kind k (length out)) 13 out (let l : 2 ^ n ≤ k = rw e at h in simp (le-ltb k (2 ^ n) l))
-
-  pub filled-memory : k < size → length out / size < rows
-      → record { answer = refused 10; memory = out } ≡ leaves (spectraFilled v n rows s kind k (length out)) out
-  unfolding spectraFilled
-  filled-memory h l =
-      let i : k < 2 ^ n = rw e at h in
-      let j : length out < rows * 2 ^ n = div-lt-iff-lt-mul (pow-pos n) .0 (subst (λ (x : ℕ). length out / x < rows) e l) in
-      kept (spectraFilled v n rows s kind k (length out)) 10 out (simp (lt-ltb k (2 ^ n) i, lt-leb (rows * 2 ^ n) (length out) j))
-
-  pub filled-done : (after : List ℕ) → k < size → rows ≤ length out / size → after ≡ rowSpectra kind n k s rows ++ drop (rows * 2 ^ n) out
-      → record { answer = gives v; memory = after } ≡ leaves (spectraFilled v n rows s kind k (length out)) out
-  unfolding spectraFilled
-  filled-done after h l p =
-      let i : k < 2 ^ n = rw e at h in
-      let j : rows * 2 ^ n ≤ length out = room-of n e l in
-      let gave : spectraFilled v n rows s kind k (length out) ≡ gives (record { value = v; filled = rowSpectra kind n k s rows }) =
-      simp (lt-ltb k (2 ^ n) i, le-leb (rows * 2 ^ n) (length out) j) in
-      ap (λ (m : List ℕ). record { answer = gives v; memory = m })
-      (p ∙ ap (λ (x : ℕ). rowSpectra kind n k s rows ++ drop x out) (sym (length-rowSpectra kind n k s rows)))
-      ∙ ap (λ (x : Answer (Fills A)). leaves x out) (sym gave)
-
-module _ (n rows : ℕ) (s : List ℕ) (kind : Kind) (k : ℕ) (out : List ℕ) where
-  pub rows-few : n < 1 → record { answer = refused 2; memory = out } ≡ leaves (rowsOf n rows s kind k (length out)) out
-  unfolding rowsOf
-  rows-few h = kept (rowsOf n rows s kind k (length out)) 2 out (simp (lt-leb 1 n h))
-
-  pub rows-many : 1 ≤ n → maxInputs < n → record { answer = refused 2; memory = out } ≡ leaves (rowsOf n rows s kind k (length out)) out
-  unfolding rowsOf
-  rows-many h l = kept (rowsOf n rows s kind k (length out)) 2 out (simp (le-leb 1 n h, lt-leb n maxInputs l))
-
-  pub rows-shape : 1 ≤ n → n ≤ maxInputs → rowsFit n s rows ≡ false
-      → record { answer = refused 12; memory = out } ≡ leaves (rowsOf n rows s kind k (length out)) out
-  unfolding rowsOf rowsFit
-  rows-shape h l e = kept (rowsOf n rows s kind k (length out)) 12 out (simp (le-leb 1 n h, le-leb n maxInputs l, e))
-
-  pub rows-onward : 1 ≤ n → n ≤ maxInputs → rowsFit n s rows ≡ true
-      → leaves (spectraFilled tt n rows s kind k (length out)) out ≡ leaves (rowsOf n rows s kind k (length out)) out
-  unfolding rowsOf rowsFit spectraFilled
-  rows-onward h l e =
-      ap₂ (λ (u w : Bool). leaves (unless u 2 (unless w 12 (spectraFilled tt n rows s kind k (length out)))) out)
-      (sym (and-i (le-leb 1 n h) (le-leb n maxInputs l))) (sym e)
+use Rattle.transform.specs.Operations.{zeroFrom, tableOk, tableRow, rowsOk, polarityOk, rowSpectra, rowsOf}
+use Rattle.transform.specs.Spectrum.{spectrum}
+use Rattle.transform.specs.declared.Kind.{Kind}
+use Rattle.transform.proofs.Bounds.{length-spectrum}
+use Rattle.transform.proofs.Filling.{row-whole}
+use Rattle.spectra.specs.Operations.{spectrumOf}
 
 -- the checks of a spectrum, given what the table's test says, the places it wants and the table
 checks : ℕ → Kind → ℕ → ℕ → Bool → ℕ → List ℕ → Answer (Fills (Unit {0}))
@@ -107,3 +52,16 @@ spectrum-row n s kind k room = go (eqb (length s) (tableBytes n)) refl
         ap (λ (x : ℕ). checks n kind k room (eqb (length s) x && tableOk n (tableRow n s 0)) (1 * 2 ^ n) (tableRow n s 0)) size
         ∙ ap (λ (t : Bool). checks n kind k room (t && tableOk n (tableRow n s 0)) (1 * 2 ^ n) (tableRow n s 0)) e
         ∙ sym (ap (λ (t : Bool). checks n kind k room (t && zeroFrom (tableBytes n * 8 - 2 ^ n) (2 ^ n) s) (2 ^ n) s) e)
+
+pub row-done : (kind : Kind) (n k : ℕ) (s out : List ℕ) {answer : Answer (Unit {0})} {after : List ℕ} → 1 ≤ n → n ≤ maxInputs → tableOk n s ≡ true
+    → k < 2 ^ n → length out ≡ 2 ^ n → record { answer = answer; memory = after } ≡ leaves (rowsOf n 1 s kind k (length out)) out
+    → after ≡ spectrum kind n k (entry s)
+unfolding spectrumOf
+row-done kind n k s out some few ok h size p =
+    let gave : spectrumOf n s kind k (length out) ≡ gives (record { value = tt; filled = spectrum kind n k (entry s) }) =
+    simp (le-leb 1 n some, le-leb n maxInputs few, ok, lt-ltb k (2 ^ n) h, le-leb (2 ^ n) (length out) (le-of-eq (sym size))) in
+    ap (λ (l : Leaves (Unit {0})). l .memory) p
+    ∙ ap (λ (x : Answer (Fills (Unit {0}))). (leaves x out) .memory) (spectrum-row n s kind k (length out) ∙ gave)
+    ∙ ap (λ (l : List ℕ). spectrum kind n k (entry s) ++ l)
+    (drop-of-length-le out {i = length (spectrum kind n k (entry s))} (rw length-spectrum (le-of-eq size)))
+    ∙ append-nil (spectrum kind n k (entry s))

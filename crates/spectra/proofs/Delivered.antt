@@ -9,19 +9,17 @@
 --   tables-unread      with that much room it refuses only what reading refuses
 --   job-counted        the counts of a job whose tables are delivered
 --   job-unread         reading's refusals
---   job-onward         past reading, the spectra of the delivered rows are the job's
 use Prim.Native.Nat.{ℕ, zero, suc, _+_, _*_, _^_, _≤_, _<_}
 use native.Mathlib.Nat.{mul-le-mul}
 use native.Mathlib.Omega.{arith}
 use mathlib.Core.Path.{_≡_, refl, sym, ap, ap₂, subst, _∙_}
-use mathlib.Core.Bool.{Bool, true, false}
 use mathlib.Core.List.{List, _++_, append-assoc}
 use mathlib.Core.Logic.{⊎-elim}
-use borrow.Author.Tests.{le-leb, ltb-true}
-use lib.Dec.{leb, ltb}
+use borrow.Author.Tests.{le-leb}
+use lib.Dec.{leb}
 use lib.ListN.{length, take, drop, length-append}
 use lib.Seq.{take-at, drop-at}
-use Rattle.bits.specs.Answer.{Answer, Fills, Leaves, leaves, number, unless, onward}
+use Rattle.bits.specs.Answer.{Answer, Fills, Leaves, leaves, number}
 use Rattle.bits.specs.Answer.Answer.{gives, refused}
 use Rattle.bits.specs.Packed.{entry}
 use Rattle.bits.specs.declared.Refusal.{Refusal}
@@ -45,12 +43,13 @@ use Rattle.tables.proofs.Faults.{fixedBy-bit}
 use Rattle.tables.proofs.Delivered.{length-table, length-tablesTo}
 use Rattle.tables.proofs.Space.{tableBytes-most}
 use Rattle.tables.proofs.Values.{line-bit}
-use Rattle.spectra.specs.Filling.{Counted, spectraFilled}
-use Rattle.spectra.specs.Operations.{tableRow, polarityOk, rowSpectra, circuitSpectra, jobSpectraOf}
-use Rattle.spectra.specs.Spectrum.{spectrum}
-use Rattle.spectra.specs.declared.Kind.{Kind}
+use Rattle.spectra.specs.Filling.{Counted}
+use Rattle.transform.specs.Operations.{tableRow, rowSpectra}
+use Rattle.spectra.specs.Operations.{circuitSpectra, jobSpectraOf}
+use Rattle.transform.specs.Spectrum.{spectrum}
+use Rattle.transform.specs.declared.Kind.{Kind}
 use Rattle.tables.proofs.Answering.{kept}
-use Rattle.spectra.proofs.Bounds.{spectrum-ext}
+use Rattle.transform.proofs.Bounds.{spectrum-ext}
 
 -- ---- the rows are the circuits' tables
 
@@ -166,36 +165,3 @@ pub job-unread : (s : List ℕ) (kind : Kind) (k : ℕ) (work : List ℕ) {i : �
     → record { answer = refused i; memory = work } ≡ leaves (jobSpectraOf s kind k (length work)) work
 unfolding jobSpectraOf
 job-unread s kind k work {i} e = kept (jobSpectraOf s kind k (length work)) i work (rw e)
-
-filled-circuits : (j : Job) (rest : List ℕ) (kind : Kind) (k room : ℕ) → Valid j
-    → spectraFilled (countsOf j) (j .inputs) (j .«fault_count» + 1) (tablesTo j (j .«fault_count» + 1) ++ rest) kind k room
-    ≡ unless (polarityOk (j .inputs) k) 13
-    (unless (leb ((j .«fault_count» + 1) * 2 ^ (j .inputs)) room) 10
-    (gives (record { value = countsOf j; filled = circuitSpectra kind k j (j .«fault_count» + 1) })))
-unfolding spectraFilled
-filled-circuits j rest kind k room v = go (ltb k (2 ^ (j .inputs))) refl
-  where
-    more : List ℕ → Answer (Fills Counts)
-    more l = unless (leb ((j .«fault_count» + 1) * 2 ^ (j .inputs)) room) 10 (gives (record { value = countsOf j; filled = l }))
-
-    go : (u : Bool) → ltb k (2 ^ (j .inputs)) ≡ u
-        → unless (ltb k (2 ^ (j .inputs))) 13 (more (rowSpectra kind (j .inputs) k (tablesTo j (j .«fault_count» + 1) ++ rest) (j .«fault_count» + 1)))
-        ≡ unless (ltb k (2 ^ (j .inputs))) 13 (more (circuitSpectra kind k j (j .«fault_count» + 1)))
-    go true e =
-        ap (λ (l : List ℕ). unless (ltb k (2 ^ (j .inputs))) 13 (more l))
-        (rows-circuits kind k j (tablesTo j (j .«fault_count» + 1) ++ rest) v (ltb-true k (2 ^ (j .inputs)) e) (j .«fault_count» + 1)
-        (row-circuit j (j .«fault_count» + 1) rest))
-    go false e = rw e
-
-pub job-onward : {s : List ℕ} {counts : Counts} {after : List ℕ} (kind : Kind) (k : ℕ) (work : List ℕ) → Delivers s counts after
-    → leaves (spectraFilled counts (counts .inputs) (counts .faults + 1) after kind k (length work)) work ≡ leaves (jobSpectraOf s kind k (length work)) work
-unfolding jobSpectraOf
-job-onward {s} {counts} {after} kind k work d =
-    let j = d .job in
-    ap (λ (x : Answer (Fills Counts)). leaves x work)
-    (ap₂ (λ (x : Counts) (l : List ℕ). spectraFilled x (x .inputs) (x .faults + 1) l kind k (length work)) (d .counted) (d .held)
-    ∙ filled-circuits j (d .rest) kind k (length work) (reading-valid s j (d .read))
-    ∙ ap (λ (x : Answer Job). onward x (λ j.
-    unless (polarityOk (j .inputs) k) 13
-    (unless (leb ((j .«fault_count» + 1) * 2 ^ (j .inputs)) (length work)) 10
-    (gives (record { value = countsOf j; filled = circuitSpectra kind k j (j .«fault_count» + 1) }))))) (sym (d .read)))

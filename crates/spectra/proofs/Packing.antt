@@ -7,9 +7,6 @@
 --   digits-fits      and so does the byte with the next digit
 --   digits-more      one digit more
 --   digits-all       all eight
---   tabulate-list    a list from its own numbers
---   filled-more      one number more, where a loop writes a list from its start on
---   filled-all       all numbers: the list is the new one
 --   Packing          what a loop has done after i turns: the first i bytes are written
 --   packing-none     no byte yet
 --   packing-lt       the place of the next byte was there from the start
@@ -20,24 +17,23 @@
 --   copied-all       all bytes of a table are copied to the start of a list
 use Prim.Native.Nat.{ℕ, _+_, _*_, _^_, _≤_, _<_}
 use native.Mathlib.Omega.{arith}
-use native.Mathlib.Nat.{zero-add, le-antisymm}
+use native.Mathlib.Nat.{le-antisymm}
 use native.Mathlib.Numerals.{add-one}
-use mathlib.Core.Path.{_≡_, refl, sym, ap, subst, _∙_}
-use mathlib.Core.List.{List, [], _∷_, _++_, append-nil}
+use mathlib.Core.Path.{_≡_, refl, sym, ap, _∙_}
+use mathlib.Core.List.{List, [], _∷_, _++_}
 use mathlib.Core.Logic.{⊎-elim}
-use lib.ListN.{length, set, drop-of-length-le}
+use lib.ListN.{length, set}
 use lib.Pow.{pow-mono}
-use lib.Seq.{ext-getD}
 use mir.Syntax.{w8}
 use mir.Val.{Fits}
 use Rattle.bits.specs.Bits.{valueFrom}
 use Rattle.bits.specs.Packed.{tabulate, packed}
 use Rattle.bits.proofs.Below.{lt-or-ge}
-use Rattle.bits.proofs.Packed.{length-tabulate, tabulate-more, tabulate-at, tabulate-past, length-packed, packed-at}
+use Rattle.bits.proofs.Packed.{tabulate-more, tabulate-at, tabulate-past, length-packed, packed-at}
 use Rattle.gates.specs.Rows.{splice}
-use Rattle.gates.proofs.Splice.{Written, written-none, written-more, written-length, written-all}
-use Rattle.tables.proofs.Delivered.{splice-start}
-use Rattle.spectra.specs.Operations.{at}
+use Rattle.gates.proofs.Splice.{Written, written-none, written-length, written-all}
+use Rattle.transform.specs.Operations.{at}
+use Rattle.transform.proofs.Writing.{tabulate-list, splice-whole, filled-more}
 use Rattle.spectra.specs.Packing.{parityAt, Packs}
 
 pub parity-bit : (numbers : List ℕ) (k m : ℕ) {r : ℕ} → r ≡ at (tabulate (length numbers) (parityAt numbers k)) m → r < 2
@@ -86,22 +82,6 @@ module _ {digit : ℕ → ℕ} where
     digits-all h = d .so-far ∙ ap (λ (n : ℕ). valueFrom 0 (tabulate n digit)) (le-antisymm (d .within) h)
 
 -- ---- a table from its bytes
-
-pub tabulate-list : (l : List ℕ) → tabulate (length l) (at l) ≡ l
-tabulate-list l =
-    let len : length (tabulate (length l) (at l)) ≡ length l = length-tabulate (length l) (at l) in
-    ext-getD 0 (tabulate (length l) (at l)) l len (λ i h. tabulate-at (length l) (at l) i (omega arith))
-
-splice-whole : (start new : List ℕ) → length new ≡ length start → splice start 0 new ≡ new
-splice-whole start new e =
-    splice-start start new ∙ ap (λ (l : List ℕ). new ++ l) (drop-of-length-le start {i = length new} (omega arith)) ∙ append-nil new
-
-module _ {start : List ℕ} {count : ℕ} {f : ℕ → ℕ} {rows : List ℕ} {i : ℕ} (w : Written start 0 count f rows i) where
-  pub filled-more : (v : ℕ) → i < count → v ≡ f i → Written start 0 count f (set rows i v) (i + 1)
-  filled-more v h e = subst (λ (j : ℕ). Written start 0 count f (set rows j v) (i + 1)) (zero-add i) (written-more w v h e)
-
-  pub filled-all : length start ≡ count → count ≤ i → rows ≡ tabulate count f
-  filled-all e h = written-all w h ∙ splice-whole start (tabulate count f) (length-tabulate count f ∙ sym e)
 
 abbrev pub Packing : ℕ → List ℕ → List ℕ → List ℕ → ℕ → Type 0
 Packing k numbers start table i = Written start 0 (length start) (at (packed (length numbers) (parityAt numbers k))) table i

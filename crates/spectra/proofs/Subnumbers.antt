@@ -12,7 +12,7 @@ use mathlib.Core.Logic.{_⊎_, inl, inr, ⊎-elim, _≢_, _↔_}
 use borrow.Author.Tests.{eqb-true, eq-eqb}
 use lib.Bits.{bitAnd, bitXor, and-le-l, and-mask, and-zero-r, xor-lt, xor-self}
 use Rattle.bits.proofs.Digits.{digit-lt, digits-equal, digit-and, digit-xor}
-use Rattle.spectra.specs.Spectrum.{inside}
+use Rattle.transform.specs.Spectrum.{inside}
 use Rattle.spectra.proofs.Inverse.{xor-undo}
 use Rattle.spectra.proofs.Unique.{equal-or-not}
 

@@ -8,15 +8,13 @@
 --   same-lengths           lists that are not of one length are not the same
 --   few-entries            the entries of a table fit a usize, with room for spare bits
 --   packs-numbers          a lent table has room for the parities of the numbers
---   transforms-parities    and these can be transformed in lent memory
 --   packs-sums             the table has room for the parities of the sums
---   transforms-recovered   the recovered table can be transformed in lent memory
 --   recovers               the parities transformed, and packed again, are the recovered table
 --   compares               the numbers are compared with the recovered table's spectrum
 --   entries-most           no table has more entries than that of the most inputs
 --   lent-of                memory of the right sizes is lent
 --   undo-low, undo-high, undo-polarity, undo-count, undo-none, undo-memory, undo-done   undoing's ways out: 2 twice, 13, 14 twice, 10, success
-use Prim.Native.Nat.{ℕ, suc, _+_, _*_, _/_, _%_, _^_, _≤_, _<_}
+use Prim.Native.Nat.{ℕ, suc, _+_, _/_, _%_, _^_, _≤_, _<_}
 use native.Mathlib.Omega.{arith}
 use native.Mathlib.Nat.{le-trans, lt-of-le-of-lt}
 use native.Mathlib.Numerals.{add-one}
@@ -29,7 +27,7 @@ use lib.Bits.{bitXor, xor-lt, xor-zero-r}
 use lib.ListN.{length, drop, drop-of-length-le}
 use lib.Pow.{pow-pos, pow-mono}
 use lib.Seq.{drop-cons}
-use Rattle.bits.specs.Answer.{leaves}
+use Rattle.bits.specs.Answer.{Answer, leaves}
 use Rattle.bits.specs.Answer.Answer.{gives, refused}
 use Rattle.bits.specs.Packed.{packed, entry}
 use Rattle.bits.proofs.Packed.{entry-packed, packed-ext, length-packed}
@@ -41,16 +39,17 @@ use Rattle.gates.specs.Form.{tableBytes, placesOf}
 use Rattle.gates.specs.Rows.{splice}
 use Rattle.gates.proofs.Sized.{places-exact, inputs-few}
 use Rattle.tables.proofs.Answering.{kept, put}
-use Rattle.spectra.specs.Filling.{rowsFilled}
-use Rattle.spectra.specs.Operations.{at, sameNumbers, isSpectrum, undoneOf}
+use Rattle.transform.specs.Operations.{tableOk, rowsOf, at}
+use Rattle.spectra.specs.Operations.{sameNumbers, isSpectrum, undoneOf}
 use Rattle.spectra.specs.Packing.{parityAt, Packs, Lent}
-use Rattle.spectra.specs.Spectrum.{spectrum, recovered}
-use Rattle.spectra.specs.declared.Kind.{Kind}
-use Rattle.spectra.specs.declared.Kind.the-variants.{Rm}
-use Rattle.spectra.proofs.Bounds.{length-spectrum, spectrum-at, coefficient-ext, spectrum-ext}
-use Rattle.spectra.proofs.Filling.{one-row}
+use Rattle.transform.specs.Spectrum.{spectrum, recovered}
+use Rattle.transform.specs.declared.Kind.{Kind}
+use Rattle.transform.specs.declared.Kind.the-variants.{Rm}
+use Rattle.transform.proofs.Bounds.{length-spectrum, spectrum-at, coefficient-ext, spectrum-ext}
 use Rattle.spectra.proofs.Inverse.{coefficient-mod}
+use Rattle.spectra.proofs.Answering.{row-done}
 use Rattle.spectra.proofs.Undone.{recovered-bits}
+use Rattle.spectra.proofs.Whole.{packed-whole}
 
 -- ---- comparing
 
@@ -100,16 +99,9 @@ module _ {a b : List ℕ} where
 few-entries : (n : ℕ) → n ≤ maxInputs → 2 ^ n < 2 ^ 63
 few-entries n h = lt-of-le-of-lt (pow-mono {j = 15} (le-trans h most-inputs)) (lit< tt)
 
--- what the spectrum of one row asks for
-abbrev Transforms : ℕ → ℕ → List ℕ → List ℕ → Type 0
-Transforms n k table sums = (n ≤ 15) × (k < 2 ^ n) × (1 * 2 ^ n ≤ length sums) × (1 * tableBytes n ≤ length table)
-
--- what it leaves
-abbrev Transformed : Kind → ℕ → ℕ → List ℕ → List ℕ → List ℕ → Type 0
-Transformed kind n k table sums sums₁ = sums₁ ≡ rowsFilled kind n k table 1 sums
-
-transforms : (n k : ℕ) (table sums : List ℕ) → n ≤ maxInputs → k < 2 ^ n → length table ≡ tableBytes n → length sums ≡ 2 ^ n → Transforms n k table sums
-transforms n k table sums few h bytes places = (omega (arith, most-inputs), h, omega arith, omega arith)
+-- what the spectrum of one row leaves
+abbrev Transformed : Kind → ℕ → ℕ → List ℕ → List ℕ → Answer (Unit {0}) → List ℕ → Type 0
+Transformed kind n k table sums answer sums₁ = record { answer = answer; memory = sums₁ } ≡ leaves (rowsOf n 1 table kind k (length sums)) sums
 
 module _ {n k : ℕ} {numbers table sums : List ℕ} (l : Lent n k numbers table sums) where
   pub packs-numbers : Packs 0 numbers table
@@ -125,14 +117,15 @@ module _ {n k : ℕ} {numbers table sums : List ℕ} (l : Lent n k numbers table
   length-parities : length (packed (length numbers) (parityAt numbers 0)) ≡ tableBytes n
   length-parities = length-packed (length numbers) (parityAt numbers 0) ∙ ap (λ (x : ℕ). (x + 7) / 8) (l .count)
 
-  pub transforms-parities : {table₁ : List ℕ} → table₁ ≡ packed (length numbers) (parityAt numbers 0) → Transforms n 0 table₁ sums
-  transforms-parities {table₁} e = transforms n 0 table₁ sums (l .few) (pow-pos n) (ap length e ∙ length-parities) (l .places)
+  parities-whole : tableOk n (packed (length numbers) (parityAt numbers 0)) ≡ true
+  parities-whole =
+      ap (λ (x : ℕ). tableOk n (packed x (parityAt numbers 0))) (l .count) ∙ packed-whole n (parityAt numbers 0) (λ m _. omega arith)
 
-  parity-spectrum : {table₁ sums₁ : List ℕ} → table₁ ≡ packed (length numbers) (parityAt numbers 0) → Transformed Rm n 0 table₁ sums sums₁
+  parity-spectrum : {table₁ sums₁ : List ℕ} {answer : Answer (Unit {0})} → table₁ ≡ packed (length numbers) (parityAt numbers 0) → Transformed Rm n 0 table₁ sums answer sums₁
       → sums₁ ≡ spectrum Rm n 0 (entry table₁)
-  parity-spectrum {table₁} et es = one-row Rm n 0 table₁ sums (ap length et ∙ length-parities) (l .places) es
+  parity-spectrum {table₁} et es = row-done Rm n 0 table₁ sums (l .some) (l .few) (ap (tableOk n) et ∙ parities-whole) (pow-pos n) (l .places) es
 
-  pub packs-sums : {table₁ sums₁ : List ℕ} → table₁ ≡ packed (length numbers) (parityAt numbers 0) → Transformed Rm n 0 table₁ sums sums₁
+  pub packs-sums : {table₁ sums₁ : List ℕ} {answer : Answer (Unit {0})} → table₁ ≡ packed (length numbers) (parityAt numbers 0) → Transformed Rm n 0 table₁ sums answer sums₁
       → Packs k sums₁ table₁
   packs-sums {table₁} {sums₁} et es =
       let p = few-entries n (l .few) in
@@ -143,20 +136,13 @@ module _ {n k : ℕ} {numbers table sums : List ℕ} (l : Lent n k numbers table
         room = ap length et ∙ length-parities ∙ ap (λ (x : ℕ). (x + 7) / 8) (sym e);
       }
 
-  length-recovered : {table₁ : List ℕ} → table₁ ≡ packed (2 ^ n) (recovered n k (at numbers)) → length table₁ ≡ tableBytes n
-  length-recovered et = ap length et ∙ length-packed (2 ^ n) (recovered n k (at numbers))
-
-  pub transforms-recovered : {table₁ : List ℕ} (sums₁ : List ℕ) → table₁ ≡ packed (2 ^ n) (recovered n k (at numbers)) → length sums₁ ≡ length sums
-      → Transforms n k table₁ sums₁
-  transforms-recovered {table₁} sums₁ et es = transforms n k table₁ sums₁ (l .few) (l .polarity) (length-recovered et) (es ∙ l .places)
-
   -- the entries of the packed parities
   parity-entry : (j : ℕ) → j < 2 ^ n → entry (packed (length numbers) (parityAt numbers 0)) j ≡ at numbers j % 2
   parity-entry j h =
       entry-packed (length numbers) (parityAt numbers 0) (λ m _. omega arith) j (omega (arith, l .count))
       ∙ ap (λ (x : ℕ). at numbers x % 2) (xor-zero-r j)
 
-  pub recovers : {table₁ sums₁ table₂ : List ℕ} → table₁ ≡ packed (length numbers) (parityAt numbers 0) → Transformed Rm n 0 table₁ sums sums₁
+  pub recovers : {table₁ sums₁ table₂ : List ℕ} {answer : Answer (Unit {0})} → table₁ ≡ packed (length numbers) (parityAt numbers 0) → Transformed Rm n 0 table₁ sums answer sums₁
       → table₂ ≡ packed (length sums₁) (parityAt sums₁ k) → table₂ ≡ packed (2 ^ n) (recovered n k (at numbers))
   unfolding recovered
   recovers {table₁} {sums₁} {table₂} et filled e =
@@ -170,12 +156,13 @@ module _ {n k : ℕ} {numbers table sums : List ℕ} (l : Lent n k numbers table
       ∙ coefficient-ext Rm n 0 (entry table₁) (λ j. at numbers j % 2) (bitXor m k) (pow-pos n)
       (λ j hj. ap (λ (s : List ℕ). entry s j) et ∙ parity-entry j hj))
 
-  pub compares : (kind : Kind) {table₁ : List ℕ} (sums₁ : List ℕ) {sums₂ : List ℕ} → table₁ ≡ packed (2 ^ n) (recovered n k (at numbers))
-      → length sums₁ ≡ length sums → Transformed kind n k table₁ sums₁ sums₂ → sameNumbers numbers sums₂ ≡ isSpectrum kind n k numbers
+  pub compares : (kind : Kind) {table₁ : List ℕ} (sums₁ : List ℕ) {sums₂ : List ℕ} {answer : Answer (Unit {0})} → table₁ ≡ packed (2 ^ n) (recovered n k (at numbers))
+      → length sums₁ ≡ length sums → Transformed kind n k table₁ sums₁ answer sums₂ → sameNumbers numbers sums₂ ≡ isSpectrum kind n k numbers
   unfolding isSpectrum
   compares kind {table₁} sums₁ et el es =
       ap (sameNumbers numbers)
-      (one-row kind n k table₁ sums₁ (length-recovered et) (el ∙ l .places) es
+      (row-done kind n k table₁ sums₁ (l .some) (l .few)
+      (ap (tableOk n) et ∙ packed-whole n (recovered n k (at numbers)) (recovered-bits n k numbers)) (l .polarity) (el ∙ l .places) es
       ∙ spectrum-ext kind n k (entry table₁) (recovered n k (at numbers)) (l .polarity)
       (λ m h. ap (λ (s : List ℕ). entry s m) et
       ∙ entry-packed (2 ^ n) (recovered n k (at numbers)) (recovered-bits n k numbers) m h))
@@ -190,11 +177,11 @@ no-spectrum kind n k numbers d =
 pub entries-most : {n size : ℕ} → size ≡ placesOf n → n ≤ maxInputs → size ≤ 2 ^ maxInputs
 entries-most told h = rw (places-exact (inputs-few h) told) (pow-mono h)
 
-pub lent-of : {n k size : ℕ} {numbers table sums : List ℕ} → size ≡ placesOf n → n ≤ maxInputs → k < size → length numbers ≡ size
+pub lent-of : {n k size : ℕ} {numbers table sums : List ℕ} → size ≡ placesOf n → 1 ≤ n → n ≤ maxInputs → k < size → length numbers ≡ size
     → length table ≡ (size + 7) / 8 → length sums ≡ size → Lent n k numbers table sums
-lent-of told few polarity count bytes places =
+lent-of told some few polarity count bytes places =
     let e = places-exact (inputs-few few) told in
-    record { few = few; polarity = rw e at polarity; count = count ∙ e; bytes = bytes ∙ ap (λ (x : ℕ). (x + 7) / 8) e; places = places ∙ e }
+    record { some = some; few = few; polarity = rw e at polarity; count = count ∙ e; bytes = bytes ∙ ap (λ (x : ℕ). (x + 7) / 8) e; places = places ∙ e }
 
 module _ (n : ℕ) (numbers : List ℕ) (kind : Kind) (k : ℕ) (out : List ℕ) where
   -- undoing refuses with a number, and leaves the memory as it was

@@ -14,10 +14,11 @@ use borrow.Author.Tests.{eqb-true, eq-eqb}
 use lib.Dec.{eqb}
 use Rattle.bits.proofs.Packed.{Table}
 use Rattle.bits.proofs.Tests.{and-l, and-r, and-i}
-use Rattle.spectra.specs.Operations.{at, sameNumbers, isSpectrum}
-use Rattle.spectra.specs.Spectrum.{coefficient, spectrum, recovered}
-use Rattle.spectra.specs.declared.Kind.{Kind}
-use Rattle.spectra.proofs.Bounds.{spectrum-at, spectrum-ext}
+use Rattle.transform.specs.Operations.{at}
+use Rattle.spectra.specs.Operations.{sameNumbers, isSpectrum}
+use Rattle.transform.specs.Spectrum.{coefficient, spectrum, recovered}
+use Rattle.transform.specs.declared.Kind.{Kind}
+use Rattle.transform.proofs.Bounds.{spectrum-at, spectrum-ext}
 use Rattle.spectra.proofs.Inverse.{recovered-ext, recovered-bit, recovered-table}
 
 pub sameNumbers-refl : (l : List ℕ) → sameNumbers l l ≡ true

@@ -16,9 +16,9 @@ use borrow.Author.Tests.{eqb-true, eqb-false}
 use lib.Dec.{eqb}
 use lib.ListN.{getD}
 use Rattle.bits.proofs.Packed.{Table}
-use Rattle.spectra.specs.Spectrum.{coefficient, spectrum}
-use Rattle.spectra.specs.declared.Kind.{Kind}
-use Rattle.spectra.proofs.Bounds.{spectrum-at}
+use Rattle.transform.specs.Spectrum.{coefficient, spectrum}
+use Rattle.transform.specs.declared.Kind.{Kind}
+use Rattle.transform.proofs.Bounds.{spectrum-at}
 use Rattle.spectra.proofs.Inverse.{recovered-ext, recovered-table}
 
 pub equal-or-not : (a b : ℕ) → (a ≡ b) ⊎ (a ≢ b)

@@ -16,10 +16,11 @@ use Rattle.bits.specs.Packed.{entry}
 use Rattle.bits.proofs.Below.{lt-or-ge}
 use Rattle.job.specs.declared.Job.{Job}
 use Rattle.tables.specs.Circuit.{circuitEntry}
-use Rattle.spectra.specs.Operations.{tableRow, rowSpectra, circuitSpectra}
-use Rattle.spectra.specs.Spectrum.{coefficient, spectrum}
-use Rattle.spectra.specs.declared.Kind.{Kind}
-use Rattle.spectra.proofs.Bounds.{length-spectrum, spectrum-at}
+use Rattle.transform.specs.Operations.{tableRow, rowSpectra}
+use Rattle.spectra.specs.Operations.{circuitSpectra}
+use Rattle.transform.specs.Spectrum.{coefficient, spectrum}
+use Rattle.transform.specs.declared.Kind.{Kind}
+use Rattle.transform.proofs.Bounds.{length-spectrum, spectrum-at}
 
 module _ (joined part : ℕ → List ℕ) (width : ℕ) (none : joined zero ≡ []) (more : (r : ℕ) → joined (suc r) ≡ joined r ++ part r) (wide : (r : ℕ) → length (part r) ≡ width) where
   length-joined : (count : ℕ) → length (joined count) ≡ count * width

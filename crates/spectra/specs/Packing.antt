@@ -11,7 +11,7 @@ use lib.Bits.{bitXor}
 use lib.ListN.{length}
 use Rattle.job.specs.Layout.{maxInputs}
 use Rattle.gates.specs.Form.{tableBytes}
-use Rattle.spectra.specs.Operations.{at}
+use Rattle.transform.specs.Operations.{at}
 
 abbrev pub parityAt : List ℕ → ℕ → ℕ → ℕ
 parityAt numbers k m = at numbers (bitXor m k) % 2
@@ -25,6 +25,7 @@ pub record Packs (k : ℕ) (numbers table : List ℕ) : Type 0 where
   pub room : length table ≡ (length numbers + 7) / 8
 
 pub record Lent (n k : ℕ) (numbers table sums : List ℕ) : Type 0 where
+  pub some : 1 ≤ n
   pub few : n ≤ maxInputs
   pub polarity : k < 2 ^ n
   pub count : length numbers ≡ 2 ^ n

@@ -1,7 +1,7 @@
 -- `horncurlew::horncurlew_choose` meets its contract.
 use denote.Ref.{now}
 use lib.ListN.{length}
-use Rattle.spectra.specs.declared.Kind.{Kind}
+use Rattle.transform.specs.declared.Kind.{Kind}
 use Rattle.choosing.specs.Choosing.{chosenOf, chose}
 use Rattle.choosing.specs.declared.Purpose.{Purpose}
 use Rattle.horncurlew.proofs.Numbers.{chosen-by}

@@ -5,7 +5,8 @@ use mathlib.Core.Path.{_∙_}
 use denote.Ref.{now}
 use Rattle.job.specs.Layout.{maxInputs, maxFaults}
 use Rattle.gates.proofs.Sized.{table-bytes-exact, inputs-few}
-use Rattle.locating.proofs.Handed.{rows-end, rows-length, rows-taken}
+use Rattle.spectra.proofs.Handed.{rows-end, rows-length}
+use Rattle.locating.proofs.Handed.{rows-taken}
 use Rattle.locating.proofs.locate_counted.Statement.{statement}
 use Rattle.locating.proofs.locate_counted.Tie as tie
 

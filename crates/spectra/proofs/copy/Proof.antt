@@ -5,7 +5,7 @@ use borrow.Author.Count.{falls}
 use denote.Ref.{now}
 use lib.ListN.{length}
 use Rattle.gates.proofs.Splice.{Written, written-none, written-length}
-use Rattle.spectra.specs.Operations.{at}
+use Rattle.transform.specs.Operations.{at}
 use Rattle.spectra.proofs.Packing.{copied-more, copied-all}
 use Rattle.spectra.proofs.copy.Statement.{statement}
 use Rattle.spectra.proofs.copy.Tie as tie

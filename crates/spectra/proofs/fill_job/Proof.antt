@@ -1,50 +1,64 @@
--- `fill_job` meets its contract: each way out is one law.
+-- `spectra::fill_job` meets its contract: the rows of the circuits are handed on.
+use Prim.Native.Nat.{_+_, _*_}
 use native.Mathlib.Omega.{arith}
-use Prim.Native.Nat.{_+_, _<_, zero-le}
-use native.Mathlib.Nat.{lt-of-le-of-lt}
-use mathlib.Core.Path.{subst}
+use mathlib.Core.Path.{ap, _∙_}
 use denote.Ref.{now}
-use Rattle.job.specs.Layout.{maxInputs, maxFaults}
-use Rattle.gates.proofs.Sized.{places-exact, inputs-few}
-use Rattle.spectra.proofs.Answering.{room-of, filled-polarity, filled-memory, filled-done}
+use lib.ListN.{length, take}
+use Rattle.bits.specs.Answer.{Answer, Fills, leaves}
+use Rattle.job.specs.Layout.{maxFaults}
+use Rattle.gates.specs.Form.{tableBytes}
+use Rattle.transform.specs.Operations.{rowsOf}
+use Rattle.gates.proofs.Sized.{table-bytes-exact, inputs-few}
+use Rattle.spectra.proofs.Handed.{rows-end, rows-length, rows-taken, told-done, told-refused}
 use Rattle.spectra.proofs.fill_job.Statement.{statement}
 use Rattle.spectra.proofs.fill_job.Tie as tie
 
-places-requires : tie.Need-places-requires
-places-requires c κs = tt
-
 add-rows : tie.Need-add-rows
 unfolding maxFaults
-add-rows c = omega (arith, c .before .before .before .before .pre .faults-few)
+add-rows c = omega (arith, c .before .before .before .pre .faults-few)
 
-returns : tie.Need-returns
-returns c = filled-polarity (c .before .before .before .before .before .args .counts .inputs) (places-exact (inputs-few (c .before .before .before .before .before .pre .few)) (c .before .before .places .ensures)) (c .before .before .before .before .before .args .counts) (c .before .before .before .before .before .args .counts .faults + 1) (now (c .before .before .before .before .before .args .packed)) (c .before .before .before .before .before .args .kind) (c .before .before .before .before .before .args .polarity) (now (c .before .before .before .before .before .args .work)) (c .if1 .taken)
+table-bytes-requires : tie.Need-table-bytes-requires
+table-bytes-requires c κs = tt
 
-div-if2 : tie.Need-div-if2
-div-if2 c = lt-of-le-of-lt zero-le (c .if1 .left)
+mul-end : tie.Need-mul-end
+mul-end c = let a = c .before .before .before .before .args in omega (arith, rows-end (a .counts .inputs) (a .counts .faults + 1) (table-bytes-exact (inputs-few (c .before .before .before .before .pre .few)) (c .table-bytes .ensures)) (c .before .before .before .before .pre .fits))
 
-returns-2 : tie.Need-returns-2
-returns-2 c = filled-memory (c .before .before .before .before .before .before .args .counts .inputs) (places-exact (inputs-few (c .before .before .before .before .before .before .pre .few)) (c .before .before .before .places .ensures)) (c .before .before .before .before .before .before .args .counts) (c .before .before .before .before .before .before .args .counts .faults + 1) (now (c .before .before .before .before .before .before .args .packed)) (c .before .before .before .before .before .before .args .kind) (c .before .before .before .before .before .before .args .polarity) (now (c .before .before .before .before .before .before .args .work)) (c .before .if1 .left) (c .if2 .taken)
+slice-aggregate-row-spectra : tie.Need-slice-aggregate-row-spectra
+slice-aggregate-row-spectra c = let a = c .before .before .before .before .before .args in rows-length (a .counts .inputs) (a .counts .faults + 1) (now (a .packed)) (table-bytes-exact (inputs-few (c .before .before .before .before .before .pre .few)) (c .before .table-bytes .ensures)) (c .before .before .before .before .before .pre .fits)
 
-fill-rows-requires : tie.Need-fill-rows-requires
-unfolding maxInputs
-fill-rows-requires c κs = (omega (arith, c .before .before .before .before .before .before .before .pre .few), subst (λ x. c .before .before .before .before .before .before .before .args .polarity < x) (places-exact (inputs-few (c .before .before .before .before .before .before .before .pre .few)) (c .before .before .before .before .places .ensures)) (c .before .before .if1 .left), room-of (c .before .before .before .before .before .before .before .args .counts .inputs) (places-exact (inputs-few (c .before .before .before .before .before .before .before .pre .few)) (c .before .before .before .before .places .ensures)) (c .before .if2 .left), c .before .before .before .before .before .before .before .pre .fits)
+row-spectra-requires : tie.Need-row-spectra-requires
+row-spectra-requires c κs = tt
+
+enum-known-outcome : tie.Need-enum-known-outcome
+enum-known-outcome c = c .match .keys1
+
+enum-told : tie.Need-enum-told
+enum-told c = c .match .keys2
 
 same-length : tie.Need-same-length
-same-length c = c .before .before .fill-rows .kept .0
+same-length c = c .before .before .before .before .before .row-spectra .kept .1 .1 .1 .1 .1 .0
 
-returns-3 : tie.Need-returns-3
-returns-3 c = filled-done (c .before .before .before .before .before .before .before .before .before .before .args .counts .inputs) (places-exact (inputs-few (c .before .before .before .before .before .before .before .before .before .before .pre .few)) (c .before .before .before .before .before .before .before .places .ensures)) (c .before .before .before .before .before .before .before .before .before .before .args .counts) (c .before .before .before .before .before .before .before .before .before .before .args .counts .faults + 1) (now (c .before .before .before .before .before .before .before .before .before .before .args .packed)) (c .before .before .before .before .before .before .before .before .before .before .args .kind) (c .before .before .before .before .before .before .before .before .before .before .args .polarity) (now (c .before .before .before .before .before .before .before .before .before .before .args .work)) _ (c .before .before .before .before .before .if1 .left) (c .before .before .before .before .if2 .left) (c .before .before .fill-rows .ensures)
+returns : tie.Need-returns
+returns c = let a = c .before .before .before .before .before .before .before .before .before .before .before .before .args in let taken = rows-taken (a .counts .inputs) (a .counts .faults + 1) (now (a .packed)) (a .kind) (a .polarity) (length (now (a .work))) (table-bytes-exact (inputs-few (c .before .before .before .before .before .before .before .before .before .before .before .before .pre .few)) (c .before .before .before .before .before .before .before .before .table-bytes .ensures)) in told-refused (a .counts) (rowsOf (a .counts .inputs) (a .counts .faults + 1) (take ((a .counts .faults + 1) * tableBytes (a .counts .inputs)) (now (a .packed))) (a .kind) (a .polarity) (length (now (a .work)))) (now (a .work)) (c .before .before .before .before .before .row-spectra .ensures ∙ ap (λ (x : Answer (Fills (Unit {0}))). leaves x (now (a .work))) taken) (c .before .outcome .given .1)
+
+same-length-2 : tie.Need-same-length-2
+same-length-2 c = c .before .before .before .before .row-spectra .kept .1 .1 .1 .1 .1 .0
+
+returns-2 : tie.Need-returns-2
+returns-2 c = let a = c .before .before .before .before .before .before .before .before .before .before .before .args in let taken = rows-taken (a .counts .inputs) (a .counts .faults + 1) (now (a .packed)) (a .kind) (a .polarity) (length (now (a .work))) (table-bytes-exact (inputs-few (c .before .before .before .before .before .before .before .before .before .before .before .pre .few)) (c .before .before .before .before .before .before .before .table-bytes .ensures)) in told-done (a .counts) (rowsOf (a .counts .inputs) (a .counts .faults + 1) (take ((a .counts .faults + 1) * tableBytes (a .counts .inputs)) (now (a .packed))) (a .kind) (a .polarity) (length (now (a .work)))) (now (a .work)) (c .before .before .before .before .row-spectra .ensures ∙ ap (λ (x : Answer (Fills (Unit {0}))). leaves x (now (a .work))) taken) (c .enum-told .given .1)
 
 pub fill-job-spec : {M : Type 1} → statement M
 fill-job-spec =
     tie.close
     (tie.spec
-    places-requires
     add-rows
-    returns
-    div-if2
-    returns-2
-    fill-rows-requires
+    table-bytes-requires
+    mul-end
+    slice-aggregate-row-spectra
+    row-spectra-requires
+    enum-known-outcome
+    enum-told
     same-length
-    returns-3)
+    returns
+    same-length-2
+    returns-2)

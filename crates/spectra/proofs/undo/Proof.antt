@@ -47,7 +47,7 @@ slice-aggregate-undo-in-2 c = simp length-take (omega (arith, entries-most (c .b
 
 undo-in-requires : tie.Need-undo-in-requires
 unfolding maxInputs
-undo-in-requires c κs = let m = entries-most (c .before .before .before .before .before .places .ensures) (c .before .before .before .before .before .before .if2 .left) in (c .before .before .before .before .before .before .before .if1 .left, lent-of (c .before .before .before .before .before .places .ensures) (c .before .before .before .before .before .before .if2 .left) (c .before .before .before .before .if3 .left) (c .before .before .before .if4 .left) (simp length-take (omega arith)) (simp length-take (omega arith)))
+undo-in-requires c κs = let m = entries-most (c .before .before .before .before .before .places .ensures) (c .before .before .before .before .before .before .if2 .left) in lent-of (c .before .before .before .before .before .places .ensures) (c .before .before .before .before .before .before .before .if1 .left) (c .before .before .before .before .before .before .if2 .left) (c .before .before .before .before .if3 .left) (c .before .before .before .if4 .left) (simp length-take (omega arith)) (simp length-take (omega arith))
 
 same-length : tie.Need-same-length
 same-length c = c .before .before .before .before .undo-in .kept .1 .1 .1 .1 .1 .1 .0

@@ -2,15 +2,15 @@
 use mathlib.Core.Path.{sym, _∙_}
 use borrow.Author.Tests.{not-true, not-false}
 use denote.Ref.{now}
-use Rattle.spectra.proofs.Undoing.{transforms-recovered, compares, undo-none, undo-memory, undo-done}
+use Rattle.spectra.proofs.Undoing.{compares, undo-none, undo-memory, undo-done}
 use Rattle.spectra.proofs.undo_in.Statement.{statement}
 use Rattle.spectra.proofs.undo_in.Tie as tie
 
 recover-requires : tie.Need-recover-requires
-recover-requires c κs = c .before .before .before .before .before .before .pre .1
+recover-requires c κs = c .before .before .before .before .before .before .pre
 
-fill-rows-requires : tie.Need-fill-rows-requires
-fill-rows-requires c κs = transforms-recovered (c .before .before .before .before .before .before .before .before .before .before .before .before .before .pre .1) (c .before .before .before .before .before .before .recover .last .1 .0) (c .before .before .before .before .before .before .recover .ensures) (c .before .before .before .sums .given)
+row-spectra-requires : tie.Need-row-spectra-requires
+row-spectra-requires c κs = tt
 
 same-requires : tie.Need-same-requires
 same-requires c κs = tt
@@ -19,19 +19,19 @@ same-length : tie.Need-same-length
 same-length c = c .before .before .before .before .before .before .before .before .before .before .before .before .recover .kept .0
 
 same-length-2 : tie.Need-same-length-2
-same-length-2 c = c .before .before .before .before .before .fill-rows .kept .0 ∙ c .before .before .before .before .before .before .before .before .before .sums .given
+same-length-2 c = c .before .before .before .before .before .row-spectra .kept .1 .1 .1 .1 .1 .0 ∙ c .before .before .before .before .before .before .before .before .before .sums .given
 
 returns : tie.Need-returns
-returns c = let a = c .before .before .before .before .before .before .before .before .before .before .before .before .before .before .before .before .before .before .before .args in let l = c .before .before .before .before .before .before .before .before .before .before .before .before .before .before .before .before .before .before .before .pre .1 in undo-none (a .n) (now (a .numbers)) (a .kind) (a .k) (now (a .out)) (c .before .before .before .before .before .before .before .before .before .before .before .before .before .before .before .before .before .before .before .pre .0) (l .few) (l .polarity) (sym (not-true _ (c .if1 .taken)) ∙ c .before .same .ensures ∙ compares l (a .kind) (c .before .before .before .before .before .before .before .before .before .before .before .before .recover .last .1 .0) (c .before .before .before .before .before .before .before .before .before .before .before .before .recover .ensures) (c .before .before .before .before .before .before .before .before .before .sums .given) (c .before .before .before .before .before .fill-rows .ensures))
+returns c = let a = c .before .before .before .before .before .before .before .before .before .before .before .before .before .before .before .before .before .before .before .args in let l = c .before .before .before .before .before .before .before .before .before .before .before .before .before .before .before .before .before .before .before .pre in undo-none (a .n) (now (a .numbers)) (a .kind) (a .k) (now (a .out)) (l .some) (l .few) (l .polarity) (sym (not-true _ (c .if1 .taken)) ∙ c .before .same .ensures ∙ compares l (a .kind) (c .before .before .before .before .before .before .before .before .before .before .before .before .recover .last .1 .0) (c .before .before .before .before .before .before .before .before .before .before .before .before .recover .ensures) (c .before .before .before .before .before .before .before .before .before .sums .given) (c .before .before .before .before .before .row-spectra .ensures))
 
 same-length-3 : tie.Need-same-length-3
 same-length-3 c = c .before .before .before .before .before .before .before .before .before .before .before .before .before .recover .kept .0
 
 same-length-4 : tie.Need-same-length-4
-same-length-4 c = c .before .before .before .before .before .before .fill-rows .kept .0 ∙ c .before .before .before .before .before .before .before .before .before .before .sums .given
+same-length-4 c = c .before .before .before .before .before .before .row-spectra .kept .1 .1 .1 .1 .1 .0 ∙ c .before .before .before .before .before .before .before .before .before .before .sums .given
 
 returns-2 : tie.Need-returns-2
-returns-2 c = let a = c .before .before .before .before .before .before .before .before .before .before .before .before .before .before .before .before .before .before .before .before .args in let l = c .before .before .before .before .before .before .before .before .before .before .before .before .before .before .before .before .before .before .before .before .pre .1 in undo-memory (a .n) (now (a .numbers)) (a .kind) (a .k) (now (a .out)) (c .before .before .before .before .before .before .before .before .before .before .before .before .before .before .before .before .before .before .before .before .pre .0) (l .few) (l .polarity) (sym (not-false _ (c .before .if1 .left)) ∙ c .before .before .same .ensures ∙ compares l (a .kind) (c .before .before .before .before .before .before .before .before .before .before .before .before .before .recover .last .1 .0) (c .before .before .before .before .before .before .before .before .before .before .before .before .before .recover .ensures) (c .before .before .before .before .before .before .before .before .before .before .sums .given) (c .before .before .before .before .before .before .fill-rows .ensures)) (c .before .before .before .before .before .before .before .before .before .before .before .before .before .recover .ensures) (c .if2 .taken)
+returns-2 c = let a = c .before .before .before .before .before .before .before .before .before .before .before .before .before .before .before .before .before .before .before .before .args in let l = c .before .before .before .before .before .before .before .before .before .before .before .before .before .before .before .before .before .before .before .before .pre in undo-memory (a .n) (now (a .numbers)) (a .kind) (a .k) (now (a .out)) (l .some) (l .few) (l .polarity) (sym (not-false _ (c .before .if1 .left)) ∙ c .before .before .same .ensures ∙ compares l (a .kind) (c .before .before .before .before .before .before .before .before .before .before .before .before .before .recover .last .1 .0) (c .before .before .before .before .before .before .before .before .before .before .before .before .before .recover .ensures) (c .before .before .before .before .before .before .before .before .before .before .sums .given) (c .before .before .before .before .before .before .row-spectra .ensures)) (c .before .before .before .before .before .before .before .before .before .before .before .before .before .recover .ensures) (c .if2 .taken)
 
 copy-requires : tie.Need-copy-requires
 copy-requires c κs = c .before .before .if2 .left
@@ -40,20 +40,20 @@ same-length-5 : tie.Need-same-length-5
 same-length-5 c = c .before .before .before .before .before .before .before .before .before .before .before .before .before .before .before .before .before .before .recover .kept .0
 
 same-length-6 : tie.Need-same-length-6
-same-length-6 c = c .before .before .before .before .before .before .before .before .before .before .before .fill-rows .kept .0 ∙ c .before .before .before .before .before .before .before .before .before .before .before .before .before .before .before .sums .given
+same-length-6 c = c .before .before .before .before .before .before .before .before .before .before .before .row-spectra .kept .1 .1 .1 .1 .1 .0 ∙ c .before .before .before .before .before .before .before .before .before .before .before .before .before .before .before .sums .given
 
 same-length-7 : tie.Need-same-length-7
 same-length-7 c = c .before .before .copy .kept .0
 
 returns-3 : tie.Need-returns-3
-returns-3 c = let a = c .before .before .before .before .before .before .before .before .before .before .before .before .before .before .before .before .before .before .before .before .before .before .before .before .before .args in let l = c .before .before .before .before .before .before .before .before .before .before .before .before .before .before .before .before .before .before .before .before .before .before .before .before .before .pre .1 in undo-done (a .n) (now (a .numbers)) (a .kind) (a .k) (now (a .out)) (c .before .before .before .before .before .before .before .before .before .before .before .before .before .before .before .before .before .before .before .before .before .before .before .before .before .pre .0) (l .few) (l .polarity) (sym (not-false _ (c .before .before .before .before .before .before .if1 .left)) ∙ c .before .before .before .before .before .before .before .same .ensures ∙ compares l (a .kind) (c .before .before .before .before .before .before .before .before .before .before .before .before .before .before .before .before .before .before .recover .last .1 .0) (c .before .before .before .before .before .before .before .before .before .before .before .before .before .before .before .before .before .before .recover .ensures) (c .before .before .before .before .before .before .before .before .before .before .before .before .before .before .before .sums .given) (c .before .before .before .before .before .before .before .before .before .before .before .fill-rows .ensures)) (c .before .before .before .before .before .before .before .before .before .before .before .before .before .before .before .before .before .before .recover .ensures) (c .before .before .before .before .before .if2 .left) (c .before .before .copy .ensures)
+returns-3 c = let a = c .before .before .before .before .before .before .before .before .before .before .before .before .before .before .before .before .before .before .before .before .before .before .before .before .before .args in let l = c .before .before .before .before .before .before .before .before .before .before .before .before .before .before .before .before .before .before .before .before .before .before .before .before .before .pre in undo-done (a .n) (now (a .numbers)) (a .kind) (a .k) (now (a .out)) (l .some) (l .few) (l .polarity) (sym (not-false _ (c .before .before .before .before .before .before .if1 .left)) ∙ c .before .before .before .before .before .before .before .same .ensures ∙ compares l (a .kind) (c .before .before .before .before .before .before .before .before .before .before .before .before .before .before .before .before .before .before .recover .last .1 .0) (c .before .before .before .before .before .before .before .before .before .before .before .before .before .before .before .before .before .before .recover .ensures) (c .before .before .before .before .before .before .before .before .before .before .before .before .before .before .before .sums .given) (c .before .before .before .before .before .before .before .before .before .before .before .row-spectra .ensures)) (c .before .before .before .before .before .before .before .before .before .before .before .before .before .before .before .before .before .before .recover .ensures) (c .before .before .before .before .before .if2 .left) (c .before .before .copy .ensures)
 
 pub undo-in-spec : {M : Type 1} → statement M
 undo-in-spec =
     tie.close
     (tie.spec
     recover-requires
-    fill-rows-requires
+    row-spectra-requires
     same-requires
     same-length
     same-length-2

@@ -1,0 +1,13 @@
+pub mod Answering
+pub mod Blocks
+pub mod Bounds
+pub mod Combining
+pub mod Filling
+pub mod Halves
+pub mod Leaves
+pub mod Ordering
+pub mod Reducing
+pub mod Sums
+pub mod Tested
+pub mod Transforming
+pub mod Writing

@@ -1,0 +1,68 @@
+-- `row_spectra` meets its contract: each way out is one law.
+use Prim.Native.Nat.{_<_, zero-le}
+use native.Mathlib.Nat.{le-trans, lt-of-le-of-lt}
+use mathlib.Core.Path.{sym, subst, _∙_}
+use denote.Ref.{now}
+use borrow.Author.Tests.{not-true, not-false}
+use lib.Dec.{lit≤}
+use Rattle.job.specs.Layout.{maxInputs}
+use Rattle.gates.proofs.Sized.{places-exact, inputs-few}
+use Rattle.transform.proofs.Answering.{room-of, filled-polarity, filled-memory, filled-done, rows-few, rows-many, rows-shape, rows-onward}
+use Rattle.transform.proofs.Tested.{rows-within}
+use Rattle.transform.proofs.row_spectra.Statement.{statement}
+use Rattle.transform.proofs.row_spectra.Tie as tie
+
+returns : tie.Need-returns
+returns c = rows-few (c .before .before .before .args .n) (c .before .before .before .args .rows) (now (c .before .before .before .args .tables)) (c .before .before .before .args .kind) (c .before .before .before .args .polarity) (now (c .before .before .before .args .work)) (c .if1 .taken)
+
+returns-2 : tie.Need-returns-2
+unfolding maxInputs
+returns-2 c = rows-many (c .before .before .before .before .args .n) (c .before .before .before .before .args .rows) (now (c .before .before .before .before .args .tables)) (c .before .before .before .before .args .kind) (c .before .before .before .before .args .polarity) (now (c .before .before .before .before .args .work)) (c .before .if1 .left) (c .if2 .taken)
+
+rows-ok-requires : tie.Need-rows-ok-requires
+rows-ok-requires c κs = (c .before .if1 .left, le-trans (c .if2 .left) (lit≤ tt))
+
+returns-3 : tie.Need-returns-3
+unfolding maxInputs
+returns-3 c = rows-shape (c .before .before .before .before .before .before .args .n) (c .before .before .before .before .before .before .args .rows) (now (c .before .before .before .before .before .before .args .tables)) (c .before .before .before .before .before .before .args .kind) (c .before .before .before .before .before .before .args .polarity) (now (c .before .before .before .before .before .before .args .work)) (c .before .before .before .if1 .left) (c .before .before .if2 .left) (sym (c .before .rows-ok .ensures) ∙ not-true (c .before .rows-ok .result) (c .if3 .taken))
+
+places-requires : tie.Need-places-requires
+places-requires c κs = tt
+
+returns-4 : tie.Need-returns-4
+unfolding maxInputs
+returns-4 c = filled-polarity (c .before .before .before .before .before .before .before .before .args .n) (places-exact (inputs-few (c .before .before .before .before .if2 .left)) (c .before .places .ensures)) (c .before .before .before .before .before .before .before .before .args .rows) (now (c .before .before .before .before .before .before .before .before .args .tables)) (c .before .before .before .before .before .before .before .before .args .kind) (c .before .before .before .before .before .before .before .before .args .polarity) (now (c .before .before .before .before .before .before .before .before .args .work)) (c .if4 .taken) ∙ rows-onward (c .before .before .before .before .before .before .before .before .args .n) (c .before .before .before .before .before .before .before .before .args .rows) (now (c .before .before .before .before .before .before .before .before .args .tables)) (c .before .before .before .before .before .before .before .before .args .kind) (c .before .before .before .before .before .before .before .before .args .polarity) (now (c .before .before .before .before .before .before .before .before .args .work)) (c .before .before .before .before .before .if1 .left) (c .before .before .before .before .if2 .left) (sym (c .before .before .before .rows-ok .ensures) ∙ not-false (c .before .before .before .rows-ok .result) (c .before .before .if3 .left))
+
+div-if5 : tie.Need-div-if5
+div-if5 c = lt-of-le-of-lt zero-le (c .if4 .left)
+
+returns-5 : tie.Need-returns-5
+unfolding maxInputs
+returns-5 c = filled-memory (c .before .before .before .before .before .before .before .before .before .args .n) (places-exact (inputs-few (c .before .before .before .before .before .if2 .left)) (c .before .before .places .ensures)) (c .before .before .before .before .before .before .before .before .before .args .rows) (now (c .before .before .before .before .before .before .before .before .before .args .tables)) (c .before .before .before .before .before .before .before .before .before .args .kind) (c .before .before .before .before .before .before .before .before .before .args .polarity) (now (c .before .before .before .before .before .before .before .before .before .args .work)) (c .before .if4 .left) (c .if5 .taken) ∙ rows-onward (c .before .before .before .before .before .before .before .before .before .args .n) (c .before .before .before .before .before .before .before .before .before .args .rows) (now (c .before .before .before .before .before .before .before .before .before .args .tables)) (c .before .before .before .before .before .before .before .before .before .args .kind) (c .before .before .before .before .before .before .before .before .before .args .polarity) (now (c .before .before .before .before .before .before .before .before .before .args .work)) (c .before .before .before .before .before .before .if1 .left) (c .before .before .before .before .before .if2 .left) (sym (c .before .before .before .before .rows-ok .ensures) ∙ not-false (c .before .before .before .before .rows-ok .result) (c .before .before .before .if3 .left))
+
+fill-rows-requires : tie.Need-fill-rows-requires
+unfolding maxInputs
+fill-rows-requires c κs = (c .before .before .before .before .before .before .if2 .left, subst (λ x. c .before .before .before .before .before .before .before .before .before .before .args .polarity < x) (places-exact (inputs-few (c .before .before .before .before .before .before .if2 .left)) (c .before .before .before .places .ensures)) (c .before .before .if4 .left), room-of (c .before .before .before .before .before .before .before .before .before .before .args .n) (places-exact (inputs-few (c .before .before .before .before .before .before .if2 .left)) (c .before .before .before .places .ensures)) (c .before .if5 .left), rows-within (c .before .before .before .before .before .before .before .before .before .before .args .n) (now (c .before .before .before .before .before .before .before .before .before .before .args .tables)) (c .before .before .before .before .before .before .before .before .before .before .args .rows) (sym (c .before .before .before .before .before .rows-ok .ensures) ∙ not-false (c .before .before .before .before .before .rows-ok .result) (c .before .before .before .before .if3 .left)))
+
+same-length : tie.Need-same-length
+same-length c = c .before .before .fill-rows .kept .0
+
+returns-6 : tie.Need-returns-6
+unfolding maxInputs
+returns-6 c = filled-done (c .before .before .before .before .before .before .before .before .before .before .before .before .before .args .n) (places-exact (inputs-few (c .before .before .before .before .before .before .before .before .before .if2 .left)) (c .before .before .before .before .before .before .places .ensures)) (c .before .before .before .before .before .before .before .before .before .before .before .before .before .args .rows) (now (c .before .before .before .before .before .before .before .before .before .before .before .before .before .args .tables)) (c .before .before .before .before .before .before .before .before .before .before .before .before .before .args .kind) (c .before .before .before .before .before .before .before .before .before .before .before .before .before .args .polarity) (now (c .before .before .before .before .before .before .before .before .before .before .before .before .before .args .work)) _ (c .before .before .before .before .before .if4 .left) (c .before .before .before .before .if5 .left) (c .before .before .fill-rows .ensures) ∙ rows-onward (c .before .before .before .before .before .before .before .before .before .before .before .before .before .args .n) (c .before .before .before .before .before .before .before .before .before .before .before .before .before .args .rows) (now (c .before .before .before .before .before .before .before .before .before .before .before .before .before .args .tables)) (c .before .before .before .before .before .before .before .before .before .before .before .before .before .args .kind) (c .before .before .before .before .before .before .before .before .before .before .before .before .before .args .polarity) (now (c .before .before .before .before .before .before .before .before .before .before .before .before .before .args .work)) (c .before .before .before .before .before .before .before .before .before .before .if1 .left) (c .before .before .before .before .before .before .before .before .before .if2 .left) (sym (c .before .before .before .before .before .before .before .before .rows-ok .ensures) ∙ not-false (c .before .before .before .before .before .before .before .before .rows-ok .result) (c .before .before .before .before .before .before .before .if3 .left))
+
+pub row-spectra-spec : {M : Type 1} → statement M
+row-spectra-spec =
+    tie.close
+    (tie.spec
+    returns
+    returns-2
+    rows-ok-requires
+    returns-3
+    places-requires
+    returns-4
+    div-if5
+    returns-5
+    fill-rows-requires
+    same-length
+    returns-6)
