@@ -1,18 +1,19 @@
 -- Columns filled row after row: a number for each row (specs/Labels.antt).
 --
---   column-start    a column of zeros
+--   zeros-hold      a column of zeros
 --   Filling         what a loop knows that has filled c rows of an array
---   filling-start, filling-none, filling-next, filling-all   its start, in any array and in a column, its step and its end
---   filling-room    there is room for another row
+--   filling-start, filling-next, filling-all   its start, its step and its end
+--   filling-whole   the array is as long as before
+--   filling-place   the next row has a place
 --   row-fits        the number of a row fits an entry of a column
 --   cell-within     a row's number at an entry lies within the work
 use Prim.Native.Nat.{ℕ, suc, _+_, _*_, _≤_, _<_}
 use native.Mathlib.Nat.{mul-le-mul-right, suc-mul}
 use native.Mathlib.Omega.{arith}
-use mathlib.Core.Path.{_≡_, _∙_}
+use mathlib.Core.Path.{_≡_, sym, _∙_}
 use mathlib.Core.List.{List}
 use borrow.Author.Count.{below-none, below-more}
-use lib.ListN.{length, getD, set, replicate, length-set, length-replicate, getD-replicate}
+use lib.ListN.{length, getD, set, replicate, length-set, getD-replicate}
 use lib.Seq.{getD-set-same, getD-set-other}
 use mir.Syntax.{w16}
 use mir.Val.{Fits}
@@ -20,8 +21,8 @@ use Rattle.picking.specs.Matrix.{maxRows}
 use Rattle.picking.specs.Labels.{Holds}
 use Rattle.picking.proofs.Sizes.{rows-fit}
 
-pub column-start : Holds maxRows (λ c. 0) (replicate maxRows 0)
-column-start c h = getD-replicate maxRows c 0 0 h
+pub zeros-hold : Holds maxRows (λ c. 0) (replicate maxRows 0)
+zeros-hold c h = getD-replicate maxRows c 0 0 h
 
 pub record Filling (room rows : ℕ) (f : ℕ → ℕ) (of : List ℕ) (c : ℕ) : Type 0 where
   pub within : c ≤ rows
@@ -30,12 +31,6 @@ pub record Filling (room rows : ℕ) (f : ℕ → ℕ) (of : List ℕ) (c : ℕ)
 
 pub filling-start : {room : ℕ} (rows : ℕ) (f : ℕ → ℕ) (of : List ℕ) → length of ≡ room → Filling room rows f of 0
 filling-start rows f of e = record { within = omega arith; whole = e; done = below-none (λ (k : ℕ). getD of k 0 ≡ f k) }
-
-pub filling-none : (rows : ℕ) (f : ℕ → ℕ) → Filling maxRows rows f (replicate maxRows 0) 0
-filling-none rows f = filling-start rows f (replicate maxRows 0) (length-replicate maxRows 0)
-
-pub filling-room : {rows c : ℕ} → rows ≤ maxRows → c < rows → c < maxRows
-filling-room h l = omega arith
 
 pub row-fits : {rows c : ℕ} → rows ≤ maxRows → c < rows → Fits w16 c
 row-fits h l = omega (arith, rows-fit)
@@ -51,6 +46,12 @@ module _ {room rows : ℕ} {f : ℕ → ℕ} {of : List ℕ} {c : ℕ} (w : Fill
             (λ k m. getD-set-other of c k v 0 (λ (e : k ≡ c). absurd (omega arith)) ∙ w .done k m)
             (getD-set-same of c v 0 (omega (arith, w .whole)) ∙ e);
       }
+
+  pub filling-whole : (start : List ℕ) → length start ≡ room → length of ≡ length start
+  filling-whole start e = w .whole ∙ sym e
+
+  pub filling-place : c < room → c < length of
+  filling-place h = omega (arith, w .whole)
 
   pub filling-all : rows ≤ c → Holds rows f of
   filling-all h k l = w .done k (omega arith)

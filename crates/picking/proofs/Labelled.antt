@@ -10,7 +10,6 @@ use mathlib.Core.Path.{_≡_, refl, sym, ap, ap₂, _∙_}
 use mathlib.Core.Bool.{Bool, true, _&&_, and-comm, and-true}
 use mathlib.Core.List.{List, [], _∷_, _++_}
 use lib.Dec.{eqb}
-use lib.ListN.{getD}
 use Rattle.method.specs.Method.{agree}
 use Rattle.picking.specs.Matrix.{apart}
 use Rattle.picking.specs.Labels.{Labels, Classed, valueIn, both}

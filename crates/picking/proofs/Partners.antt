@@ -23,7 +23,7 @@ use Rattle.method.specs.Method.Pair.{nobody, pair}
 use Rattle.picking.specs.Labels.{Covers, alikeMarked}
 use Rattle.method.proofs.Pairs.{by-test}
 use Rattle.method.proofs.Firsts.{nobody-firstPair}
-use Rattle.picking.proofs.Listed.{passing-listing}
+use Rattle.bits.proofs.Passing.{passing-listing}
 
 module _ (rows a : ℕ) (test : ℕ → Bool) where
   pub record Paired (b : ℕ) : Type 0 where

@@ -3,28 +3,31 @@
 --   Matching        what a loop knows that seeks the lowest number from a place on: none before k passes
 --   matching-none, matching-found, matching-next, matching-all   its start, its ways out and its step
 --   matching-later  it may start later
+--   both-found, both-labels, both-values, same-label, same-value   whether two rows have one label and one value
 --   refined-le      the lowest row that has both is not above
 --   refined         the lowest rows that have both are labels
---   lowest-is       a row that has both is the lowest if none before it has
 --   met-labels      so are those by two columns of labels
 --   met-own         a row that is its own label in the one column is so in both
---   met-from, met-at, met-le   one such label, sought by keys from the larger of the two on
+--   met-from, met-at, met-le   one such label, sought from the larger of the two on
+--   lowest-both     it has the row's label and value
+--   lowest-lowest   it is the first of its class with its value
+--   one-lowest      rows of one class and value have one such row
+--   lowest-own      a row that is its own label is such a row
 use Prim.Native.Nat.{ℕ, zero, suc, _+_, _-_, _≤_, _<_}
 use native.Mathlib.Nat.{eq-or-lt-of-le, le-antisymm}
 use native.Mathlib.Numerals.{add-one}
 use native.Mathlib.Omega.{arith}
 use mathlib.Core.Path.{_≡_, refl, sym, ap, subst, _∙_}
 use mathlib.Core.Bool.{Bool, true, false, cond, _&&_, and-false}
-use mathlib.Core.Logic.{_⊎_, inl, inr, ⊎-elim}
+use mathlib.Core.Logic.{_⊎_, ⊎-elim}
 use mathlib.Core.List.{List}
 use borrow.Author.Tests.{eqb-true, eq-eqb, ne-eqb}
 use lib.Dec.{eqb}
 use lib.ListN.{getD}
 use Rattle.bits.proofs.Tests.{and-l, and-r, and-i, clash}
 use Rattle.bits.proofs.Packed.{tabulate-at}
-use Rattle.picking.specs.Labels.{Holds, Low, Labels, valueIn, both, Keyed, met, lowestFrom}
+use Rattle.picking.specs.Labels.{Holds, Low, Labels, valueIn, both, met, lowestFrom, lowestOf}
 use Rattle.method.proofs.Pairs.{by-test, by-cond}
-use Rattle.picking.proofs.Keying.{keyed-lowest}
 
 -- ---- the lowest number that passes
 
@@ -95,17 +98,6 @@ module _ (test : ℕ → Bool) where
           let e : a + d + 1 ≡ a + suc d = omega arith in
           subst (Matching a c) e (matching-next (go d (omega arith)) (omega arith) (none (a + d) (omega arith) (omega arith)))
 
-  -- a number that passes is the lowest if none before it does
-  pub lowest-is : {a r c : ℕ} → a ≤ r → r ≤ c → test r ≡ true → ((k : ℕ) → a ≤ k → k < r → test k ≡ false) → r ≡ lowestFrom test (c - a) a
-  lowest-is {a} {r} {c} h l t none = first (eq-or-lt-of-le l) ∙ sym (matching-later h l none)
-    where
-      first : (r ≡ c) ⊎ (r < c) → r ≡ lowestFrom test (c - r) r
-      first (inl e) = e ∙ matching-all (matching-none l) (omega arith)
-      first (inr m) = matching-found (matching-none l) m t
-
-  pub lowest-before : (left k j : ℕ) → k ≤ j → j < lowestFrom test left k → test j ≡ false
-  lowest-before left k j h l = by-test (test j) (λ t. absurd (omega (arith, l, lowest-first left k j h t))) (λ f. f)
-
 -- ---- rows of one class with one value
 
 module _ (labels : List ℕ) (value : ℕ → ℕ) (k c : ℕ) where
@@ -117,6 +109,9 @@ module _ (labels : List ℕ) (value : ℕ → ℕ) (k c : ℕ) where
       ap (λ (t : Bool). eqb (getD labels k 0) (getD labels c 0) && t) (ne-eqb (value k) (value c) d)
       ∙ and-false (eqb (getD labels k 0) (getD labels c 0))
 
+  pub both-labels : (getD labels k 0 ≡ getD labels c 0 → ⊥) → both labels value k c ≡ false
+  both-labels d = ap (λ (t : Bool). t && eqb (value k) (value c)) (ne-eqb (getD labels k 0) (getD labels c 0) d)
+
   pub same-label : both labels value k c ≡ true → getD labels k 0 ≡ getD labels c 0
   same-label t =
       eqb-true (getD labels k 0) (getD labels c 0) (and-l (eqb (getD labels k 0) (getD labels c 0)) (eqb (value k) (value c)) t)
@@ -125,18 +120,14 @@ module _ (labels : List ℕ) (value : ℕ → ℕ) (k c : ℕ) where
   same-value t =
       eqb-true (value k) (value c) (and-r (eqb (getD labels k 0) (getD labels c 0)) (eqb (value k) (value c)) t)
 
--- the lowest row that has a row's label and value
-abbrev pub lowestOf : List ℕ → (ℕ → ℕ) → ℕ → ℕ
-lowestOf labels value c = lowestFrom (λ k. both labels value k c) (c - getD labels c 0) (getD labels c 0)
-
 module _ (rows : ℕ) (labels : List ℕ) (value : ℕ → ℕ) (low : Low rows labels) where
-  own-both : (c : ℕ) → c < rows → both labels value (lowestOf labels value c) c ≡ true
-  own-both c h =
+  pub lowest-both : (c : ℕ) → c < rows → both labels value (lowestOf labels value c) c ≡ true
+  lowest-both c h =
       let l : getD labels c 0 ≤ c = low c h in
       lowest-passes (λ k. both labels value k c) (c - getD labels c 0) (getD labels c 0) c (omega arith) (both-found labels value c c refl refl)
 
-  own-low : (c : ℕ) → c < rows → lowestOf labels value c ≤ c
-  own-low c h =
+  pub lowest-le : (c : ℕ) → c < rows → lowestOf labels value c ≤ c
+  lowest-le c h =
       let l : getD labels c 0 ≤ c = low c h in
       omega (arith, lowest-to (λ k. both labels value k c) (c - getD labels c 0) (getD labels c 0))
 
@@ -144,28 +135,39 @@ module _ (rows : ℕ) (labels : List ℕ) (value : ℕ → ℕ) (low : Low rows 
   not-above : (a b : ℕ) → a < rows → b < rows → both labels value a b ≡ true → lowestOf labels value a ≤ lowestOf labels value b
   not-above a b h k t =
       let e : getD labels a 0 ≡ getD labels b 0 = same-label labels value a b t in
-      let o = own-both b k in
+      let o = lowest-both b k in
       lowest-first (λ k. both labels value k a) (a - getD labels a 0) (getD labels a 0) (lowestOf labels value b)
       (subst (λ (x : ℕ). x ≤ lowestOf labels value b) (sym e) (lowest-from (λ k. both labels value k b) (b - getD labels b 0) (getD labels b 0)))
       (both-found labels value (lowestOf labels value b) a
       (same-label labels value (lowestOf labels value b) b o ∙ sym e)
       (same-value labels value (lowestOf labels value b) b o ∙ sym (same-value labels value a b t)))
 
-  one-lowest : (a b : ℕ) → a < rows → b < rows → both labels value a b ≡ true → lowestOf labels value a ≡ lowestOf labels value b
+  pub one-lowest : (a b : ℕ) → a < rows → b < rows → both labels value a b ≡ true → lowestOf labels value a ≡ lowestOf labels value b
   one-lowest a b h k t =
       le-antisymm (not-above a b h k t)
       (not-above b a k h (both-found labels value b a (sym (same-label labels value a b t)) (sym (same-value labels value a b t))))
 
-  lowest-both : (a b : ℕ) → a < rows → b < rows → lowestOf labels value a ≡ lowestOf labels value b → both labels value a b ≡ true
-  lowest-both a b h k e =
-      let p = own-both a h in
-      let q = own-both b k in
+  same-both : (a b : ℕ) → a < rows → b < rows → lowestOf labels value a ≡ lowestOf labels value b → both labels value a b ≡ true
+  same-both a b h k e =
+      let p = lowest-both a h in
+      let q = lowest-both b k in
       both-found labels value a b
       (sym (same-label labels value (lowestOf labels value a) a p) ∙ ap (λ (x : ℕ). getD labels x 0) e ∙ same-label labels value (lowestOf labels value b) b q)
       (sym (same-value labels value (lowestOf labels value a) a p) ∙ ap (λ (x : ℕ). value x) e ∙ same-value labels value (lowestOf labels value b) b q)
 
+  pub lowest-lowest : (c : ℕ) → c < rows → lowestOf labels value (lowestOf labels value c) ≡ lowestOf labels value c
+  lowest-lowest c h =
+      let l : lowestOf labels value c ≤ c = lowest-le c h in
+      one-lowest (lowestOf labels value c) c (omega arith) h (lowest-both c h)
+
+  pub lowest-own : (c : ℕ) → c < rows → getD labels c 0 ≡ c → lowestOf labels value c ≡ c
+  lowest-own c h e =
+      let up : getD labels c 0 ≤ lowestOf labels value c = lowest-from (λ k. both labels value k c) (c - getD labels c 0) (getD labels c 0) in
+      let down : lowestOf labels value c ≤ c = lowest-le c h in
+      omega arith
+
   pub refined-le : (c : ℕ) → c < rows → {r : ℕ} → r ≡ lowestOf labels value c → r ≤ c
-  refined-le c h e = subst (λ (x : ℕ). x ≤ c) (sym e) (own-low c h)
+  refined-le c h e = subst (λ (x : ℕ). x ≤ c) (sym e) (lowest-le c h)
 
   pub refined : {R : List ℕ} → Holds rows (lowestOf labels value) R → Labels rows (both labels value) R
   refined {R} holds =
@@ -173,13 +175,13 @@ module _ (rows : ℕ) (labels : List ℕ) (value : ℕ → ℕ) (low : Low rows 
         low = λ c h. refined-le c h (holds c h);
         own =
             λ c h.
-            let m : lowestOf labels value c < rows = omega (arith, own-low c h) in
-            ap (λ (x : ℕ). getD R x 0) (holds c h) ∙ holds (lowestOf labels value c) m ∙ one-lowest (lowestOf labels value c) c m h (own-both c h) ∙ sym (holds c h);
+            let m : lowestOf labels value c < rows = omega (arith, lowest-le c h) in
+            ap (λ (x : ℕ). getD R x 0) (holds c h) ∙ holds (lowestOf labels value c) m ∙ lowest-lowest c h ∙ sym (holds c h);
         equal =
             λ a b h k.
             by-test (both labels value a b)
             (λ t. eq-eqb (getD R a 0) (getD R b 0) (holds a h ∙ one-lowest a b h k t ∙ sym (holds b k)) ∙ sym t)
-            (λ f. ne-eqb (getD R a 0) (getD R b 0) (λ e. clash (lowest-both a b h k (sym (holds a h) ∙ e ∙ holds b k)) f) ∙ sym f);
+            (λ f. ne-eqb (getD R a 0) (getD R b 0) (λ e. clash (same-both a b h k (sym (holds a h) ∙ e ∙ holds b k)) f) ∙ sym f);
       }
 
 module _ (rows : ℕ) (labels values : List ℕ) (low : Low rows labels) where
@@ -204,10 +206,10 @@ module _ (rows : ℕ) (labels values : List ℕ) (low : Low rows labels) where
     pub met-from : from ≤ c
     met-from = least c (low c h) (values-low c h)
 
-    module _ (keys : List ℕ) (keyed : Keyed rows labels values keys) {r : ℕ} (e : r ≡ lowestFrom (λ k. eqb (getD keys k 0) (getD keys c 0)) (c - from) from) where
-      pub met-at : r ≡ getD (met rows labels values) c 0
+    module _ {r : ℕ} (e : r ≡ lowestFrom (λ k. both labels (valueIn values) k c) (c - from) from) where
+      pub met-at : r ≡ lowestOf labels (valueIn values) c
       met-at =
-          keyed-lowest labels values keys keyed c h met-from e
+          e
           ∙ sym (matching-later (λ k. both labels (valueIn values) k c) above met-from
           (λ k a l.
           both-values labels (valueIn values) k c
@@ -216,7 +218,6 @@ module _ (rows : ℕ) (labels values : List ℕ) (low : Low rows labels) where
           let m : getD values k 0 ≤ k = values-low k i in
           let n : from ≤ k = least k a (omega arith) in
           omega arith)))
-          ∙ sym (met-holds c h)
 
       pub met-le : r ≤ c
-      met-le = subst (λ (x : ℕ). x ≤ c) (sym met-at) (met-labels .low c h)
+      met-le = refined-le rows labels (valueIn values) low c h met-at

@@ -1,4 +1,4 @@
--- Dropping by recursion: what is kept of the entries from a place of the scan on (specs/Labels.antt, `Rest`, `Picks`).
+-- Dropping, from the last entry taken to the first (specs/Labels.antt, `Keeping`).
 --
 --   start-place      the place before those kept
 --   start-back       those kept start after it
@@ -6,33 +6,32 @@
 --   without-place    a list with an entry between two parts: without the entry
 --   drops-goes       an entry goes when the rest tells all needed pairs apart
 --   drops-stays      else it stays
---   rest-end         when no entry is taken nothing is kept
---   rest-drop        the entry goes
---   rest-keep        the entry stays, before those kept
---   picks-end, picks-drop, picks-keep   so for whatever entries were taken before
---   picks-room       there is room before those kept
---   picks-ready      the classes by those kept can be parted
---   picks-start      from the first place of the scan on, where nothing is taken before
+--   met-strays       of listed rows, labels by two columns as a function and as a list
+--   drop-comparable, drop-ready, drop-room   what looking at an entry asks for
+--   drop-goes        the entry goes
+--   drop-keeps       the entry stays, before those kept
+--   dropping-start, dropping-at, dropping-end   the start, the next entry and the end of dropping all
+--   dropping-of      what it asks for
 use Prim.Native.Nat.{ℕ, zero, suc, _+_, _-_, _≤_, _<_}
-use native.Mathlib.Nat.{not-suc-le-zero}
-use native.Mathlib.Numerals.{add-one}
+use native.Mathlib.Nat.{not-suc-le-zero, le-refl}
 use native.Mathlib.Omega.{arith}
 use mathlib.Core.Path.{_≡_, refl, sym, ap, ap₂, subst, _∙_}
-use mathlib.Core.Bool.{Bool, true, false, not, cond, _&&_}
+use mathlib.Core.Bool.{Bool, true, false, not, cond}
 use mathlib.Core.List.{List, [], _∷_, _++_, append-nil}
-use lib.ListN.{length, drop, getD, set, drop-of-length-le, length-append}
-use lib.Seq.{append-snoc, drop-cons, lt-length-set, getD-set-same, drop-set-lt}
-use Rattle.method.specs.Method.{without, agree, full, takes, drops, firstPair, someBelow}
-use Rattle.picking.specs.Matrix.{cell, apart, maxEntries}
-use Rattle.picking.specs.Labels.{Labels, Classed, Settled, Parted, Ready, Fit, valueIn, both, stray, met, someOf, pendingOf, alikeMarked, pairTold, Rest, Picks, Begun, keptOf}
-use Rattle.picking.specs.declared.classes.Two.{Two}
-use Rattle.picking.specs.declared.classes.Classes.{Classes}
-use Rattle.picking.specs.declared.dropping.Kept.{Kept}
-use Rattle.picking.proofs.Labelled.{classed-start, classed-entry, classed-front, classed-join}
-use Rattle.picking.proofs.Marked.{labels-full, labels-pair}
+use lib.Dec.{eqb}
+use lib.ListN.{length, take, drop, getD, set, drop-of-length-le}
+use lib.Seq.{append-snoc, drop-cons, lt-length-set, getD-set-same, drop-set-lt, length-take-le, take-suc, take-all, getD-take}
+use Rattle.bits.proofs.Packed.{tabulate-at}
+use Rattle.method.specs.Method.{without, agree, full, drops}
+use Rattle.picking.specs.Matrix.{cell, apart, maxRows, maxEntries}
+use Rattle.picking.specs.Labels.{Classed, Fit, Ready, Parts, Comparable, valueIn, lowestOf, stray, strayBy, met, someOf, slot, Levels, Started, Keeping, Droppable, Dropping, Left}
+use Rattle.picking.proofs.Labelled.{classed-start, classed-front, classed-join}
+use Rattle.picking.proofs.Listed.{some-same}
+use Rattle.picking.proofs.Marked.{labels-full}
 use Rattle.picking.proofs.Refined.{met-labels}
 use Rattle.picking.proofs.Strays.{some-strays}
-use Rattle.picking.proofs.Taken.{sought, taken-end, taken-next}
+use Rattle.picking.proofs.Parting.{pending-below}
+use Rattle.picking.proofs.Growing.{level-ready}
 
 pub start-place : {start : ℕ} → 1 ≤ start → start ≤ maxEntries → start - 1 < maxEntries
 start-place some h = omega arith
@@ -72,121 +71,163 @@ module _ {E : Type 0} (coef : ℕ → E → ℕ) (rows : ℕ) (needed : ℕ → 
   drops-stays f =
       ap (λ (t : Bool). drops coef rows needed (length l) (cond t (without (length l) (l ++ (e ∷ kept))) (l ++ (e ∷ kept)))) (looked ∙ f)
 
-module _ (work : List ℕ) (width rows : ℕ) (marks before : List ℕ) where
-  pub rest-end : (k : Kept) → k .start ≡ maxEntries → length (k .entries) ≡ maxEntries
-      → Classed rows marks (λ a b. true) (k .classes .labels) → Settled rows marks (k .classes)
-      → pairTold (k .pair) ≡ firstPair rows (λ a b. apart marks a b && agree (cell work width) before a b)
-      → Rest work width rows marks before before k
-  rest-end k s n c t p =
-      let none : keptOf k ≡ [] = drop-of-length-le (k .entries) {i = k .start} (omega arith) in
+pub met-strays : (rows : ℕ) (marks L M list : List ℕ) → ((i : ℕ) → i < length list → getD list i 0 < rows)
+    → someOf (strayBy (lowestOf L (valueIn M)) marks) list ≡ someOf (stray (met rows L M) marks) list
+met-strays rows marks L M list below =
+    some-same (strayBy (lowestOf L (valueIn M)) marks) (stray (met rows L M) marks) list
+    (λ i h.
+    ap (λ (x : ℕ). not (eqb (getD marks (getD list i 0) 0) (getD marks x 0)))
+    (sym (tabulate-at rows (lowestOf L (valueIn M)) (getD list i 0) (below i h))))
+
+-- ---- one entry
+
+module _ (work : List ℕ) (width rows : ℕ) (marks taken : List ℕ) (level : ℕ) (L P : List ℕ) (seen e start : ℕ) (entries M Q : List ℕ) (count : ℕ)
+    (d : Droppable work width rows marks taken level L P seen e start entries M Q count) where
+  pub drop-comparable : length L ≡ maxRows → length M ≡ maxRows → Comparable rows marks L (take seen P) M
+  drop-comparable l m =
       record {
-        within = omega arith;
-        room = omega arith;
-        goes = sym (ap (drops (cell work width) rows (apart marks) (length before)) (ap (λ (l : List ℕ). before ++ l) none ∙ append-nil before));
-        classed =
-            subst (λ (l : List ℕ). Classed rows marks (agree (cell work width) l) (k .classes .labels)) (sym none)
-            (classed-start (cell work width) rows marks c);
-        settled = t;
-        told = p;
+        marked = d .fit .marked;
+        labelled = omega (arith, d .fit .most);
+        other = omega (arith, d .fit .most);
+        low = d .before .classed .low;
+        others-low = d .after .level-by .classed .low;
+        listed = pending-below (take seen P) (d .before .settled .covers);
       }
 
-  module _ (taken : List ℕ) (e : ℕ) (k : Kept) (by : Classes) (rest : Rest work width rows marks taken (before ++ (e ∷ [])) k)
-      (classed : Classed rows marks (agree (cell work width) before) (by .labels)) (settled : Settled rows marks by) where
-    -- whether the entries before and those kept tell all needed pairs apart
-    told : full (cell work width) rows (apart marks) (before ++ keptOf k)
-        ≡ not (someOf (stray (met rows (by .labels) (k .classes .labels)) marks) (pendingOf by))
-    told =
-        labels-full (cell work width) rows marks (before ++ keptOf k) (met rows (by .labels) (k .classes .labels))
-        (classed-join (cell work width) rows marks before (keptOf k) (by .labels) (k .classes .labels) classed (rest .classed)
-        (met-labels rows (by .labels) (k .classes .labels) (classed .low)))
-        ∙ ap not (sym (some-strays rows marks (by .labels) (k .classes .labels) (pendingOf by) (classed .low) (settled .covers)))
+  pub drop-ready : Ready work width rows marks M (take count Q)
+  drop-ready = level-ready (d .fit) (d .after .level-by)
 
-    one-more : length (before ++ (e ∷ [])) ≡ suc (length before)
-    one-more = length-append before (e ∷ []) ∙ add-one (length before)
+  pub drop-room : 1 ≤ start
+  drop-room = omega (arith, d .after .room)
 
-    goes-on : drops (cell work width) rows (apart marks) (length taken) taken
-        ≡ drops (cell work width) rows (apart marks) (suc (length before)) (before ++ (e ∷ keptOf k))
-    goes-on = rest .goes ∙ ap₂ (drops (cell work width) rows (apart marks)) one-more (append-snoc before e (keptOf k))
+  before-length : length (take level taken) ≡ level
+  before-length = length-take-le level taken (omega (arith, d .inside))
 
-    module _ {t : Bool} (q : t ≡ not (someOf (stray (met rows (by .labels) (k .classes .labels)) marks) (pendingOf by))) where
-      pub rest-drop : t ≡ true → Rest work width rows marks taken before k
-      rest-drop f =
-          record {
-            within = rest .within;
-            room = omega (arith, rest .room, one-more);
-            goes = goes-on ∙ drops-goes (cell work width) rows (apart marks) before e (keptOf k) (told ∙ sym q ∙ f);
-            classed = rest .classed;
-            settled = rest .settled;
-            told = rest .told;
-          }
+  -- whether the entries before and those kept tell all needed pairs apart
+  told : full (cell work width) rows (apart marks) (take level taken ++ drop start entries)
+      ≡ not (someOf (strayBy (lowestOf L (valueIn M)) marks) (take seen P))
+  told =
+      labels-full (cell work width) rows marks (take level taken ++ drop start entries) (met rows L M)
+      (classed-join (cell work width) rows marks (take level taken) (drop start entries) L M (d .before .classed) (d .after .level-by .classed)
+      (met-labels rows L M (d .before .classed .low)))
+      ∙ ap not (sym (some-strays rows marks L M (take seen P) (d .before .classed .low) (d .before .settled .covers)))
+      ∙ ap not (sym (met-strays rows marks L M (take seen P) (pending-below (take seen P) (d .before .settled .covers))))
 
-      pub rest-keep : (kept : Kept) (r : Classes) → t ≡ false → Parted work width rows marks e (k .classes .labels) r
-          → (kept .start + 1 ≡ k .start) × (keptOf kept ≡ e ∷ keptOf k) × (kept .classes ≡ r) × (kept .pair ≡ k .pair)
-          → Rest work width rows marks taken before kept
-      rest-keep kept r f parted made =
-          record {
-            within = omega (arith, rest .within, made .0);
-            room = omega (arith, rest .room, one-more, made .0);
-            goes =
-                goes-on ∙ drops-stays (cell work width) rows (apart marks) before e (keptOf k) (told ∙ sym q ∙ f)
-                ∙ ap (λ (l : List ℕ). drops (cell work width) rows (apart marks) (length before) (before ++ l)) (sym (made .1));
-            classed =
-                subst (λ (c : Classes). Classed rows marks (agree (cell work width) (keptOf kept)) (c .labels)) (sym (made .2))
-                (subst (λ (l : List ℕ). Classed rows marks (agree (cell work width) l) (r .labels)) (sym (made .1))
-                (classed-front (cell work width) rows marks (keptOf k) e (k .classes .labels) (rest .classed) (parted .classed)));
-            settled = subst (Settled rows marks) (sym (made .2)) (parted .settled);
-            told = ap pairTold (made .3) ∙ rest .told;
-          }
+  goes-on : drops (cell work width) rows (apart marks) (length taken) taken
+      ≡ drops (cell work width) rows (apart marks) (suc (length (take level taken))) (take level taken ++ (e ∷ drop start entries))
+  goes-on =
+      d .after .goes
+      ∙ ap₂ (drops (cell work width) rows (apart marks)) (ap suc (sym before-length))
+      (ap (λ (l : List ℕ). l ++ drop start entries) (take-suc taken level 0 (d .inside))
+      ∙ append-snoc (take level taken) (getD taken level 0) (drop start entries)
+      ∙ ap (λ (x : ℕ). take level taken ++ (x ∷ drop start entries)) (d .at))
 
-module _ (work : List ℕ) (width rows : ℕ) (marks scan : List ℕ) (by : Classes) (at : ℕ) {next : ℕ}
-    (found : next ≡ sought work width scan by at) (settled : Settled rows marks by) where
-  pub picks-end : (k : Kept) {two : Two} → next ≡ length scan → length (k .entries) ≡ maxEntries
-      → pairTold two ≡ firstPair rows (alikeMarked (by .labels) marks)
-      → (k .start ≡ maxEntries) × Classed rows marks (λ a b. true) (k .classes .labels) × Settled rows marks (k .classes) × (k .pair ≡ two)
-      → Picks work width rows marks scan at (by .labels) k
-  picks-end k e n seen made before classed =
-      subst (λ (l : List ℕ). Rest work width rows marks l before k)
-      (sym (taken-end work width scan by at found rows marks settled before classed e))
-      (rest-end work width rows marks before k (made .0) n (made .1) (made .2)
-      (ap pairTold (made .3) ∙ seen ∙ labels-pair (cell work width) rows marks before (by .labels) classed))
+  module _ {t : Bool} (q : t ≡ not (someOf (strayBy (lowestOf L (valueIn M)) marks) (take seen P))) where
+    pub drop-goes : t ≡ true → Keeping work width rows marks taken level start entries M Q count
+    drop-goes f =
+        record {
+          within = d .after .within;
+          room = omega (arith, d .after .room);
+          goes =
+              goes-on ∙ drops-goes (cell work width) rows (apart marks) (take level taken) e (drop start entries) (told ∙ sym q ∙ f)
+              ∙ ap (λ (n : ℕ). drops (cell work width) rows (apart marks) n (take level taken ++ drop start entries)) before-length;
+          level-by = d .after .level-by;
+        }
 
-  module _ (inside : next < length scan) {e : ℕ} (entry : e ≡ getD scan next 0) (finer : Classes)
-      (parted : Parted work width rows marks e (by .labels) finer) (k : Kept) (rest : Picks work width rows marks scan (next + 1) (finer .labels) k)
-    where
-      -- what is kept of those after the entry
-      after : (before : List ℕ) → Classed rows marks (agree (cell work width) before) (by .labels)
-          → Rest work width rows marks (takes (cell work width) rows (apart marks) before (drop at scan)) (before ++ (e ∷ [])) k
-      after before classed =
-          subst (λ (l : List ℕ). Rest work width rows marks l (before ++ (e ∷ [])) k)
-          (sym (taken-next work width scan by at found rows marks settled before classed inside entry))
-          (rest (before ++ (e ∷ [])) (classed-entry (cell work width) rows marks before e (by .labels) classed (parted .classed)))
+    pub drop-keeps : (start₁ : ℕ) (entries₁ M₁ Q₁ : List ℕ) (count₁ : ℕ) → t ≡ false
+        → (start₁ + 1 ≡ start) × (drop start₁ entries₁ ≡ e ∷ drop start entries) × Parts work width marks e M (take count Q) M₁ Q₁ count₁
+        → Keeping work width rows marks taken level start₁ entries₁ M₁ Q₁ count₁
+    drop-keeps start₁ entries₁ M₁ Q₁ count₁ f made =
+        let parted = made .2 rows drop-ready in
+        record {
+          within = omega (arith, d .after .within, made .0);
+          room = omega (arith, d .after .room, made .0);
+          goes =
+              goes-on ∙ drops-stays (cell work width) rows (apart marks) (take level taken) e (drop start entries) (told ∙ sym q ∙ f)
+              ∙ ap₂ (drops (cell work width) rows (apart marks)) before-length (ap (λ (l : List ℕ). take level taken ++ l) (sym (made .1)));
+          level-by =
+              record {
+                classed =
+                    subst (λ (l : List ℕ). Classed rows marks (agree (cell work width) l) M₁) (sym (made .1))
+                    (classed-front (cell work width) rows marks (drop start entries) e M (d .after .level-by .classed) (parted .classed));
+                settled = parted .settled;
+              };
+        }
 
-      module _ (b : Begun work width rows marks scan at by) where
-        pub picks-room : (1 ≤ k .start) × (k .start ≤ maxEntries)
-        picks-room =
-            let r : Rest work width rows marks (takes (cell work width) rows (apart marks) (b .before) (drop at scan)) (b .before ++ (e ∷ [])) k =
-            after (b .before) (b .classed) in
-            (omega (arith, r .room, b .room, length-append (b .before) (e ∷ [])), r .within)
+-- ---- all entries
 
-        pub picks-ready : Fit work width rows marks → Ready work width rows marks (k .classes)
-        picks-ready fit =
-            let r : Rest work width rows marks (takes (cell work width) rows (apart marks) (b .before) (drop at scan)) (b .before ++ (e ∷ [])) k =
-            after (b .before) (b .classed) in
-            record { fit = fit; low = r .classed .low; own = r .classed .own; settled = r .settled }
+module _ {work : List ℕ} {width rows : ℕ} {marks taken counts labels pending others left : List ℕ} {count : ℕ}
+    (d : Dropping work width rows marks taken counts labels pending others left count) where
+  pub dropping-start : (entries : List ℕ) {level : ℕ} → length entries ≡ maxEntries → level ≡ length taken
+      → Keeping work width rows marks taken level maxEntries entries others left count
+  dropping-start entries {level} e l =
+      let none : drop maxEntries entries ≡ [] = drop-of-length-le entries {i = maxEntries} (omega arith) in
+      record {
+        within = le-refl maxEntries;
+        room = omega (arith, d .few);
+        goes =
+            ap₂ (drops (cell work width) rows (apart marks)) (sym l)
+            (sym (ap₂ (λ (x y : List ℕ). x ++ y) (take-all level taken (omega arith)) none ∙ append-nil taken));
+        level-by =
+            record {
+              classed =
+                  subst (λ (x : List ℕ). Classed rows marks (agree (cell work width) x) others) (sym none)
+                  (classed-start (cell work width) rows marks (d .started .classed));
+              settled = d .started .settled;
+            };
+      }
 
-      module _ {t : Bool} (test : t ≡ not (someOf (stray (met rows (by .labels) (k .classes .labels)) marks) (pendingOf by))) where
-        pub picks-drop : t ≡ true → Picks work width rows marks scan at (by .labels) k
-        picks-drop f before classed =
-            rest-drop work width rows marks before (takes (cell work width) rows (apart marks) before (drop at scan)) e k by (after before classed)
-            classed settled test f
+  pub dropping-at : {level start : ℕ} {entries M Q : List ℕ} {many e : ℕ} → 0 < level → level ≤ length taken
+      → Keeping work width rows marks taken level start entries M Q many → getD taken (level - 1) 0 ≡ e
+      → Droppable work width rows marks taken (level - 1) (slot (level - 1) labels) (slot (level - 1) pending) (getD counts (level - 1) 0) e start entries M Q many
+  dropping-at {level} {start} {entries} {M} {Q} {many} h l k e =
+      let back : level ≡ suc (level - 1) = omega arith in
+      record {
+        fit = d .fit;
+        inside = omega arith;
+        at = e;
+        before = d .levels (level - 1) (omega arith);
+        after = subst (λ (n : ℕ). Keeping work width rows marks taken n start entries M Q many) back k;
+      }
 
-        pub picks-keep : (kept : Kept) (r : Classes) → t ≡ false → Parted work width rows marks e (k .classes .labels) r
-            → (kept .start + 1 ≡ k .start) × (keptOf kept ≡ e ∷ keptOf k) × (kept .classes ≡ r) × (kept .pair ≡ k .pair)
-            → Picks work width rows marks scan at (by .labels) kept
-        picks-keep kept r f more made before classed =
-            rest-keep work width rows marks before (takes (cell work width) rows (apart marks) before (drop at scan)) e k by (after before classed)
-            classed settled test kept r f more made
+  pub dropping-end : {level start : ℕ} {entries M Q : List ℕ} {many : ℕ} → level ≤ 0 → Keeping work width rows marks taken level start entries M Q many
+      → Left work width rows marks taken start entries
+  unfolding drops
+  dropping-end {level} {start} {entries} h k =
+      let none : level ≡ 0 = omega arith in
+      record {
+        within = k .within;
+        all = k .goes ∙ ap (λ (n : ℕ). drops (cell work width) rows (apart marks) n (take n taken ++ drop start entries)) none;
+      }
 
-pub picks-start : (work : List ℕ) (width rows : ℕ) (marks scan labels : List ℕ) (k : Kept) → Classed rows marks (λ a b. true) labels
-    → Picks work width rows marks scan 0 labels k → Rest work width rows marks (takes (cell work width) rows (apart marks) [] scan) [] k
-picks-start work width rows marks scan labels k c picks = picks [] (classed-start (cell work width) rows marks c)
+pub dropping-of : {work : List ℕ} {width rows : ℕ} {marks taken counts labels pending others left : List ℕ} {count : ℕ} → Fit work width rows marks
+    → length taken ≤ maxEntries → Levels work width rows marks taken labels pending counts → Started rows marks others left count
+    → Dropping work width rows marks taken counts labels pending others left count
+dropping-of fit few levels started = record { fit = fit; few = few; levels = levels; started = started }
+
+-- the entries of an array that were taken
+module _ (entries : List ℕ) {count : ℕ} (e : length entries ≡ maxEntries) (h : count ≤ maxEntries) where
+  pub taken-length : length (take count entries) ≡ count
+  taken-length = length-take-le count entries (omega arith)
+
+  pub taken-few : length (take count entries) ≤ maxEntries
+  taken-few = omega (arith, taken-length)
+
+  pub taken-within : {level : ℕ} → level ≤ count → level ≤ length (take count entries)
+  taken-within l = omega (arith, taken-length)
+
+  pub taken-at : {level : ℕ} → 0 < level → level ≤ count → getD (take count entries) (level - 1) 0 ≡ getD entries (level - 1) 0
+  taken-at {level} l k = getD-take count entries (level - 1) 0 (omega arith)
+
+  pub taken-inside : {level : ℕ} → 0 < level → level ≤ count → level - 1 < length (take count entries)
+  taken-inside l k = omega (arith, taken-length)
+
+module _ {level : ℕ} (h : 0 < level) where
+  pub level-back : level - 1 < level
+  level-back = omega arith
+
+  pub level-entry : {count : ℕ} → level ≤ count → count ≤ maxEntries → level - 1 < maxEntries
+  level-entry l k = omega arith
+
+  pub level-within : {count : ℕ} → level ≤ count → level - 1 ≤ count
+  level-within l = omega arith

@@ -7,11 +7,10 @@
 --   seeking-none, seeking-stop, seeking-next, seeking-all       its start, its ways out and its step
 --   seek-idle        with no pending row, all entries are clear
 --   passing-fit      the numbers of the rows below a bound that pass a test can be read
---   passing-marked   and so can their marks
 --   seek-rises, seek-within   the place sought is not before the first, and within the scan
 --   seek-fails       the entry there does not pass the test
 --   seek-goes        taking passes over the entries before it
-use Prim.Native.Nat.{ℕ, zero, suc, _+_, _*_, _≤_, _<_}
+use Prim.Native.Nat.{ℕ, suc, _+_, _*_, _≤_, _<_}
 use native.Mathlib.Nat.{mul-le-mul-right, le-refl, le-trans}
 use native.Mathlib.Numerals.{add-one}
 use native.Mathlib.Omega.{arith}
@@ -25,11 +24,11 @@ use lib.Seq.{drop-cons, drop-drop, getD-drop}
 use Rattle.method.specs.Method.{useful, takes}
 use Rattle.bits.specs.Passing.{passing}
 use Rattle.picking.specs.Matrix.{maxRows}
-use Rattle.picking.specs.Labels.{Low, clear, seek, OpenFit, OpenMarked}
+use Rattle.picking.specs.Labels.{Low, clear, seek, OpenFit}
 use Rattle.method.proofs.Pairs.{by-cond}
 use Rattle.method.proofs.Takes.{takes-idle}
 use Rattle.picking.proofs.Columns.{cell-within}
-use Rattle.picking.proofs.Listed.{passing-few, passing-listing}
+use Rattle.bits.proofs.Passing.{passing-few, passing-listing}
 
 -- ---- places
 
@@ -134,18 +133,6 @@ passing-fit work width rows labels test pending most h k low e =
       few = omega (arith, passing-few test rows);
       listed = λ i l. let b : getD (passing test rows) i 0 < rows = w .below i l in omega arith;
       filled = λ i l. le-trans (mul-le-mul-right width (w .below i l)) h;
-      low = λ i l. low (getD (passing test rows) i 0) (w .below i l);
-    })
-
-pub passing-marked : (rows : ℕ) (marks labels : List ℕ) (test : ℕ → Bool) (pending : List ℕ) → rows ≤ maxRows → rows ≤ length marks → Low rows labels
-    → pending ≡ passing test rows → OpenMarked marks labels pending
-passing-marked rows marks labels test pending most h low e =
-    let w = passing-listing test rows in
-    subst (OpenMarked marks labels) (sym e)
-    (record {
-      few = omega (arith, passing-few test rows);
-      listed = λ i l. let b : getD (passing test rows) i 0 < rows = w .below i l in omega arith;
-      marked = λ i l. let b : getD (passing test rows) i 0 < rows = w .below i l in omega arith;
       low = λ i l. low (getD (passing test rows) i 0) (w .below i l);
     })
 

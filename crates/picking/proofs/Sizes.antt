@@ -2,20 +2,23 @@
 --
 --   count-within     a count no greater than a size is within what has that size
 --   prefix-length    the first entries of an array are as many as asked for
+--   prefix-inside, prefix-end   a place is among them, or past them
 --   place-fits       a place within lent memory fits a machine word
 --   start-fits       and so does the start of the row that it lies in
---   below-size       what is below an array's length is below its size
---   row-place        a row's number fits a machine word
---   rows-entries, rows-fit   one entry fewer than rows, and a row's number fits in a byte: the only facts that take the limits' values
+--   row-byte, row-place   a row's number fits in a byte, and a machine word
+--   rows-entries, rows-fit, slots-fit, slots-most   one entry fewer than rows, a row's number fits in a byte, and as many levels as rows are few: the only
+--                    facts that take the limits' values
+--   some-rows        there is a row
+--   entries-row      as many entries as are taken are fewer than rows
 use Prim.Native.Nat.{ℕ, suc, _+_, _*_, _^_, _≤_, _<_}
 use native.Mathlib.Nat.{mul-suc}
 use native.Mathlib.Omega.{arith}
 use mathlib.Core.Path.{_≡_, refl, sym}
 use mathlib.Core.List.{List}
-use lib.ListN.{length, take, getD}
+use lib.ListN.{length, take}
 use lib.Seq.{length-take-le}
-use lib.Dec.{lit≤}
-use mir.Syntax.{w64}
+use lib.Dec.{lit<, lit≤}
+use mir.Syntax.{w8, w64}
 use mir.Val.{Fits}
 use Rattle.picking.specs.Matrix.{maxRows, maxEntries}
 
@@ -24,6 +27,13 @@ count-within e h = omega arith
 
 pub prefix-length : (l : List ℕ) {count n : ℕ} → length l ≡ n → count ≤ n → count ≡ length (take count l)
 prefix-length l {count} e h = sym (length-take-le count l (count-within e h))
+
+module _ (l : List ℕ) {count : ℕ} (h : count ≤ length l) where
+  pub prefix-inside : {i : ℕ} → i < count → i < length (take count l)
+  prefix-inside k = omega (arith, length-take-le count l h)
+
+  pub prefix-end : {i : ℕ} → count ≤ i → length (take count l) ≤ i
+  prefix-end k = omega (arith, length-take-le count l h)
 
 -- n entries of so many bytes, at least one, take fewer than 2 ^ 63
 module _ {n : ℕ} (bytes : ℕ) (room : n * suc bytes < 2 ^ 63) where
@@ -37,13 +47,29 @@ pub rows-entries : maxRows ≡ suc maxEntries
 unfolding maxRows maxEntries
 rows-entries = refl
 
-pub rows-fit : maxRows ≤ 2 ^ 8
+pub rows-fit : maxRows < 2 ^ 8
 unfolding maxRows
-rows-fit = lit≤ tt
+rows-fit = lit< tt
 
-pub below-size : {places n : ℕ} (rows : List ℕ) → places ≡ n → ((i : ℕ) → i < length rows → getD rows i 0 < places)
-    → (i : ℕ) → i < length rows → getD rows i 0 < n
-below-size {places} {n} rows e all i h = let b : getD rows i 0 < places = all i h in omega arith
+pub slots-fit : maxRows * maxRows ≤ 2 ^ 16
+unfolding maxRows
+slots-fit = lit≤ tt
+
+pub slots-most : maxRows ≤ maxRows * maxRows
+unfolding maxRows
+slots-most = lit≤ tt
+
+pub some-rows : 0 < maxRows
+some-rows = omega (arith, rows-entries)
+
+pub entries-row : {count : ℕ} → count ≤ maxEntries → count < maxRows
+entries-row h = omega (arith, rows-entries)
+
+pub add-one-lt : (n : ℕ) → n < n + 1
+add-one-lt n = omega arith
+
+pub row-byte : {c : ℕ} → c ≤ maxRows → Fits w8 c
+row-byte h = omega (arith, rows-fit)
 
 pub row-place : {c : ℕ} → c ≤ maxRows → Fits w64 c
 row-place h = omega (arith, rows-fit)

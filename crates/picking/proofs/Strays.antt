@@ -2,6 +2,8 @@
 --
 --   Passed          what a loop knows that has passed i rows of a list: the test holds of none
 --   passed-none, passed-stop, passed-next, passed-all   its start, its ways out and its step
+--   passed-one, passed-zero                             its ways out, where the answer is a number
+--   other-mark, same-mark                               whether two rows' marks differ, by comparing
 --   stray-found, stray-not                              whether a row's mark is its label's, by comparing
 --   some-as         tests that are the same below a bound
 --   split-pair      a class holds two marks if two of its rows have
@@ -11,7 +13,7 @@ use Prim.Native.Nat.{ℕ, zero, suc, _+_, _≤_, _<_}
 use native.Mathlib.Numerals.{add-one}
 use native.Mathlib.Omega.{arith}
 use mathlib.Core.Path.{_≡_, refl, sym, ap, ap₂, _∙_}
-use mathlib.Core.Bool.{Bool, true, false, not, _&&_, _||_}
+use mathlib.Core.Bool.{Bool, true, false, not, cond, _&&_, _||_}
 use mathlib.Core.List.{List}
 use borrow.Author.Tests.{eqb-true, eqb-false, eq-eqb, ne-eqb, not-false}
 use lib.Dec.{eqb}
@@ -54,9 +56,24 @@ module _ (test : ℕ → Bool) (list : List ℕ) where
               ∙ ap (λ (n : ℕ). someOf test (drop n list)) (sym (add-one i));
         }
 
+    pub passed-one : i < length list → test (getD list i 0) ≡ true → _≡_ {A = ℕ} 1 (cond (someOf test list) 1 0)
+    passed-one h t =
+        sym (ap (λ (u : Bool). cond u 1 0) (next h ∙ ap (λ (x : Bool). x || someOf test (drop (suc i) list)) t))
+
+    pub passed-zero : length list ≤ i → _≡_ {A = ℕ} 0 (cond (someOf test list) 1 0)
+    unfolding someOf
+    passed-zero h = sym (ap (λ (u : Bool). cond u 1 0) (w .rest ∙ ap (someOf test) (drop-of-length-le list {i = i} h)))
+
     pub passed-all : length list ≤ i → true ≡ not (someOf test list)
     unfolding someOf
     passed-all h = sym (ap not (w .rest ∙ ap (someOf test) (drop-of-length-le list {i = i} h)))
+
+module _ (marks : List ℕ) (a b : ℕ) where
+  pub other-mark : (getD marks a 0 ≡ getD marks b 0 → ⊥) → not (eqb (getD marks a 0) (getD marks b 0)) ≡ true
+  other-mark d = ap not (ne-eqb (getD marks a 0) (getD marks b 0) d)
+
+  pub same-mark : getD marks a 0 ≡ getD marks b 0 → not (eqb (getD marks a 0) (getD marks b 0)) ≡ false
+  same-mark e = ap not (eq-eqb (getD marks a 0) (getD marks b 0) e)
 
 module _ (labels marks : List ℕ) (c : ℕ) where
   pub stray-found : (getD marks c 0 ≡ getD marks (getD labels c 0) 0 → ⊥) → stray labels marks c ≡ true

@@ -3,7 +3,7 @@
 --
 --   Low, Own, Labels   what makes numbers labels of a relation
 --   both           two rows have the same label and the same value
---   Keyed          one number for each row that stands for its label and its value
+--   lowestOf       the lowest row that has a row's label and value
 --   met            the labels of the rows by two columns of labels
 --   stray          a row's mark is not its label's
 --   alikeMarked    two rows of one class whose marks differ
@@ -12,35 +12,42 @@
 --   Mixed          every class of more rows than one holds two marks
 --   someOf, filtered   a test holds of one of some rows; those of which it holds
 --   Covers         rows among which are all that are not their own labels
---   moves          a row does not have its label's number at an entry
---   Gathered       the rows that move, with their keys
---   Relabelled, Refines   what refining does
---   parted, settledOf     which classes hold two marks, seen from some rows, and the label that a row has when the others are dissolved
---   Settles        what dissolving does
---   clear          all pending rows have their labels' numbers at an entry
---   seek           the place of the first entry that isn't clear
---   OpenFit, OpenMarked   what reading the pending rows' numbers and marks, and their labels', asks for
+--   OpenFit        what reading the pending rows' numbers, and their labels', asks for
+--   Comparable     what comparing labels in two columns asks for
+--   First, Mate    a row is the first of its class with its value; two rows of one class, the second such a one
+--   Chain          the rows of each class that are the first with their values are linked in order
+--   Walkable, Walked   what seeking along a chain asks for, and does
+--   parted, Flagged    which classes hold two marks, seen from some rows
+--   settledOf, settledBy   the label that a row has when the other classes are dissolved, by a test and by numbers
+--   OpenSettle, Settles    what dissolving asks for, and does
+--   Dissolved      what it does where the numbers tell which classes hold two marks
 --   Fit            what `fits` tests
 --   Settled        the pending rows are listed, and all classes that are left hold two marks
---   Ready, Parts   what parting classes by an entry asks for, and does
---   Begun          the state of taking
---   Rest, Picks    what is kept of the entries from a place of the scan on
+--   Ready, Refined, Parts   what parting classes by an entry asks for, what refining does, and what parting does
+--   clear          all pending rows have their labels' numbers at an entry
+--   seek           the place of the first entry that isn't clear
+--   slot           the part of memory that has a level's numbers
+--   Level, Levels  the classes by entries taken, and those by the first of them, level by level
+--   Grows          what taking an entry does to the levels
+--   Begun, TakenAll    what taking starts from, and what it gives
+--   Keeping        what is kept of the entries from a place of those taken on, and the classes by it
+--   Droppable, Drops   what dropping an entry asks for, and does
+--   Dropping, Left     what dropping all asks for, and what it leaves
 use Prim.Native.Nat.{ℕ, zero, suc, _+_, _-_, _*_, _≤_, _<_}
 use mathlib.Core.Path.{_≡_}
 use mathlib.Core.Bool.{Bool, true, false, not, cond, _&&_, _||_}
+use mathlib.Core.Logic.{_⊎_}
 use mathlib.Core.List.{List, [], _∷_, _++_}
 use lib.Dec.{eqb}
-use lib.ListN.{length, take, drop, getD}
+use lib.ListN.{length, take, drop, getD, set}
+use lib.Seq.{paste}
 use Rattle.bits.specs.Packed.{tabulate}
 use Rattle.bits.specs.Passing.{passing}
-use Rattle.method.specs.Method.{someBelow, agree, takes, drops, firstPair, Pair}
+use Rattle.method.specs.Method.{someBelow, agree, takes, drops, Pair}
 use Rattle.method.specs.Method.Pair.{nobody, pair}
 use Rattle.picking.specs.Matrix.{cell, apart, maxRows, maxEntries}
 use Rattle.picking.specs.declared.classes.Two.{Two}
 use Rattle.picking.specs.declared.classes.Two.the-variants.{Nobody, Both}
-use Rattle.picking.specs.declared.classes.Classes.{Classes}
-use Rattle.picking.specs.declared.refining.Moved.{Moved}
-use Rattle.picking.specs.declared.dropping.Kept.{Kept}
 
 abbrev pub Holds : ℕ → (ℕ → ℕ) → List ℕ → Type 0
 Holds rows f l = (c : ℕ) → c < rows → getD l c 0 ≡ f c
@@ -50,6 +57,10 @@ Low rows labels = (c : ℕ) → c < rows → getD labels c 0 ≤ c
 
 abbrev pub Own : ℕ → List ℕ → Type 0
 Own rows labels = (c : ℕ) → c < rows → getD labels (getD labels c 0) 0 ≡ getD labels c 0
+
+-- every row is its own label
+abbrev pub OwnLabels : ℕ → List ℕ → Type 0
+OwnLabels rows labels = (c : ℕ) → c < rows → getD labels c 0 ≡ c
 
 pub record Labels (rows : ℕ) (same : ℕ → ℕ → Bool) (labels : List ℕ) : Type 0 where
   pub low : Low rows labels
@@ -63,21 +74,25 @@ valueIn values c = getD values c 0
 abbrev pub both : List ℕ → (ℕ → ℕ) → ℕ → ℕ → Bool
 both labels value a b = eqb (getD labels a 0) (getD labels b 0) && eqb (value a) (value b)
 
--- keys are equal where label and value are
-abbrev pub Keyed : ℕ → List ℕ → List ℕ → List ℕ → Type 0
-Keyed rows labels values keys = (a b : ℕ) → a < rows → b < rows → eqb (getD keys a 0) (getD keys b 0) ≡ both labels (valueIn values) a b
-
 -- the lowest number, of so many from k on, that passes a test, or else the one after them
 unfoldable pub lowestFrom : (ℕ → Bool) → ℕ → ℕ → ℕ
 lowestFrom test zero k = k
 lowestFrom test (suc left) k = cond (test k) k (lowestFrom test left (suc k))
 
+-- the lowest row that has a row's label and value
+abbrev pub lowestOf : List ℕ → (ℕ → ℕ) → ℕ → ℕ
+lowestOf labels value c = lowestFrom (λ k. both labels value k c) (c - getD labels c 0) (getD labels c 0)
+
 -- the labels of the rows by two columns of labels: the lowest row that has both
 abbrev pub met : ℕ → List ℕ → List ℕ → List ℕ
-met rows labels others = tabulate rows (λ c. lowestFrom (λ k. both labels (valueIn others) k c) (c - getD labels c 0) (getD labels c 0))
+met rows labels others = tabulate rows (lowestOf labels (valueIn others))
+
+-- a row's mark is not that of its label, by a function or in a list
+abbrev pub strayBy : (ℕ → ℕ) → List ℕ → ℕ → Bool
+strayBy label marks c = not (eqb (getD marks c 0) (getD marks (label c) 0))
 
 abbrev pub stray : List ℕ → List ℕ → ℕ → Bool
-stray labels marks c = not (eqb (getD marks c 0) (getD marks (getD labels c 0) 0))
+stray labels marks = strayBy (valueIn labels) marks
 
 -- two rows of one class whose marks differ
 abbrev pub alikeMarked : List ℕ → List ℕ → ℕ → ℕ → Bool
@@ -123,59 +138,150 @@ pub record OpenFit (work : List ℕ) (width : ℕ) (labels rows : List ℕ) : Ty
   pub filled : (i : ℕ) → i < length rows → suc (getD rows i 0) * width ≤ length work
   pub low : (i : ℕ) → i < length rows → getD labels (getD rows i 0) 0 ≤ getD rows i 0
 
--- and their marks
-pub record OpenMarked (marks labels rows : List ℕ) : Type 0 where
-  pub few : length rows ≤ maxRows
-  pub listed : (i : ℕ) → i < length rows → getD rows i 0 < maxRows
-  pub marked : (i : ℕ) → i < length rows → getD rows i 0 < length marks
-  pub low : (i : ℕ) → i < length rows → getD labels (getD rows i 0) 0 ≤ getD rows i 0
+-- labels in two columns, with the marks of the rows
+pub record Comparable (rows : ℕ) (marks labels pending others : List ℕ) : Type 0 where
+  pub marked : rows ≤ length marks
+  pub labelled : rows ≤ length labels
+  pub other : rows ≤ length others
+  pub low : Low rows labels
+  pub others-low : Low rows others
+  pub listed : (i : ℕ) → i < length pending → getD pending i 0 < rows
+
+abbrev pub SomeComparable : List ℕ → List ℕ → List ℕ → List ℕ → Type 0
+SomeComparable marks labels pending others = (rows : ℕ) × Comparable rows marks labels pending others
 
 -- ---- refining
 
-abbrev pub moves : List ℕ → (ℕ → ℕ) → ℕ → Bool
-moves labels value c = not (eqb (value c) (value (getD labels c 0)))
+abbrev pub First : List ℕ → (ℕ → ℕ) → ℕ → Type 0
+First labels value r = lowestOf labels value r ≡ r
 
--- the rows that move, in order, with keys that are equal where label and value are
-pub record Gathered (labels : List ℕ) (value : ℕ → ℕ) (pending : List ℕ) (m : Moved) : Type 0 where
-  pub few : m .count ≤ maxRows
-  pub listed : take (m .count) (m .of) ≡ filtered (moves labels value) pending
-  pub keyed : (a b : ℕ) → a < m .count → b < m .count
-      → eqb (getD (m .keys) a 0) (getD (m .keys) b 0) ≡ both labels value (getD (m .of) a 0) (getD (m .of) b 0)
+abbrev pub Mate : List ℕ → (ℕ → ℕ) → ℕ → ℕ → Type 0
+Mate labels value r k = (getD labels k 0 ≡ getD labels r 0) × First labels value k
 
--- the lowest of the rows that have the key of the one at a place
-abbrev pub firstMoved : Moved → ℕ → ℕ
-firstMoved m i = getD (m .of) (lowestFrom (λ k. eqb (getD (m .keys) k 0) (getD (m .keys) i 0)) i 0) 0
+-- none of the rows between two has the class of a row and is the first with its value
+abbrev pub NoMate : List ℕ → (ℕ → ℕ) → ℕ → ℕ → ℕ → Type 0
+NoMate labels value r from to = (k : ℕ) → from < k → k < to → Mate labels value r k → ⊥
 
--- a row that moves has the lowest row that has its key, wherever that is a number of the row; the others have what they had
-pub record Relabelled (labels : List ℕ) (m : Moved) (of : List ℕ) : Type 0 where
-  pub done : (f : ℕ → ℕ) → ((i : ℕ) → i < m .count → firstMoved m i ≡ f (getD (m .of) i 0))
-      → (i : ℕ) → i < m .count → getD of (getD (m .of) i 0) 0 ≡ f (getD (m .of) i 0)
-  pub kept : (c : ℕ) → ((i : ℕ) → i < m .count → getD (m .of) i 0 ≡ c → ⊥) → getD of c 0 ≡ getD labels c 0
+-- the link of a row: 0 if none follows below a bound, or else the next one
+abbrev pub LinkOf : List ℕ → (ℕ → ℕ) → ℕ → ℕ → ℕ → Type 0
+LinkOf labels value bound r n =
+    ((n ≡ 0) × NoMate labels value r r bound)
+    ⊎ ((r < n) × (n < bound) × Mate labels value r n × NoMate labels value r r n)
 
-abbrev pub pendingOf : Classes → List ℕ
-pendingOf k = take (k .count) (k .pending)
+-- of the rows below a bound
+pub record Chain (rows : ℕ) (labels : List ℕ) (value : ℕ → ℕ) (bound : ℕ) (next : List ℕ) : Type 0 where
+  pub low : Low rows labels
+  pub own : Own rows labels
+  pub sized : rows ≤ length next
+  pub links : (r : ℕ) → r < bound → First labels value r → LinkOf labels value bound r (getD next r 0)
+  pub free : (k : ℕ) → bound ≤ k → k < rows → getD next k 0 ≡ 0
 
-abbrev pub Refines : (ℕ → ℕ) → Classes → List ℕ → Type 0
-Refines value k of =
-    (rows : ℕ) → Low rows (k .labels) → Own rows (k .labels) → Covers rows (k .labels) (pendingOf k) → Labels rows (both (k .labels) value) of
+-- a chain of the rows below row c, whose label is that of the first row to look at
+pub record Walkable (rows : ℕ) (labels : List ℕ) (value : ℕ → ℕ) (next : List ℕ) (label c : ℕ) : Type 0 where
+  pub chain : Chain rows labels value c next
+  pub inside : c < rows
+  pub few : rows ≤ maxRows
+  pub at : getD labels c 0 ≡ label
+
+-- the row found is row c's new label, and the chain has row c too
+pub record Walked (rows : ℕ) (labels : List ℕ) (value : ℕ → ℕ) (next : List ℕ) (c r : ℕ) : Type 0 where
+  pub found : r ≡ lowestOf labels value c
+  pub chain : Chain rows labels value (suc c) next
+
+-- there are such rows and labels, and their numbers can be read
+pub record SomeWalkable (work : List ℕ) (width entry : ℕ) (next : List ℕ) (label c : ℕ) : Type 0 where
+  pub rows : ℕ
+  pub labels : List ℕ
+  pub walkable : Walkable rows labels (λ k. cell work width k entry) next label c
+  pub filled : suc c * width ≤ length work
+  pub inside : entry < width
+
+abbrev pub Walks : (ℕ → ℕ) → List ℕ → ℕ → ℕ → List ℕ → ℕ → Type 0
+Walks value next label c after r =
+    (rows : ℕ) (labels : List ℕ) → Walkable rows labels value next label c → Walked rows labels value after c r
+
+-- row c is put after row r where nothing follows it
+abbrev pub linked : List ℕ → ℕ → ℕ → List ℕ
+linked next r c = cond (eqb (getD next r 0) 0) (set next r c) next
 
 -- ---- dissolving
 
-abbrev pub parted : List ℕ → List ℕ → List ℕ → ℕ → Bool
-parted labels marks pending label = someOf (λ c. eqb (getD labels c 0) label && stray labels marks c) pending
+abbrev pub parted : (ℕ → ℕ) → List ℕ → List ℕ → ℕ → Bool
+parted label marks pending l = someOf (λ c. eqb (label c) l && strayBy label marks c) pending
 
-abbrev pub Flagged : List ℕ → List ℕ → List ℕ → List Bool → Type 0
-Flagged labels marks pending flags = (label : ℕ) → label < maxRows → getD flags label false ≡ parted labels marks pending label
+-- one for each class that holds two marks
+abbrev pub Flagged : (ℕ → ℕ) → List ℕ → List ℕ → List ℕ → Type 0
+Flagged label marks pending mixed = (l : ℕ) → l < maxRows → getD mixed l 0 ≡ cond (parted label marks pending l) 1 0
 
 -- a row of a class that holds two marks keeps its label, any other is its own
 abbrev pub settledOf : (ℕ → Bool) → List ℕ → ℕ → ℕ
 settledOf holds labels c = cond (holds (getD labels c 0)) (getD labels c 0) c
 
-pub record Settles (marks labels pending : List ℕ) (k : Classes) : Type 0 where
-  pub few : k .count ≤ maxRows
-  pub listed : pendingOf k ≡ filtered (λ c. not (eqb (settledOf (parted labels marks pending) labels c) c)) pending
-  pub done : (i : ℕ) → i < length pending → getD (k .labels) (getD pending i 0) 0 ≡ settledOf (parted labels marks pending) labels (getD pending i 0)
-  pub kept : (c : ℕ) → ((i : ℕ) → i < length pending → getD pending i 0 ≡ c → ⊥) → getD (k .labels) c 0 ≡ getD labels c 0
+-- the same, by numbers
+abbrev pub settledBy : List ℕ → List ℕ → ℕ → ℕ
+settledBy mixed labels c = c - getD mixed (getD labels c 0) 0 * (c - getD labels c 0)
+
+pub record OpenSettle (labels mixed pending : List ℕ) : Type 0 where
+  pub few : length pending ≤ maxRows
+  pub sized : length labels ≡ maxRows
+  pub known : length mixed ≡ maxRows
+  pub listed : (i : ℕ) → i < length pending → getD pending i 0 < maxRows
+  pub low : (i : ℕ) → i < length pending → getD labels (getD pending i 0) 0 ≤ getD pending i 0
+  pub rises : (i j : ℕ) → i < j → j < length pending → getD pending i 0 < getD pending j 0
+  pub flags : (l : ℕ) → l < maxRows → getD mixed l 0 ≤ 1
+
+pub record Settles (mixed old list labels pending : List ℕ) (count : ℕ) : Type 0 where
+  pub few : count ≤ maxRows
+  pub listed : take count pending ≡ filtered (λ c. not (eqb (settledBy mixed old c) c)) list
+  pub done : (i : ℕ) → i < length list → getD labels (getD list i 0) 0 ≡ settledBy mixed old (getD list i 0)
+  pub kept : (c : ℕ) → ((i : ℕ) → i < length list → getD list i 0 ≡ c → ⊥) → getD labels c 0 ≡ getD old c 0
+
+pub record Dissolved (marks old list labels pending : List ℕ) (count : ℕ) : Type 0 where
+  pub few : count ≤ maxRows
+  pub listed : take count pending ≡ filtered (λ c. not (eqb (settledOf (parted (valueIn old) marks list) old c) c)) list
+  pub done : (i : ℕ) → i < length list → getD labels (getD list i 0) 0 ≡ settledOf (parted (valueIn old) marks list) old (getD list i 0)
+  pub kept : (c : ℕ) → ((i : ℕ) → i < length list → getD list i 0 ≡ c → ⊥) → getD labels c 0 ≡ getD old c 0
+
+-- ---- parting
+
+pub record Fit (work : List ℕ) (width rows : ℕ) (marks : List ℕ) : Type 0 where
+  pub some : 1 ≤ rows
+  pub most : rows ≤ maxRows
+  pub marked : rows ≤ length marks
+  pub filled : rows * width ≤ length work
+
+-- the first so many of `pending` are the pending rows, and all classes that are left hold two marks
+pub record Settled (rows : ℕ) (marks labels pending : List ℕ) (count : ℕ) : Type 0 where
+  pub few : count ≤ maxRows
+  pub covers : Covers rows labels (take count pending)
+  pub mixed : Mixed rows marks labels
+
+pub record Ready (work : List ℕ) (width rows : ℕ) (marks labels list : List ℕ) : Type 0 where
+  pub fit : Fit work width rows marks
+  pub low : Low rows labels
+  pub own : Own rows labels
+  pub covers : Covers rows labels list
+
+abbrev pub SomeReady : List ℕ → ℕ → List ℕ → List ℕ → List ℕ → Type 0
+SomeReady work width marks labels list = (rows : ℕ) × Ready work width rows marks labels list
+
+-- labels by the rows' numbers at an entry, and which classes then hold two marks
+pub record Refined (work : List ℕ) (width rows : ℕ) (marks list : List ℕ) (entry : ℕ) (old labels mixed : List ℕ) : Type 0 where
+  pub labels-by : Labels rows (both old (λ c. cell work width c entry)) labels
+  pub flagged : Flagged (valueIn labels) marks list mixed
+
+-- however many rows there are
+abbrev pub Refines : List ℕ → ℕ → List ℕ → List ℕ → ℕ → List ℕ → List ℕ → List ℕ → Type 0
+Refines work width marks list entry old labels mixed =
+    (rows : ℕ) → Ready work width rows marks old list → Refined work width rows marks list entry old labels mixed
+
+pub record Parted (work : List ℕ) (width rows : ℕ) (marks : List ℕ) (entry : ℕ) (old labels pending : List ℕ) (count : ℕ) : Type 0 where
+  pub classed : Classed rows marks (both old (λ c. cell work width c entry)) labels
+  pub settled : Settled rows marks labels pending count
+
+abbrev pub Parts : List ℕ → ℕ → List ℕ → ℕ → List ℕ → List ℕ → List ℕ → List ℕ → ℕ → Type 0
+Parts work width marks entry old list labels pending count =
+    (rows : ℕ) → Ready work width rows marks old list → Parted work width rows marks entry old labels pending count
 
 -- ---- taking
 
@@ -187,58 +293,98 @@ unfoldable pub seek : (ℕ → Bool) → List ℕ → ℕ → ℕ
 seek test [] at = at
 seek test (e ∷ scan) at = cond (test e) (seek test scan (suc at)) at
 
-pub record Fit (work : List ℕ) (width rows : ℕ) (marks : List ℕ) : Type 0 where
-  pub some : 1 ≤ rows
-  pub most : rows ≤ maxRows
-  pub marked : rows ≤ length marks
-  pub filled : rows * width ≤ length work
+abbrev pub slot : ℕ → List ℕ → List ℕ
+slot i l = take maxRows (drop (i * maxRows) l)
 
--- the pending rows are listed, and all classes that are left hold two marks
-pub record Settled (rows : ℕ) (marks : List ℕ) (k : Classes) : Type 0 where
-  pub few : k .count ≤ maxRows
-  pub covers : Covers rows (k .labels) (pendingOf k)
-  pub mixed : Mixed rows marks (k .labels)
+pub record Level (work : List ℕ) (width rows : ℕ) (marks taken labels pending : List ℕ) (count : ℕ) : Type 0 where
+  pub classed : Classed rows marks (agree (cell work width) taken) labels
+  pub settled : Settled rows marks labels pending count
 
-pub record Ready (work : List ℕ) (width rows : ℕ) (marks : List ℕ) (k : Classes) : Type 0 where
+abbrev pub Levels : List ℕ → ℕ → ℕ → List ℕ → List ℕ → List ℕ → List ℕ → List ℕ → Type 0
+Levels work width rows marks taken labels pending counts =
+    (i : ℕ) → i ≤ length taken → Level work width rows marks (take i taken) (slot i labels) (slot i pending) (getD counts i 0)
+
+-- a level copied to the next one
+abbrev pub copied : ℕ → List ℕ → List ℕ
+copied level l = paste l (level * maxRows + maxRows) (slot level l) maxRows
+
+-- the slots up to a level are as they were
+abbrev pub Stays : ℕ → List ℕ → List ℕ → Type 0
+Stays level old new = (i : ℕ) → i ≤ level → slot i new ≡ slot i old
+
+-- the next level has the classes of this one, parted
+pub record Grows (work : List ℕ) (width : ℕ) (marks : List ℕ) (entry level count : ℕ) (labels pending labels₁ pending₁ : List ℕ) (count₁ : ℕ) : Type 0 where
+  pub labels-stay : Stays level labels labels₁
+  pub pending-stay : Stays level pending pending₁
+  pub parts : Parts work width marks entry (slot level labels) (take count (slot level pending)) (slot (level + 1) labels₁) (slot (level + 1) pending₁) count₁
+
+-- the classes by no entry
+pub record Started (rows : ℕ) (marks labels pending : List ℕ) (count : ℕ) : Type 0 where
+  pub classed : Classed rows marks (λ a b. true) labels
+  pub settled : Settled rows marks labels pending count
+
+pub record Begun (work : List ℕ) (width rows : ℕ) (marks labels pending : List ℕ) (count : ℕ) : Type 0 where
   pub fit : Fit work width rows marks
-  pub low : Low rows (k .labels)
-  pub own : Own rows (k .labels)
-  pub settled : Settled rows marks k
+  pub started : Started rows marks (slot 0 labels) (slot 0 pending) count
 
--- classes of so many rows, parted by the rows' numbers at an entry
-pub record Parted (work : List ℕ) (width rows : ℕ) (marks : List ℕ) (entry : ℕ) (labels : List ℕ) (k : Classes) : Type 0 where
-  pub classed : Classed rows marks (both labels (λ c. cell work width c entry)) (k .labels)
-  pub settled : Settled rows marks k
+abbrev pub SomeBegun : List ℕ → ℕ → List ℕ → List ℕ → List ℕ → ℕ → Type 0
+SomeBegun work width marks labels pending count = (rows : ℕ) × Begun work width rows marks labels pending count
 
-abbrev pub SomeReady : List ℕ → ℕ → List ℕ → Classes → Type 0
-SomeReady work width marks k = (rows : ℕ) × Ready work width rows marks k
+pub record TakenAll (work : List ℕ) (width rows : ℕ) (marks scan : List ℕ) (count : ℕ) (entries counts labels pending : List ℕ) : Type 0 where
+  pub few : count ≤ maxEntries
+  pub all : take count entries ≡ takes (cell work width) rows (apart marks) [] scan
+  pub levels : Levels work width rows marks (take count entries) labels pending counts
 
 -- however many rows there are
-abbrev pub Parts : List ℕ → ℕ → List ℕ → ℕ → Classes → Classes → Type 0
-Parts work width marks entry k r = (rows : ℕ) → Ready work width rows marks k → Parted work width rows marks entry (k .labels) r
+abbrev pub Takings : List ℕ → ℕ → List ℕ → List ℕ → List ℕ → List ℕ → ℕ → ℕ → List ℕ → List ℕ → List ℕ → List ℕ → Type 0
+Takings work width marks scan labels pending first count entries counts labels₁ pending₁ =
+    (rows : ℕ) → Begun work width rows marks labels pending first → TakenAll work width rows marks scan count entries counts labels₁ pending₁
 
--- the entries kept stand at the end
-abbrev pub keptOf : Kept → List ℕ
-keptOf k = drop (k .start) (k .entries)
+-- ---- dropping
 
--- classes of the rows by some entries taken before, and there is room for all that are taken in the end
-pub record Begun (work : List ℕ) (width rows : ℕ) (marks scan : List ℕ) (at : ℕ) (k : Classes) : Type 0 where
-  pub before : List ℕ
-  pub classed : Classed rows marks (agree (cell work width) before) (k .labels)
-  pub settled : Settled rows marks k
-  pub room : length (takes (cell work width) rows (apart marks) before (drop at scan)) ≤ maxEntries
+-- dropping goes on from a place to what the whole gives
+pub record Keeping (work : List ℕ) (width rows : ℕ) (marks taken : List ℕ) (level start : ℕ) (entries others left : List ℕ) (count : ℕ) : Type 0 where
+  pub within : start ≤ maxEntries
+  pub room : level ≤ start
+  pub goes : drops (cell work width) rows (apart marks) (length taken) taken
+      ≡ drops (cell work width) rows (apart marks) level (take level taken ++ drop start entries)
+  pub level-by : Level work width rows marks (drop start entries) others left count
 
--- what is kept of the entries taken after some: dropping goes on from there to what the whole gives
-pub record Rest (work : List ℕ) (width rows : ℕ) (marks taken before : List ℕ) (k : Kept) : Type 0 where
-  pub within : k .start ≤ maxEntries
-  pub room : maxEntries + length before ≤ k .start + length taken
-  pub goes : drops (cell work width) rows (apart marks) (length taken) taken ≡ drops (cell work width) rows (apart marks) (length before) (before ++ keptOf k)
-  pub classed : Classed rows marks (agree (cell work width) (keptOf k)) (k .classes .labels)
-  pub settled : Settled rows marks (k .classes)
-  pub told : pairTold (k .pair) ≡ firstPair rows (λ a b. apart marks a b && agree (cell work width) taken a b)
+-- what dropping an entry asks for: the matrix, the classes by the entries before it, and what is kept of those after it
+pub record Droppable (work : List ℕ) (width rows : ℕ) (marks taken : List ℕ) (level : ℕ) (labels pending : List ℕ) (seen entry start : ℕ)
+    (entries others left : List ℕ) (count : ℕ) : Type 0 where
+  pub fit : Fit work width rows marks
+  pub inside : level < length taken
+  pub at : getD taken level 0 ≡ entry
+  pub before : Level work width rows marks (take level taken) labels pending seen
+  pub after : Keeping work width rows marks taken (suc level) start entries others left count
 
--- so for whatever entries taken before the labels stand for
-abbrev pub Picks : List ℕ → ℕ → ℕ → List ℕ → List ℕ → ℕ → List ℕ → Kept → Type 0
-Picks work width rows marks scan at labels k =
-    (before : List ℕ) → Classed rows marks (agree (cell work width) before) labels
-    → Rest work width rows marks (takes (cell work width) rows (apart marks) before (drop at scan)) before k
+abbrev pub SomeDroppable : List ℕ → ℕ → List ℕ → ℕ → List ℕ → List ℕ → ℕ → ℕ → ℕ → List ℕ → List ℕ → List ℕ → ℕ → Type 0
+SomeDroppable work width marks level labels pending seen entry start entries others left count =
+    (rows : ℕ) × (taken : List ℕ) × Droppable work width rows marks taken level labels pending seen entry start entries others left count
+
+-- whatever was taken
+abbrev pub Drops : List ℕ → ℕ → List ℕ → ℕ → List ℕ → List ℕ → ℕ → ℕ → ℕ → List ℕ → List ℕ → List ℕ → ℕ → ℕ → List ℕ → List ℕ → List ℕ → ℕ → Type 0
+Drops work width marks level labels pending seen entry start entries others left count start₁ entries₁ others₁ left₁ count₁ =
+    (rows : ℕ) (taken : List ℕ) → Droppable work width rows marks taken level labels pending seen entry start entries others left count
+    → Keeping work width rows marks taken level start₁ entries₁ others₁ left₁ count₁
+
+-- what dropping all asks for
+pub record Dropping (work : List ℕ) (width rows : ℕ) (marks taken counts labels pending others left : List ℕ) (count : ℕ) : Type 0 where
+  pub fit : Fit work width rows marks
+  pub few : length taken ≤ maxEntries
+  pub levels : Levels work width rows marks taken labels pending counts
+  pub started : Started rows marks others left count
+
+abbrev pub SomeDropping : List ℕ → ℕ → List ℕ → List ℕ → List ℕ → List ℕ → List ℕ → List ℕ → List ℕ → ℕ → Type 0
+SomeDropping work width marks taken counts labels pending others left count =
+    (rows : ℕ) × Dropping work width rows marks taken counts labels pending others left count
+
+-- what is left of those taken stands at the end
+pub record Left (work : List ℕ) (width rows : ℕ) (marks taken : List ℕ) (start : ℕ) (entries : List ℕ) : Type 0 where
+  pub within : start ≤ maxEntries
+  pub all : drops (cell work width) rows (apart marks) (length taken) taken ≡ drop start entries
+
+abbrev pub DropsAll : List ℕ → ℕ → List ℕ → List ℕ → List ℕ → List ℕ → List ℕ → List ℕ → List ℕ → ℕ → ℕ → List ℕ → Type 0
+DropsAll work width marks taken counts labels pending others left count start entries =
+    (rows : ℕ) → Dropping work width rows marks taken counts labels pending others left count → Left work width rows marks taken start entries

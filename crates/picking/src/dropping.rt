@@ -1,95 +1,139 @@
 // Dropping: "Then, from the last taken to the first, one is dropped if the rest still tell all needed pairs apart."
-ghost use Prim.Native.Nat.{_+_, _≤_, _<_};
+ghost use Prim.Native.Nat.{_+_, _*_, _≤_, _<_};
 ghost use mathlib.Core.Path.{_≡_};
-ghost use mathlib.Core.Bool.{true};
+ghost use mathlib.Core.Bool.{true, not};
 ghost use mathlib.Core.List.{_∷_};
-ghost use lib.ListN.{length, drop, getD};
-ghost use Rattle.picking.specs.Matrix.{allBelow, maxRows, maxEntries, signatureOf};
-ghost use Rattle.picking.specs.Labels.{Classed, Settled, Fit, Begun, Picks, keptOf};
+ghost use lib.ListN.{length, take, drop};
+ghost use Rattle.picking.specs.Matrix.{cell, apart, allBelow, maxRows, maxEntries, signatureOf};
+ghost use Rattle.method.specs.Method.{drops};
+ghost use Rattle.picking.specs.Labels.{slot, someOf, strayBy, lowestOf, valueIn, SomeComparable, Fit, SomeReady, Parts, Levels, SomeDroppable, Drops, SomeDropping, DropsAll};
 use crate::MAX_ENTRIES;
+use crate::MAX_ROWS;
 use crate::Signature;
-use crate::classes::Classes;
-use crate::classes::Two;
+use crate::taking::Taken;
 
-// The entries kept, at the end of the array, the classes of the rows by what these entries tell, and the first pair that all entries taken leave alike.
-pub(crate) struct Kept {
-    pub(crate) start: usize,
-    pub(crate) entries: [u16; MAX_ENTRIES],
-    classes: Classes,
-    pub(crate) pair: Two,
+// The entries kept stand at the end of an array, from `start` on; so many rows are pending by them.
+struct Kept {
+    start: usize,
+    pending: usize,
 }
 
-fn nothing_kept(rows: usize, marks: &[u8], pair: Two) -> Kept
-    requires { ⌜ (rows ≤ maxRows) × (rows ≤ length (now marks)) ⌝ }
-    ensures { λ r. ⌜ (r .start ≡ maxEntries) × Classed rows (now (marks .entry)) (λ a b. true) (r .classes .labels) × Settled rows (now (marks .entry)) (r .classes) × (r .pair ≡ pair) ⌝ }
+// Whether the entries of a level and those that the other classes are by tell all needed pairs apart.
+fn told_at(
+    marks: &[u8],
+    labels: &[u16],
+    pending: &[u16],
+    level: usize,
+    count: usize,
+    others: &[u16],
+) -> bool
+    requires { ⌜ SomeComparable (now marks) (slot level (now labels)) (take count (slot level (now pending))) (now others) × (count ≤ maxRows) × (level < maxRows) × (length (now labels) ≡ maxRows * maxRows) × (length (now pending) ≡ maxRows * maxRows) ⌝ }
+    ensures { λ r. ⌜ r ≡ not (someOf (strayBy (lowestOf (slot level (now (labels .entry))) (valueIn (now (others .entry)))) (now (marks .entry))) (take count (slot level (now (pending .entry))))) ⌝ }
 {
-    Kept {
-        start: MAX_ENTRIES,
-        entries: [0u16; MAX_ENTRIES],
-        classes: crate::settling::start(rows, marks),
-        pair,
-    }
+    let at = level * MAX_ROWS;
+    crate::classes::told_together(
+        marks,
+        &labels[at..at + MAX_ROWS],
+        &pending[at..at + count],
+        others,
+    )
 }
 
-// An entry is kept before the others, with the classes by all of them.
-fn keep(kept: Kept, entry: u16, classes: Classes) -> Kept
-    requires { ⌜ (1 ≤ kept .start) × (kept .start ≤ maxEntries) ⌝ }
-    ensures { λ r. ⌜ (r .start + 1 ≡ kept .start) × (keptOf r ≡ entry ∷ keptOf kept) × (r .classes ≡ classes) × (r .pair ≡ kept .pair) ⌝ }
-{
-    let start = kept.start - 1;
-    let mut entries = kept.entries;
-    entries[start] = entry;
-    let pair = kept.pair;
-    Kept {
-        start,
-        entries,
-        classes,
-        pair,
-    }
-}
-
-// The entry at a place of the scan.
-fn entry_at(scan: &[u16], at: usize) -> u16
-    requires { ⌜ at < length (now scan) ⌝ }
-    ensures { λ r. ⌜ r ≡ getD (now (scan .entry)) at 0 ⌝ }
-{
-    scan[at]
-}
-
-// What is kept of the entries from a place of the scan on, given the classes of the rows by the entries taken before. The next useful entry is taken on
-// the way down; on the way back, when those after it have been looked at, it is dropped if the rest still tell all needed pairs apart.
-pub(crate) fn pick_from(
+// An entry is kept before the others, and their classes are parted by it.
+fn keep(
     work: &[u16],
     width: usize,
-    rows: usize,
     marks: &[u8],
-    scan: &[u16],
-    at: usize,
-    classes: Classes,
+    entry: u16,
+    kept: Kept,
+    others: &mut [u16],
+    left: &mut [u16],
+    entries: &mut [u16],
 ) -> Kept
-    requires { ⌜ Fit (now work) width rows (now marks) × (allBelow width (now scan) ≡ true) × (at ≤ length (now scan)) × Begun (now work) width rows (now marks) (now scan) at classes ⌝ }
-    ensures { λ r. ⌜ Picks (now (work .entry)) width rows (now (marks .entry)) (now (scan .entry)) at (classes .labels) r ⌝ }
+    requires { ⌜ SomeReady (now work) width (now marks) (now others) (take (kept .pending) (now left)) × (entry < width) × (kept .pending ≤ maxRows) × (length (now others) ≡ maxRows) × (length (now left) ≡ maxRows) × (length (now entries) ≡ maxEntries) × (1 ≤ kept .start) × (kept .start ≤ maxEntries) ⌝ }
+    ensures { λ r. ⌜ (r .start + 1 ≡ kept .start) × (drop (r .start) (now (entries .exit)) ≡ entry ∷ drop (kept .start) (now (entries .entry))) × Parts (now (work .entry)) width (now (marks .entry)) entry (now (others .entry)) (take (kept .pending) (now (left .entry))) (now (others .exit)) (now (left .exit)) (r .pending) ⌝ }
 {
-    let next = crate::taking::next_useful(work, width, classes, scan, at);
-    if next == scan.len() {
-        return nothing_kept(
-            rows,
-            marks,
-            crate::classes::first_pair(rows, marks, classes),
-        );
-    }
-    let entry = entry_at(scan, next);
-    let finer = crate::settling::part(work, width, marks, classes, entry as usize);
-    let kept = pick_from(work, width, rows, marks, scan, next + 1, finer);
-    if crate::classes::told_together(rows, marks, classes, kept.classes) {
+    let pending = crate::settling::part(
+        work,
+        width,
+        marks,
+        others,
+        left,
+        kept.pending,
+        entry as usize,
+    );
+    let start = kept.start - 1;
+    entries[start] = entry;
+    Kept { start, pending }
+}
+
+// An entry, taken after those of a level, is dropped if the level's entries and those kept tell all needed pairs apart. Else it is kept.
+fn drop_at(
+    work: &[u16],
+    width: usize,
+    marks: &[u8],
+    labels: &[u16],
+    pending: &[u16],
+    level: usize,
+    seen: usize,
+    entry: u16,
+    kept: Kept,
+    others: &mut [u16],
+    left: &mut [u16],
+    entries: &mut [u16],
+) -> Kept
+    requires { ⌜ SomeDroppable (now work) width (now marks) level (slot level (now labels)) (slot level (now pending)) seen entry (kept .start) (now entries) (now others) (now left) (kept .pending) × (entry < width) × (level < maxRows) × (length (now labels) ≡ maxRows * maxRows) × (length (now pending) ≡ maxRows * maxRows) × (length (now others) ≡ maxRows) × (length (now left) ≡ maxRows) × (length (now entries) ≡ maxEntries) ⌝ }
+    ensures { λ r. ⌜ Drops (now (work .entry)) width (now (marks .entry)) level (slot level (now (labels .entry))) (slot level (now (pending .entry))) seen entry (kept .start) (now (entries .entry)) (now (others .entry)) (now (left .entry)) (kept .pending) (r .start) (now (entries .exit)) (now (others .exit)) (now (left .exit)) (r .pending) ⌝ }
+{
+    if told_at(marks, labels, pending, level, seen, others) {
         return kept;
     }
-    let more = crate::settling::part(work, width, marks, kept.classes, entry as usize);
-    keep(kept, entry, more)
+    keep(work, width, marks, entry, kept, others, left, entries)
+}
+
+// From the last taken to the first. Gives the place from which on the entries kept stand.
+fn drop_all(
+    work: &[u16],
+    width: usize,
+    marks: &[u8],
+    taken: Taken,
+    labels: &[u16],
+    pending: &[u16],
+    others: &mut [u16],
+    left: &mut [u16],
+    entries: &mut [u16],
+    count: usize,
+) -> usize
+    requires { ⌜ SomeDropping (now work) width (now marks) (take (taken .count) (taken .entries)) (taken .pending) (now labels) (now pending) (now others) (now left) count × (taken .count ≤ maxEntries) × (allBelow width (take (taken .count) (taken .entries)) ≡ true) × (length (now labels) ≡ maxRows * maxRows) × (length (now pending) ≡ maxRows * maxRows) × (length (now others) ≡ maxRows) × (length (now left) ≡ maxRows) × (length (now entries) ≡ maxEntries) ⌝ }
+    ensures { λ r. ⌜ DropsAll (now (work .entry)) width (now (marks .entry)) (take (taken .count) (taken .entries)) (taken .pending) (now (labels .entry)) (now (pending .entry)) (now (others .entry)) (now (left .entry)) count r (now (entries .exit)) ⌝ }
+{
+    let mut kept = Kept {
+        start: MAX_ENTRIES,
+        pending: count,
+    };
+    let mut level = taken.count;
+    while 0 < level {
+        level -= 1;
+        kept = drop_at(
+            work,
+            width,
+            marks,
+            labels,
+            pending,
+            level,
+            taken.pending[level] as usize,
+            taken.entries[level],
+            kept,
+            others,
+            left,
+            entries,
+        );
+    }
+    kept.start
 }
 
 // The kept entries from the start on, the places after them 0.
-pub(crate) fn aligned(start: usize, kept: &[u16]) -> Signature
+fn aligned(start: usize, kept: &[u16]) -> Signature
     requires { ⌜ (start ≤ maxEntries) × (length (now kept) ≡ maxEntries) ⌝ }
     ensures { λ r. ⌜ r ≡ signatureOf (drop start (now (kept .entry))) ⌝ }
 {
@@ -101,4 +145,36 @@ pub(crate) fn aligned(start: usize, kept: &[u16]) -> Signature
         i += 1;
     }
     Signature { count, entries }
+}
+
+// What dropping leaves of the entries taken.
+pub(crate) fn signature(
+    work: &[u16],
+    width: usize,
+    rows: usize,
+    marks: &[u8],
+    taken: Taken,
+    labels: &[u16],
+    pending: &[u16],
+) -> Signature
+    requires { ⌜ Fit (now work) width rows (now marks) × (taken .count ≤ maxEntries) × (allBelow width (take (taken .count) (taken .entries)) ≡ true) × Levels (now work) width rows (now marks) (take (taken .count) (taken .entries)) (now labels) (now pending) (taken .pending) × (length (now labels) ≡ maxRows * maxRows) × (length (now pending) ≡ maxRows * maxRows) ⌝ }
+    ensures { λ r. ⌜ r ≡ signatureOf (drops (cell (now (work .entry)) width) rows (apart (now (marks .entry))) (length (take (taken .count) (taken .entries))) (take (taken .count) (taken .entries))) ⌝ }
+{
+    let mut others = [0u16; MAX_ROWS];
+    let mut left = [0u16; MAX_ROWS];
+    let mut kept = [0u16; MAX_ENTRIES];
+    let count = crate::settling::start(&mut others, &mut left, rows, marks);
+    let start = drop_all(
+        work,
+        width,
+        marks,
+        taken,
+        labels,
+        pending,
+        &mut others,
+        &mut left,
+        &mut kept,
+        count,
+    );
+    aligned(start, &kept)
 }

@@ -1,12 +1,15 @@
 // The method of choosing (document 01, "Choosing"): the few entries of a matrix of numbers that tell its rows apart. The matrix stands row
 // after row in lent memory; each row has a mark, and two rows are to be told apart where their marks differ.
-ghost use Prim.Native.Nat.{_≤_};
+ghost use Prim.Native.Nat.{_*_, _≤_};
 ghost use mathlib.Core.Path.{_≡_};
+ghost use mathlib.Core.Bool.{true};
 ghost use mathlib.Core.List.{[]};
-ghost use Rattle.picking.specs.Matrix.{allBelow, fits, picked, pickedBy, choiceOf, signatureOf, maxEntries};
-ghost use Rattle.picking.specs.Labels.{pairTold, keptOf};
+ghost use lib.ListN.{length, take, getD};
+ghost use Rattle.method.specs.Method.{firstPair, drops};
+ghost use Rattle.picking.specs.Matrix.{cell, apart, allBelow, fits, picked, pickedBy, choiceOf, signatureOf, maxRows, maxEntries};
+ghost use Rattle.picking.specs.Labels.{pairTold, alikeMarked, slot, OwnLabels, Fit, Levels};
 use classes::Two;
-use dropping::Kept;
+use taking::Taken;
 
 mod classes;
 mod dropping;
@@ -82,12 +85,33 @@ fn fitting(work: &[u16], width: usize, rows: usize, marks: &[u8], scan: &[u16]) 
     all_below(scan, width)
 }
 
-// The two rows that are alike, or the entries kept.
-fn conclude(kept: Kept) -> Choice
-    requires { ⌜ kept .start ≤ maxEntries ⌝ }
-    ensures { λ r. ⌜ r ≡ choiceOf (pickedBy (pairTold (kept .pair)) (keptOf kept)) ⌝ }
+// The first two rows that the entries taken do not tell apart and should. Mostly no row is pending: then there are no such rows.
+fn first_pair(rows: usize, marks: &[u8], taken: Taken, labels: &[u16]) -> Two
+    requires { ⌜ (rows ≤ maxRows) × (rows ≤ length (now marks)) × (taken .count ≤ maxEntries) × (getD (taken .pending) (taken .count) 0 ≡ 0 → OwnLabels rows (slot (taken .count) (now labels))) × (length (now labels) ≡ maxRows * maxRows) ⌝ }
+    ensures { λ r. ⌜ pairTold r ≡ firstPair rows (alikeMarked (slot (taken .count) (now (labels .entry))) (now (marks .entry))) ⌝ }
 {
-    let pair = kept.pair;
+    let level = taken.count;
+    if taken.pending[level] == 0 {
+        return Two::Nobody;
+    }
+    let at = level * MAX_ROWS;
+    classes::search_pairs(rows, marks, &labels[at..at + MAX_ROWS])
+}
+
+// The two rows that are alike, or the signature.
+fn conclude(
+    work: &[u16],
+    width: usize,
+    rows: usize,
+    marks: &[u8],
+    taken: Taken,
+    labels: &[u16],
+    pending: &[u16],
+) -> Choice
+    requires { ⌜ Fit (now work) width rows (now marks) × (taken .count ≤ maxEntries) × (allBelow width (take (taken .count) (taken .entries)) ≡ true) × Levels (now work) width rows (now marks) (take (taken .count) (taken .entries)) (now labels) (now pending) (taken .pending) × (length (now labels) ≡ maxRows * maxRows) × (length (now pending) ≡ maxRows * maxRows) ⌝ }
+    ensures { λ r. ⌜ r ≡ choiceOf (pickedBy (firstPair rows (alikeMarked (slot (taken .count) (now (labels .entry))) (now (marks .entry)))) (drops (cell (now (work .entry)) width) rows (apart (now (marks .entry))) (length (take (taken .count) (taken .entries))) (take (taken .count) (taken .entries)))) ⌝ }
+{
+    let pair = first_pair(rows, marks, taken, labels);
     match pair {
         Two::Both(a, b) => Choice {
             found: Found::Alike(a, b),
@@ -95,9 +119,20 @@ fn conclude(kept: Kept) -> Choice
         },
         Two::Nobody => Choice {
             found: Found::Told,
-            signature: dropping::aligned(kept.start, &kept.entries),
+            signature: dropping::signature(work, width, rows, marks, taken, labels, pending),
         },
     }
+}
+
+// The answer of a matrix. The levels of taking stand in two arrays, a label and a pending row for each row of each level.
+fn choose_fit(work: &[u16], width: usize, rows: usize, marks: &[u8], scan: &[u16]) -> Choice
+    requires { ⌜ fits (now work) width rows (now marks) (now scan) ≡ true ⌝ }
+    ensures { λ r. ⌜ r ≡ choiceOf (picked (now (work .entry)) width rows (now (marks .entry)) (now (scan .entry))) ⌝ }
+{
+    let mut labels = [0u16; MAX_ROWS * MAX_ROWS];
+    let mut pending = [0u16; MAX_ROWS * MAX_ROWS];
+    let taken = taking::take(work, width, rows, marks, scan, &mut labels, &mut pending);
+    conclude(work, width, rows, marks, taken, &labels, &pending)
 }
 
 // The signature of the method, or the first two rows that should be told apart and are not.
@@ -110,14 +145,5 @@ pub fn choose(work: &[u16], width: usize, rows: usize, marks: &[u8], scan: &[u16
             signature: no_signature(),
         };
     }
-    let kept = dropping::pick_from(
-        work,
-        width,
-        rows,
-        marks,
-        scan,
-        0,
-        settling::start(rows, marks),
-    );
-    conclude(kept)
+    choose_fit(work, width, rows, marks, scan)
 }

@@ -1,90 +1,76 @@
-// Refining: the classes of the rows by one entry more. Only pending rows can leave their class.
-ghost use Prim.Native.Nat.{ℕ, _≤_, _<_};
+// Refining: each pending row gets the lowest row of its class that has its number at an entry. The rows of a class that are the first with their numbers are
+// chained in order.
+ghost use Prim.Native.Nat.{_*_, _<_};
 ghost use mathlib.Core.Path.{_≡_};
 ghost use mathlib.Core.Bool.{not, cond};
 ghost use lib.Dec.{eqb};
 ghost use lib.ListN.{length, getD};
 ghost use Rattle.picking.specs.Matrix.{cell, maxRows};
-ghost use Rattle.picking.specs.Labels.{OpenFit, Gathered, Relabelled, Refines, pendingOf};
-use crate::MAX_ROWS;
-use crate::classes::Classes;
+ghost use Rattle.picking.specs.Labels.{Holds, linked, SomeWalkable, Walks, SomeReady, Refines};
 
-// A number for each row.
-pub(crate) struct Column {
-    pub(crate) of: [u16; MAX_ROWS],
-}
-
-// The pending rows that do not have their labels' numbers at an entry, in order. A row's label and number are joined to one key, so that one test
-// compares both.
-struct Moved {
-    count: usize,
-    of: [u16; MAX_ROWS],
-    keys: [u32; MAX_ROWS],
-}
-
-fn nothing_moved() -> Moved {
-    Moved {
-        count: 0,
-        of: [0u16; MAX_ROWS],
-        keys: [0u32; MAX_ROWS],
+// The row after row r in its chain. Where there is none, row c is put there: row 0 is after no row.
+fn link(next: &mut [u8], r: usize, c: usize) -> usize
+    requires { ⌜ (r < length (now next)) × (c < maxRows) ⌝ }
+    ensures { λ n. ⌜ (now (next .exit) ≡ linked (now (next .entry)) r c) × (n ≡ getD (linked (now (next .entry)) r c) r 0) ⌝ }
+{
+    let n = next[r];
+    if n == 0 {
+        next[r] = c as u8;
+        return c;
     }
+    n as usize
 }
 
-// One for numbers that differ: rows are gathered without a branch.
-pub(crate) fn differs(a: u16, b: u16) -> usize
-    ensures { λ r. ⌜ r ≡ cond (not (eqb a b)) 1 0 ⌝ }
+// The first row, from row `label` on along the chain, that has the number of row c at an entry. Where there is none, row c is put at the chain's end.
+fn chained(
+    work: &[u16],
+    width: usize,
+    entry: usize,
+    next: &mut [u8],
+    label: usize,
+    c: usize,
+) -> usize
+    requires { ⌜ SomeWalkable (now work) width entry (now next) label c ⌝ }
+    ensures { λ r. ⌜ Walks (λ k. cell (now (work .entry)) width k entry) (now (next .entry)) label c (now (next .exit)) r ⌝ }
+{
+    let value = work[c * width + entry];
+    let mut r = label;
+    while work[r * width + entry] != value {
+        r = link(next, r, c);
+    }
+    r
+}
+
+// One if two marks of a class differ, or did before.
+fn mixes(before: u16, a: u8, b: u8) -> u16
+    ensures { λ r. ⌜ r ≡ cond (not (eqb a b)) 1 before ⌝ }
 {
     if a == b {
-        return 0;
+        return before;
     }
     1
 }
 
-fn moved_rows(work: &[u16], width: usize, labels: &[u16], pending: &[u16], entry: usize) -> Moved
-    requires { ⌜ OpenFit (now work) width (now labels) (now pending) × (entry < width) ⌝ }
-    ensures { λ r. ⌜ Gathered (now (labels .entry)) (λ c. cell (now (work .entry)) width c entry) (now (pending .entry)) r ⌝ }
+// The labels of the rows by their classes and their numbers at an entry. `mixed` then has one for each class that holds two marks.
+pub(crate) fn refine(
+    work: &[u16],
+    width: usize,
+    marks: &[u8],
+    labels: &mut [u16],
+    pending: &[u16],
+    entry: usize,
+    next: &mut [u8],
+    mixed: &mut [u16],
+)
+    requires { ⌜ SomeReady (now work) width (now marks) (now labels) (now pending) × (entry < width) × (length (now labels) ≡ maxRows) × (length (now next) ≡ maxRows) × (length (now mixed) ≡ maxRows) × Holds maxRows (λ c. 0) (now next) × Holds maxRows (λ c. 0) (now mixed) ⌝ }
+    ensures { λ r. ⌜ Refines (now (work .entry)) width (now (marks .entry)) (now (pending .entry)) entry (now (labels .entry)) (now (labels .exit)) (now (mixed .exit)) ⌝ }
 {
-    let nothing = nothing_moved();
-    let mut of = nothing.of;
-    let mut keys = nothing.keys;
-    let mut count = 0;
     let mut i = 0;
     while i < pending.len() {
-        let c = pending[i];
-        let label = labels[c as usize];
-        let value = work[c as usize * width + entry];
-        of[count] = c;
-        keys[count] = label as u32 * 65536 + value as u32;
-        count += differs(value, work[label as usize * width + entry]);
+        let c = pending[i] as usize;
+        let r = chained(work, width, entry, next, labels[c] as usize, c);
+        labels[c] = r as u16;
+        mixed[r] = mixes(mixed[r], marks[c], marks[r]);
         i += 1;
     }
-    Moved { count, of, keys }
-}
-
-// A row that moves gets the lowest row that moves with its key for a label, the others keep theirs.
-fn relabelled(labels: [u16; MAX_ROWS], moved: Moved) -> Column
-    requires { ⌜ (moved .count ≤ maxRows) × ((i : ℕ) → i < moved .count → getD (moved .of) i 0 < maxRows) ⌝ }
-    ensures { λ r. ⌜ Relabelled labels moved (r .of) ⌝ }
-{
-    let count = moved.count;
-    let mut of = labels;
-    let mut i = 0;
-    while i < count {
-        let c = moved.of[i] as usize;
-        let first = crate::classes::lowest(&moved.keys, 0, i);
-        of[c] = moved.of[first];
-        i += 1;
-    }
-    Column { of }
-}
-
-// The labels of the rows by their classes and their numbers at an entry.
-pub(crate) fn refine(work: &[u16], width: usize, classes: Classes, entry: usize) -> Column
-    requires { ⌜ OpenFit (now work) width (classes .labels) (pendingOf classes) × (classes .count ≤ maxRows) × (entry < width) ⌝ }
-    ensures { λ r. ⌜ Refines (λ c. cell (now (work .entry)) width c entry) classes (r .of) ⌝ }
-{
-    let count = classes.count;
-    let pending = classes.pending;
-    let moved = moved_rows(work, width, &classes.labels, &pending[..count], entry);
-    relabelled(classes.labels, moved)
 }

@@ -1,123 +1,105 @@
 // Settling: classes whose rows have one mark are dissolved, and the pending rows are listed.
-ghost use Prim.Native.Nat.{_≤_, _<_};
+ghost use Prim.Native.Nat.{ℕ, _≤_, _<_};
 ghost use mathlib.Core.Path.{_≡_};
-ghost use mathlib.Core.Bool.{true, cond, _||_};
-ghost use lib.ListN.{length};
+ghost use mathlib.Core.Bool.{not, cond};
+ghost use lib.Dec.{eqb};
+ghost use lib.ListN.{length, take, getD};
 ghost use Rattle.picking.specs.Matrix.{maxRows};
-ghost use Rattle.picking.specs.Labels.{Holds, OpenMarked, Flagged, Settles, Classed, Settled, SomeReady, Parts};
+ghost use Rattle.picking.specs.Labels.{Holds, someOf, OpenSettle, Settles, Started, SomeReady, Parts};
 use crate::MAX_ROWS;
-use crate::classes::Classes;
-use crate::refining::Column;
 
-// For each label whether its class holds two marks.
-struct Flags {
-    of: [bool; MAX_ROWS],
-}
-
-fn either(a: bool, b: bool) -> bool
-    ensures { λ r. ⌜ r ≡ a || b ⌝ }
+// One for numbers that differ: rows are listed without a branch.
+fn differs(a: u16, b: u16) -> usize
+    ensures { λ r. ⌜ r ≡ cond (not (eqb a b)) 1 0 ⌝ }
 {
-    if a {
-        return true;
+    if a == b {
+        return 0;
     }
-    b
+    1
 }
 
-// Only the class of a pending row can hold two marks.
-fn split_classes(marks: &[u8], labels: &[u16], pending: &[u16]) -> Flags
-    requires { ⌜ OpenMarked (now marks) (now labels) (now pending) × (maxRows ≤ length (now labels)) ⌝ }
-    ensures { λ r. ⌜ Flagged (now (labels .entry)) (now (marks .entry)) (now (pending .entry)) (r .of) ⌝ }
+// A pending row of a class that holds two marks keeps its label, any other becomes its own; those that kept theirs are listed anew. Gives their number.
+fn settle(labels: &mut [u16], pending: &mut [u16], count: usize, mixed: &[u16]) -> usize
+    requires { ⌜ (count ≤ length (now pending)) × OpenSettle (now labels) (now mixed) (take count (now pending)) ⌝ }
+    ensures { λ r. ⌜ Settles (now (mixed .entry)) (now (labels .entry)) (take count (now (pending .entry))) (now (labels .exit)) (now (pending .exit)) r ⌝ }
 {
-    let mut of = [false; MAX_ROWS];
+    let mut left = 0;
     let mut i = 0;
-    while i < pending.len() {
-        let c = pending[i] as usize;
-        let label = labels[c] as usize;
-        of[label] = either(of[label], marks[c] != marks[label]);
-        i += 1;
-    }
-    Flags { of }
-}
-
-fn settled_label(split: bool, label: u16, c: u16) -> u16
-    ensures { λ r. ⌜ r ≡ cond split label c ⌝ }
-{
-    if split {
-        return label;
-    }
-    c
-}
-
-// The classes by labels, and by rows among which are all that are not their own labels.
-fn settle(marks: &[u8], refined: Column, rows: &[u16]) -> Classes
-    requires { ⌜ OpenMarked (now marks) (refined .of) (now rows) ⌝ }
-    ensures { λ r. ⌜ Settles (now (marks .entry)) (refined .of) (now (rows .entry)) r ⌝ }
-{
-    let flags = split_classes(marks, &refined.of, rows);
-    let mut labels = refined.of;
-    let mut pending = [0u16; MAX_ROWS];
-    let mut count = 0;
-    let mut i = 0;
-    while i < rows.len() {
-        let c = rows[i];
-        let label = refined.of[c as usize];
-        let own = settled_label(flags.of[label as usize], label, c);
+    while i < count {
+        let c = pending[i];
+        let label = labels[c as usize];
+        let own = c - mixed[label as usize] * (c - label);
         labels[c as usize] = own;
-        pending[count] = c;
-        count += crate::refining::differs(own, c);
+        pending[left] = c;
+        left += differs(own, c);
         i += 1;
     }
-    Classes {
-        labels,
-        count,
-        pending,
-    }
+    left
 }
 
-// The classes by one entry more.
+// The classes by one entry more. Gives the number of pending rows.
 pub(crate) fn part(
     work: &[u16],
     width: usize,
     marks: &[u8],
-    classes: Classes,
+    labels: &mut [u16],
+    pending: &mut [u16],
+    count: usize,
     entry: usize,
-) -> Classes
-    requires { ⌜ SomeReady (now work) width (now marks) classes × (entry < width) ⌝ }
-    ensures { λ r. ⌜ Parts (now (work .entry)) width (now (marks .entry)) entry classes r ⌝ }
+) -> usize
+    requires { ⌜ SomeReady (now work) width (now marks) (now labels) (take count (now pending)) × (entry < width) × (count ≤ maxRows) × (length (now labels) ≡ maxRows) × (length (now pending) ≡ maxRows) ⌝ }
+    ensures { λ r. ⌜ Parts (now (work .entry)) width (now (marks .entry)) entry (now (labels .entry)) (take count (now (pending .entry))) (now (labels .exit)) (now (pending .exit)) r ⌝ }
 {
-    let refined = crate::refining::refine(work, width, classes, entry);
-    let count = classes.count;
-    let pending = classes.pending;
-    settle(marks, refined, &pending[..count])
+    let mut next = [0u8; MAX_ROWS];
+    let mut mixed = [0u16; MAX_ROWS];
+    crate::refining::refine(
+        work,
+        width,
+        marks,
+        labels,
+        &pending[..count],
+        entry,
+        &mut next,
+        &mut mixed,
+    );
+    settle(labels, pending, count, &mixed)
 }
 
-// Every row's number.
-fn every_row() -> Column
-    ensures { λ r. ⌜ Holds maxRows (λ c. c) (r .of) ⌝ }
+// All rows are in one class and pending.
+fn one_class(labels: &mut [u16], pending: &mut [u16])
+    requires { ⌜ (length (now labels) ≡ maxRows) × (length (now pending) ≡ maxRows) ⌝ }
+    ensures { λ r. ⌜ Holds maxRows (λ c. 0) (now (labels .exit)) × Holds maxRows (λ c. c) (now (pending .exit)) ⌝ }
 {
-    let mut of = [0u16; MAX_ROWS];
     let mut c = 0;
     while c < MAX_ROWS {
-        of[c] = c as u16;
+        labels[c] = 0;
+        pending[c] = c as u16;
         c += 1;
     }
-    Column { of }
 }
 
-fn one_class() -> Column
-    ensures { λ r. ⌜ Holds maxRows (λ c. 0) (r .of) ⌝ }
+// One if rows have another mark than row 0.
+fn two_marks(marks: &[u8], rows: &[u16]) -> u16
+    requires { ⌜ (1 ≤ length (now marks)) × ((i : ℕ) → i < length (now rows) → getD (now rows) i 0 < length (now marks)) ⌝ }
+    ensures { λ r. ⌜ r ≡ cond (someOf (λ c. not (eqb (getD (now (marks .entry)) c 0) (getD (now (marks .entry)) 0 0))) (now (rows .entry))) 1 0 ⌝ }
 {
-    Column {
-        of: [0u16; MAX_ROWS],
+    let mut i = 0;
+    while i < rows.len() {
+        if marks[rows[i] as usize] != marks[0] {
+            return 1;
+        }
+        i += 1;
     }
+    0
 }
 
-// The classes by no entry: all rows are in one.
-pub(crate) fn start(rows: usize, marks: &[u8]) -> Classes
-    requires { ⌜ (rows ≤ maxRows) × (rows ≤ length (now marks)) ⌝ }
-    ensures { λ r. ⌜ Classed rows (now (marks .entry)) (λ a b. true) (r .labels) × Settled rows (now (marks .entry)) r ⌝ }
+// The classes by no entry. Gives the number of pending rows.
+pub(crate) fn start(labels: &mut [u16], pending: &mut [u16], rows: usize, marks: &[u8]) -> usize
+    requires { ⌜ (1 ≤ rows) × (rows ≤ maxRows) × (rows ≤ length (now marks)) × (length (now labels) ≡ maxRows) × (length (now pending) ≡ maxRows) ⌝ }
+    ensures { λ r. ⌜ Started rows (now (marks .entry)) (now (labels .exit)) (now (pending .exit)) r ⌝ }
 {
-    let every = every_row();
-    let of = every.of;
-    settle(marks, one_class(), &of[..rows])
+    one_class(labels, pending);
+    let mut mixed = [0u16; MAX_ROWS];
+    mixed[0] = two_marks(marks, &pending[..rows]);
+    settle(labels, pending, rows, &mixed)
 }

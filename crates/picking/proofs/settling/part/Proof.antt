@@ -1,36 +1,57 @@
 -- `picking::settling::part` meets its contract.
+use mathlib.Core.Path.{refl, sym, _∙_}
 use denote.Ref.{now}
-use borrow.Author.Needs.{length-unmapped}
 use Rattle.picking.specs.Matrix.{maxRows}
 use Rattle.picking.proofs.Sizes.{count-within, prefix-length}
-use Rattle.picking.proofs.Parting.{ready-fit, ready-marked, parted}
+use Rattle.picking.proofs.Columns.{zeros-hold}
+use Rattle.picking.proofs.Parting.{ready-settle, ready-parted}
 use Rattle.picking.proofs.settling.part.Statement.{statement}
 use Rattle.picking.proofs.settling.part.Tie as tie
 
+slice-reshare-prefix-refine : tie.Need-slice-reshare-prefix-refine
+slice-reshare-prefix-refine c = count-within (c .before .before .before .before .before .pre .4) (c .before .before .before .before .before .pre .2)
+
+slice-aggregate-refine : tie.Need-slice-aggregate-refine
+slice-aggregate-refine c = prefix-length (now (c .before .before .before .before .before .before .args .pending)) (c .before .before .before .before .before .before .pre .4) (c .before .before .before .before .before .before .pre .2)
+
+slice-aggregate-refine-2 : tie.Need-slice-aggregate-refine-2
+slice-aggregate-refine-2 c = refl
+
+slice-aggregate-refine-3 : tie.Need-slice-aggregate-refine-3
+slice-aggregate-refine-3 c = refl
+
 refine-requires : tie.Need-refine-requires
 unfolding maxRows
-refine-requires c κs = let k = c .before .before .args .classes in (ready-fit k (c .before .before .pre .0 .1) (length-unmapped _ (k .labels) _ (c .before .before .good .1 .1 .1 .0 .1 .1 .0 .1 .0 .1)), c .before .before .pre .0 .1 .settled .few, c .before .before .pre .1)
-
-array-share-prefix-pending : tie.Need-array-share-prefix-pending
-unfolding maxRows
-array-share-prefix-pending c = count-within (length-unmapped _ (c .before .before .before .before .args .classes .pending) _ (c .before .before .before .before .good .1 .1 .1 .0 .1 .1 .1 .1 .0 .1 .0 .1)) (c .before .before .before .before .pre .0 .1 .settled .few)
+refine-requires c κs = (c .before .before .before .before .before .before .before .before .pre .0, c .before .before .before .before .before .before .before .before .pre .1, c .before .before .before .before .before .before .before .before .pre .3, refl, refl, zeros-hold, zeros-hold)
 
 slice-aggregate-settle : tie.Need-slice-aggregate-settle
-unfolding maxRows
-slice-aggregate-settle c = prefix-length (c .before .before .before .before .before .args .classes .pending) (length-unmapped _ (c .before .before .before .before .before .args .classes .pending) _ (c .before .before .before .before .before .good .1 .1 .1 .0 .1 .1 .1 .1 .0 .1 .0 .1)) (c .before .before .before .before .before .pre .0 .1 .settled .few)
+slice-aggregate-settle c = sym (c .before .before .before .before .before .before .before .refine .kept .1 .1 .1 .1 .1 .1 .1 .0)
 
 settle-requires : tie.Need-settle-requires
-settle-requires c κs = ready-marked (c .before .before .before .before .before .args .classes) (c .before .before .before .before .before .pre .0 .1) (c .before .before .before .before .before .args .entry) (c .before .before .refine .result .of) (c .before .before .refine .ensures)
+unfolding maxRows
+settle-requires c κs = let q = c .before .before .before .before .before .before .before .before .before .before .before .before .before .before .before .before .pre .0 in (count-within (c .before .before .before .before .before .before .before .before .before .before .before .before .before .before .before .before .pre .4) (c .before .before .before .before .before .before .before .before .before .before .before .before .before .before .before .before .pre .2), ready-settle (q .1) (c .before .before .before .before .before .before .before .refine .ensures (q .0) (q .1)) (c .before .before .before .before .before .before .before .refine .kept .1 .1 .1 .0 ∙ c .before .before .before .before .before .before .before .before .before .before .before .before .before .before .before .before .pre .3) (c .before .before .before .before .before .before .before .refine .kept .1 .1 .1 .1 .1 .1 .1 .0))
+
+same-length : tie.Need-same-length
+same-length c = c .before .before .before .before .settle .kept .0 ∙ c .before .before .before .before .before .before .before .before .before .before .before .before .refine .kept .1 .1 .1 .0
+
+same-length-2 : tie.Need-same-length-2
+same-length-2 c = c .before .before .before .before .settle .kept .1 .0
 
 returns : tie.Need-returns
-returns c = λ rows ready. parted (c .before .before .before .before .before .before .args .classes) ready (c .before .before .before .before .before .before .args .entry) (c .before .before .before .refine .result .of) (c .before .before .before .refine .ensures) (c .settle .result) (c .settle .ensures)
+unfolding maxRows
+returns c = λ rows ready. ready-parted ready (c .before .before .before .before .before .before .before .before .before .before .before .before .refine .ensures rows ready) (c .before .before .before .before .before .before .before .before .before .before .before .before .refine .kept .1 .1 .1 .0 ∙ c .before .before .before .before .before .before .before .before .before .before .before .before .before .before .before .before .before .before .before .before .before .pre .3) (c .before .before .before .before .before .before .before .before .before .before .before .before .refine .kept .1 .1 .1 .1 .1 .1 .1 .0) (c .before .before .before .before .settle .ensures)
 
 pub part-spec : {M : Type 1} → statement M
 part-spec =
     tie.close
     (tie.spec
+    slice-reshare-prefix-refine
+    slice-aggregate-refine
+    slice-aggregate-refine-2
+    slice-aggregate-refine-3
     refine-requires
-    array-share-prefix-pending
     slice-aggregate-settle
     settle-requires
+    same-length
+    same-length-2
     returns)

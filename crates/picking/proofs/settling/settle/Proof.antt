@@ -1,98 +1,105 @@
--- `picking::settling::settle` meets its contract: the rows passed have their labels, and those that are not their own are listed.
-use native.Mathlib.Nat.{le-of-lt, le-refl}
+-- `picking::settling::settle` meets its contract: the rows passed have their labels, and those that are not their own are listed before the others.
+use native.Mathlib.Nat.{le-of-lt, le-trans, lt-of-lt-of-le}
 use native.Mathlib.Numerals.{add-one-le}
-use lib.Dec.{lit<, eqb}
-use lib.ListN.{length, getD}
-use borrow.Author.Needs.{scaled-fits, length-unmapped}
-use mathlib.Core.Bool.{not}
-use Prim.Native.Nat.{_-_}
-use denote.Ref.{now}
+use borrow.Author.Needs.{scaled-fits}
 use borrow.Author.Count.{falls}
+use Prim.Native.Nat.{_-_}
+use mathlib.Core.Path.{_≡_, refl, sym, _∙_}
+use lib.Dec.{lit<}
+use lib.ListN.{length, take, getD, length-set}
+use denote.Ref.{now}
 use Rattle.picking.specs.Matrix.{maxRows}
-use Rattle.picking.specs.Labels.{parted, settledOf}
-use Rattle.picking.proofs.Sizes.{count-within, place-fits, row-place}
+use Rattle.picking.proofs.Sizes.{prefix-inside, prefix-end, row-place}
 use Rattle.picking.proofs.Gathering.{gathering-room, gathering-count}
-use Rattle.picking.proofs.Dissolving.{label-below, flagged-label, flagged-differs, Settling, settling-none, settling-next, settling-all}
+use Rattle.picking.proofs.Dissolving.{Settling, settling-none, settling-inside, settling-place, settling-low, settling-label-inside, settling-left, settling-known, settling-less, settling-fits, settling-differs, settling-next, settling-all}
 use Rattle.picking.proofs.settling.settle.Statement.{statement}
 use Rattle.picking.proofs.settling.settle.Tie as tie
 
 abbrev Inv-loop : tie.InvT-loop
-Inv-loop marks rows refined flags labels₀ pending₀ count₀ i₀ labels pending count i = Settling marks (refined .of) rows labels pending count i
+Inv-loop labels₀ pending₀ count mixed left₀ i₀ labels pending left i = (length pending ≡ length pending₀) × Settling mixed labels₀ (take count pending₀) labels pending left i
 
 abbrev μ-loop : tie.MeasureT-loop
-μ-loop marks rows refined flags labels₀ pending₀ count₀ i₀ labels pending count i = length rows - i
-
-split-classes-requires : tie.Need-split-classes-requires Inv-loop μ-loop
-unfolding maxRows
-split-classes-requires c κs = (c .before .before .before .before .before .pre, count-within (c .split-classes-arg2 .given .0) (le-refl maxRows))
+μ-loop labels₀ pending₀ count mixed left₀ i₀ labels pending left i = count - i
 
 loop-holds : tie.Need-loop-holds Inv-loop μ-loop
-unfolding maxRows
-loop-holds c = let a = c .before .before .before .before .before .before .before .args in settling-none (now (a .marks)) (a .t2 .of) (now (a .rows)) (length-unmapped _ (a .t2 .of) _ (c .before .before .before .before .before .before .before .good .1 .0 .1 .1 .0 .1 .0 .1))
+loop-holds c = let a = c .before .before .before .args in (refl, settling-none (now (a .mixed)) (now (a .labels)) (now (a .pending)) (c .before .before .before .pre .1) (c .before .before .before .pre .0))
 
 mul-c : tie.Need-mul-c Inv-loop μ-loop
-mul-c c = scaled-fits (c .before .loop .i) (length (now (c .before .before .before .before .before .before .before .before .before .args .rows))) 2 (c .loop-test .taken) (c .before .before .before .before .before .before .before .before .before .good .1 .1 .0 .1)
+unfolding maxRows
+mul-c c = scaled-fits _ 64 2 (lt-of-lt-of-le (prefix-inside (now (c .before .before .before .before .before .args .pending)) (c .before .before .before .before .before .pre .0) (c .loop-test .taken)) (c .before .before .before .before .before .pre .1 .few)) (lit< tt)
 
-shared-slice-read-c : tie.Need-shared-slice-read-c Inv-loop μ-loop
-shared-slice-read-c c = c .before .loop-test .taken
+slice-read-c : tie.Need-slice-read-c Inv-loop μ-loop
+slice-read-c c = lt-of-lt-of-le (prefix-inside (now (c .before .before .before .before .before .before .args .pending)) (c .before .before .before .before .before .before .pre .0) (c .before .loop-test .taken)) (c .before .before .loop .inv .1 .gathered .long)
 
 cast-label : tie.Need-cast-label Inv-loop μ-loop
-cast-label c = row-place (le-of-lt (c .before .before .before .before .before .before .before .before .before .before .pre .listed (c .before .before .loop .i) (c .before .loop-test .taken)))
+cast-label c = let a = c .before .before .before .before .before .before .args in row-place (le-of-lt (settling-inside (now (a .mixed)) (now (a .labels)) (take (a .count) (now (a .pending))) (c .before .before .before .before .before .before .pre .1) (c .before .before .loop .inv .1) (prefix-inside (now (a .pending)) (c .before .before .before .before .before .before .pre .0) (c .before .loop-test .taken))))
 
 mul-label : tie.Need-mul-label Inv-loop μ-loop
 unfolding maxRows
-mul-label c = scaled-fits _ 64 2 (c .before .before .before .before .before .before .before .before .before .before .pre .listed (c .before .before .loop .i) (c .before .loop-test .taken)) (lit< tt)
+mul-label c = let a = c .before .before .before .before .before .before .args in scaled-fits _ 64 2 (settling-inside (now (a .mixed)) (now (a .labels)) (take (a .count) (now (a .pending))) (c .before .before .before .before .before .before .pre .1) (c .before .before .loop .inv .1) (prefix-inside (now (a .pending)) (c .before .before .before .before .before .before .pre .0) (c .before .loop-test .taken))) (lit< tt)
 
-element-copy-out-label : tie.Need-element-copy-out-label Inv-loop μ-loop
+slice-read-label : tie.Need-slice-read-label Inv-loop μ-loop
+slice-read-label c = let a = c .before .before .before .before .before .before .before .args in settling-place (now (a .mixed)) (now (a .labels)) (take (a .count) (now (a .pending))) (c .before .before .before .before .before .before .before .pre .1) (c .before .before .before .loop .inv .1) (prefix-inside (now (a .pending)) (c .before .before .before .before .before .before .before .pre .0) (c .before .before .loop-test .taken))
+
+cast-own : tie.Need-cast-own Inv-loop μ-loop
+cast-own c = let a = c .before .before .before .before .before .before .before .args in row-place (le-of-lt (settling-label-inside (now (a .mixed)) (now (a .labels)) (take (a .count) (now (a .pending))) (c .before .before .before .before .before .before .before .pre .1) (c .before .before .before .loop .inv .1) (prefix-inside (now (a .pending)) (c .before .before .before .before .before .before .before .pre .0) (c .before .before .loop-test .taken))))
+
+mul-own : tie.Need-mul-own Inv-loop μ-loop
 unfolding maxRows
-element-copy-out-label c = c .before .before .before .before .before .before .before .before .before .before .pre .listed (c .before .before .loop .i) (c .before .loop-test .taken)
+mul-own c = let a = c .before .before .before .before .before .before .before .args in scaled-fits _ 64 2 (settling-label-inside (now (a .mixed)) (now (a .labels)) (take (a .count) (now (a .pending))) (c .before .before .before .before .before .before .before .pre .1) (c .before .before .before .loop .inv .1) (prefix-inside (now (a .pending)) (c .before .before .before .before .before .before .before .pre .0) (c .before .before .loop-test .taken))) (lit< tt)
 
-cast-settled-label : tie.Need-cast-settled-label Inv-loop μ-loop
-cast-settled-label c = row-place (le-of-lt (label-below (c .before .before .before .before .before .before .before .before .before .before .before .pre) (c .before .before .before .before .before .before .before .before .before .before .before .pre .listed) (c .before .before .before .loop .i) (c .before .before .loop-test .taken)))
+shared-slice-read-own : tie.Need-shared-slice-read-own Inv-loop μ-loop
+shared-slice-read-own c = let a = c .before .before .before .before .before .before .before .before .args in settling-known (now (a .mixed)) (now (a .labels)) (take (a .count) (now (a .pending))) (c .before .before .before .before .before .before .before .before .pre .1) (c .before .before .before .before .loop .inv .1) (prefix-inside (now (a .pending)) (c .before .before .before .before .before .before .before .before .pre .0) (c .before .before .before .loop-test .taken))
 
-element-copy-out-settled-label : tie.Need-element-copy-out-settled-label Inv-loop μ-loop
-unfolding maxRows
-element-copy-out-settled-label c = label-below (c .before .before .before .before .before .before .before .before .before .before .before .pre) (c .before .before .before .before .before .before .before .before .before .before .before .pre .listed) (c .before .before .before .loop .i) (c .before .before .loop-test .taken)
+sub-own : tie.Need-sub-own Inv-loop μ-loop
+sub-own c = let a = c .before .before .before .before .before .before .before .before .args in settling-low (now (a .mixed)) (now (a .labels)) (take (a .count) (now (a .pending))) (c .before .before .before .before .before .before .before .before .pre .1) (c .before .before .before .before .loop .inv .1) (prefix-inside (now (a .pending)) (c .before .before .before .before .before .before .before .before .pre .0) (c .before .before .before .loop-test .taken))
 
-settled-label-requires : tie.Need-settled-label-requires Inv-loop μ-loop
-settled-label-requires c κs = tt
+mul-own-2 : tie.Need-mul-own-2 Inv-loop μ-loop
+mul-own-2 c = let a = c .before .before .before .before .before .before .before .before .args in settling-fits (now (a .mixed)) (now (a .labels)) (take (a .count) (now (a .pending))) (c .before .before .before .before .before .before .before .before .pre .1) (c .before .before .before .before .loop .inv .1) (prefix-inside (now (a .pending)) (c .before .before .before .before .before .before .before .before .pre .0) (c .before .before .before .loop-test .taken))
+
+sub-own-2 : tie.Need-sub-own-2 Inv-loop μ-loop
+sub-own-2 c = let a = c .before .before .before .before .before .before .before .before .args in settling-less (now (a .mixed)) (now (a .labels)) (take (a .count) (now (a .pending))) (c .before .before .before .before .before .before .before .before .pre .1) (c .before .before .before .before .loop .inv .1) (prefix-inside (now (a .pending)) (c .before .before .before .before .before .before .before .before .pre .0) (c .before .before .before .loop-test .taken))
 
 cast-labels : tie.Need-cast-labels Inv-loop μ-loop
-cast-labels c = row-place (le-of-lt (c .before .before .before .before .before .before .before .before .before .before .before .before .before .pre .listed (c .before .before .before .before .before .loop .i) (c .before .before .before .before .loop-test .taken)))
+cast-labels c = let a = c .before .before .before .before .before .before .before .before .args in row-place (le-of-lt (settling-inside (now (a .mixed)) (now (a .labels)) (take (a .count) (now (a .pending))) (c .before .before .before .before .before .before .before .before .pre .1) (c .before .before .before .before .loop .inv .1) (prefix-inside (now (a .pending)) (c .before .before .before .before .before .before .before .before .pre .0) (c .before .before .before .loop-test .taken))))
 
 mul-labels : tie.Need-mul-labels Inv-loop μ-loop
 unfolding maxRows
-mul-labels c = scaled-fits _ 64 2 (c .before .before .before .before .before .before .before .before .before .before .before .before .before .pre .listed (c .before .before .before .before .before .loop .i) (c .before .before .before .before .loop-test .taken)) (lit< tt)
+mul-labels c = let a = c .before .before .before .before .before .before .before .before .args in scaled-fits _ 64 2 (settling-inside (now (a .mixed)) (now (a .labels)) (take (a .count) (now (a .pending))) (c .before .before .before .before .before .before .before .before .pre .1) (c .before .before .before .before .loop .inv .1) (prefix-inside (now (a .pending)) (c .before .before .before .before .before .before .before .before .pre .0) (c .before .before .before .loop-test .taken))) (lit< tt)
 
-array-write-labels : tie.Need-array-write-labels Inv-loop μ-loop
-unfolding maxRows
-array-write-labels c = c .before .before .before .before .before .before .before .before .before .before .before .before .before .pre .listed (c .before .before .before .before .before .loop .i) (c .before .before .before .before .loop-test .taken)
+slice-write-labels : tie.Need-slice-write-labels Inv-loop μ-loop
+slice-write-labels c = let a = c .before .before .before .before .before .before .before .before .args in settling-place (now (a .mixed)) (now (a .labels)) (take (a .count) (now (a .pending))) (c .before .before .before .before .before .before .before .before .pre .1) (c .before .before .before .before .loop .inv .1) (prefix-inside (now (a .pending)) (c .before .before .before .before .before .before .before .before .pre .0) (c .before .before .before .loop-test .taken))
 
 mul-pending : tie.Need-mul-pending Inv-loop μ-loop
 unfolding maxRows
-mul-pending c = scaled-fits _ 64 2 (gathering-room (c .before .before .before .before .before .loop .inv .gathered) (c .before .before .before .before .before .before .before .before .before .before .before .before .before .pre .few) (c .before .before .before .before .loop-test .taken)) (lit< tt)
+mul-pending c = let a = c .before .before .before .before .before .before .before .before .args in scaled-fits _ 64 2 (settling-left (now (a .mixed)) (now (a .labels)) (take (a .count) (now (a .pending))) (c .before .before .before .before .before .before .before .before .pre .1) (c .before .before .before .before .loop .inv .1) (prefix-inside (now (a .pending)) (c .before .before .before .before .before .before .before .before .pre .0) (c .before .before .before .loop-test .taken))) (lit< tt)
 
-array-write-pending : tie.Need-array-write-pending Inv-loop μ-loop
-unfolding maxRows
-array-write-pending c = gathering-room (c .before .before .before .before .before .loop .inv .gathered) (c .before .before .before .before .before .before .before .before .before .before .before .before .before .pre .few) (c .before .before .before .before .loop-test .taken)
+slice-write-pending : tie.Need-slice-write-pending Inv-loop μ-loop
+slice-write-pending c = gathering-room (c .before .before .before .before .loop .inv .1 .gathered) (prefix-inside (now (c .before .before .before .before .before .before .before .before .args .pending)) (c .before .before .before .before .before .before .before .before .pre .0) (c .before .before .before .loop-test .taken))
 
 differs-requires : tie.Need-differs-requires Inv-loop μ-loop
 differs-requires c κs = tt
 
-add-count : tie.Need-add-count Inv-loop μ-loop
-add-count c = let a = c .before .before .before .before .before .before .before .before .before .before .before .before .before .before .args in let r = getD (now (a .rows)) (c .before .before .before .before .before .before .loop .i) 0 in place-fits 1 (c .before .before .before .before .before .before .before .before .before .before .before .before .before .before .good .1 .1 .0 .1) (gathering-count (c .before .before .before .before .before .before .loop .inv .gathered) (c .before .before .before .before .before .loop-test .taken) (flagged-differs (a .t2 .of) (now (a .marks)) (now (a .rows)) r (flagged-label (a .t2 .of) (now (a .marks)) (now (a .rows)) (c .before .before .before .before .before .before .before .before .split-classes .result .of) (c .before .before .before .before .before .before .before .before .split-classes .ensures) r (label-below (c .before .before .before .before .before .before .before .before .before .before .before .before .before .before .pre) (c .before .before .before .before .before .before .before .before .before .before .before .before .before .before .pre .listed) (c .before .before .before .before .before .before .loop .i) (c .before .before .before .before .before .loop-test .taken)) (c .before .settled-label .ensures)) (c .differs .ensures)))
+add-left : tie.Need-add-left Inv-loop μ-loop
+add-left c = let a = c .before .before .before .before .before .before .before .before .before .args in let h = prefix-inside (now (a .pending)) (c .before .before .before .before .before .before .before .before .before .pre .0) (c .before .before .before .before .loop-test .taken) in row-place (le-trans (gathering-count (c .before .before .before .before .before .loop .inv .1 .gathered) h (settling-differs (now (a .mixed)) (now (a .labels)) (take (a .count) (now (a .pending))) (c .before .before .before .before .before .before .before .before .before .pre .1) (c .before .before .before .before .before .loop .inv .1) h (c .differs .ensures))) (c .before .before .before .before .before .before .before .before .before .pre .1 .few))
 
 add-i : tie.Need-add-i Inv-loop μ-loop
-add-i c = place-fits 1 (c .before .before .before .before .before .before .before .before .before .before .before .before .before .before .good .1 .1 .0 .1) (add-one-le (c .before .before .before .before .before .loop-test .taken))
+add-i c = row-place (add-one-le (lt-of-lt-of-le (prefix-inside (now (c .before .before .before .before .before .before .before .before .before .args .pending)) (c .before .before .before .before .before .before .before .before .before .pre .0) (c .before .before .before .before .loop-test .taken)) (c .before .before .before .before .before .before .before .before .before .pre .1 .few)))
 
 loop-less : tie.Need-loop-less Inv-loop μ-loop
-loop-less c = falls _ _ (c .before .before .before .before .before .loop-test .taken)
+loop-less c = falls _ _ (c .before .before .before .before .loop-test .taken)
 
 loop-again : tie.Need-loop-again Inv-loop μ-loop
-loop-again c = let a = c .before .before .before .before .before .before .before .before .before .before .before .before .before .before .args in let r = getD (now (a .rows)) (c .before .before .before .before .before .before .loop .i) 0 in let e = flagged-label (a .t2 .of) (now (a .marks)) (now (a .rows)) (c .before .before .before .before .before .before .before .before .split-classes .result .of) (c .before .before .before .before .before .before .before .before .split-classes .ensures) r (label-below (c .before .before .before .before .before .before .before .before .before .before .before .before .before .before .pre) (c .before .before .before .before .before .before .before .before .before .before .before .before .before .before .pre .listed) (c .before .before .before .before .before .before .loop .i) (c .before .before .before .before .before .loop-test .taken)) (c .before .settled-label .ensures) in settling-next (now (a .marks)) (a .t2 .of) (now (a .rows)) (c .before .before .before .before .before .before .loop .inv) (c .before .before .before .before .before .before .before .before .before .before .before .before .before .before .pre .few) (c .before .before .before .before .before .loop-test .taken) (c .before .before .before .before .before .before .before .before .before .before .before .before .before .before .pre .listed (c .before .before .before .before .before .before .loop .i) (c .before .before .before .before .before .loop-test .taken)) e (c .differs .ensures)
+loop-again c = let a = c .before .before .before .before .before .before .before .before .before .args in (length-set (c .before .before .before .before .before .loop .pending) (c .before .before .before .before .before .loop .left) (getD (c .before .before .before .before .before .loop .pending) (c .before .before .before .before .before .loop .i) 0) ∙ c .before .before .before .before .before .loop .inv .0, settling-next (now (a .mixed)) (now (a .labels)) (take (a .count) (now (a .pending))) (c .before .before .before .before .before .before .before .before .before .pre .1) (c .before .before .before .before .before .loop .inv .1) (prefix-inside (now (a .pending)) (c .before .before .before .before .before .before .before .before .before .pre .0) (c .before .before .before .before .loop-test .taken)) (c .differs .ensures))
+
+same-length : tie.Need-same-length Inv-loop μ-loop
+same-length c = c .before .loop .inv .1 .written .sized ∙ sym (c .before .before .before .before .before .pre .1 .sized)
+
+same-length-2 : tie.Need-same-length-2 Inv-loop μ-loop
+same-length-2 c = c .before .loop .inv .0
 
 returns : tie.Need-returns Inv-loop μ-loop
-returns c = let a = c .before .before .before .before .before .before .before .before .before .args in settling-all (now (a .marks)) (a .t2 .of) (now (a .rows)) (c .before .loop .inv) (c .before .before .before .before .before .before .before .before .before .pre .few) (c .loop-test .left)
+returns c = let a = c .before .before .before .before .before .args in settling-all (now (a .mixed)) (now (a .labels)) (take (a .count) (now (a .pending))) (c .before .before .before .before .before .pre .1) (c .before .loop .inv .1) (prefix-end (now (a .pending)) (c .before .before .before .before .before .pre .0) (c .loop-test .left))
 
 pub settle-spec : {M : Type 1} → statement M
 settle-spec =
@@ -100,24 +107,28 @@ settle-spec =
     (tie.spec
     Inv-loop
     μ-loop
-    split-classes-requires
     loop-holds
     mul-c
-    shared-slice-read-c
+    slice-read-c
     cast-label
     mul-label
-    element-copy-out-label
-    cast-settled-label
-    element-copy-out-settled-label
-    settled-label-requires
+    slice-read-label
+    cast-own
+    mul-own
+    shared-slice-read-own
+    sub-own
+    mul-own-2
+    sub-own-2
     cast-labels
     mul-labels
-    array-write-labels
+    slice-write-labels
     mul-pending
-    array-write-pending
+    slice-write-pending
     differs-requires
-    add-count
+    add-left
     add-i
     loop-less
     loop-again
+    same-length
+    same-length-2
     returns)

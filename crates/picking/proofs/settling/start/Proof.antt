@@ -1,41 +1,60 @@
 -- `picking::settling::start` meets its contract.
+use native.Mathlib.Nat.{le-trans}
+use mathlib.Core.Path.{refl, _∙_}
+use Prim.Native.Nat.{ℕ}
+use lib.Dec.{lit<}
+use lib.ListN.{replicate, length-replicate}
 use denote.Ref.{now}
-use borrow.Author.Needs.{length-unmapped}
 use Rattle.picking.specs.Matrix.{maxRows}
 use Rattle.picking.proofs.Sizes.{count-within, prefix-length}
-use Rattle.picking.proofs.Parting.{start-marked, started}
+use Rattle.picking.proofs.Columns.{zeros-hold}
+use Rattle.picking.proofs.Parting.{start-marked, start-settle, start-started}
 use Rattle.picking.proofs.settling.start.Statement.{statement}
 use Rattle.picking.proofs.settling.start.Tie as tie
 
-every-row-requires : tie.Need-every-row-requires
-every-row-requires c κs = tt
-
 one-class-requires : tie.Need-one-class-requires
-one-class-requires c κs = tt
+one-class-requires c κs = (c .before .before .before .before .before .pre .3, c .before .before .before .before .before .pre .4)
 
-array-share-prefix-of : tie.Need-array-share-prefix-of
-unfolding maxRows
-array-share-prefix-of c = count-within (length-unmapped _ (c .before .before .every-row .result .of) _ (c .before .before .every-row .ok .1 .1 .0 .1 .0 .1)) (c .before .before .before .before .pre .0)
+slice-reshare-prefix-two-marks : tie.Need-slice-reshare-prefix-two-marks
+slice-reshare-prefix-two-marks c = count-within (c .before .before .before .before .one-class .kept .1 .0 ∙ c .before .before .before .before .before .before .before .before .before .before .pre .4) (c .before .before .before .before .before .before .before .before .before .before .pre .1)
+
+slice-aggregate-two-marks : tie.Need-slice-aggregate-two-marks
+slice-aggregate-two-marks c = prefix-length (c .before .before .before .before .before .one-class .last .1 .0) (c .before .before .before .before .before .one-class .kept .1 .0 ∙ c .before .before .before .before .before .before .before .before .before .before .before .pre .4) (c .before .before .before .before .before .before .before .before .before .before .before .pre .1)
+
+two-marks-requires : tie.Need-two-marks-requires
+two-marks-requires c κs = let a = c .before .before .before .before .before .before .before .before .before .before .before .args in (le-trans (c .before .before .before .before .before .before .before .before .before .before .before .pre .0) (c .before .before .before .before .before .before .before .before .before .before .before .pre .2), start-marked (a .rows) (now (a .marks)) (c .before .before .before .before .before .one-class .last .0) (c .before .before .before .before .before .one-class .last .1 .0) (c .before .before .before .before .before .before .before .before .before .before .before .pre .0) (c .before .before .before .before .before .before .before .before .before .before .before .pre .1) (c .before .before .before .before .before .one-class .ensures .0) (c .before .before .before .before .before .one-class .kept .0 ∙ c .before .before .before .before .before .before .before .before .before .before .before .pre .3) (c .before .before .before .before .before .one-class .kept .1 .0 ∙ c .before .before .before .before .before .before .before .before .before .before .before .pre .4) (c .before .before .before .before .before .one-class .ensures .1) (c .before .before .before .before .before .before .before .before .before .before .before .pre .2))
+
+array-write-mixed : tie.Need-array-write-mixed
+array-write-mixed c = lit< tt
 
 slice-aggregate-settle : tie.Need-slice-aggregate-settle
-unfolding maxRows
-slice-aggregate-settle c = prefix-length (c .before .before .before .every-row .result .of) (length-unmapped _ (c .before .before .before .every-row .result .of) _ (c .before .before .before .every-row .ok .1 .1 .0 .1 .0 .1)) (c .before .before .before .before .before .pre .0)
+slice-aggregate-settle c = refl
 
 settle-requires : tie.Need-settle-requires
 unfolding maxRows
-settle-requires c κs = start-marked (c .before .before .before .before .before .args .rows) (now (c .before .before .before .before .before .args .marks)) (c .before .one-class .result .of) (c .before .before .before .every-row .result .of) (c .before .before .before .before .before .pre .0) (c .before .one-class .ensures) (length-unmapped _ (c .before .before .before .every-row .result .of) _ (c .before .before .before .every-row .ok .1 .1 .0 .1 .0 .1)) (c .before .before .before .every-row .ensures) (c .before .before .before .before .before .pre .1)
+settle-requires c κs = let a = c .before .before .before .before .before .before .before .before .before .before .before .before .before .before .before .args in (count-within (c .before .before .before .before .before .before .before .before .before .one-class .kept .1 .0 ∙ c .before .before .before .before .before .before .before .before .before .before .before .before .before .before .before .pre .4) (c .before .before .before .before .before .before .before .before .before .before .before .before .before .before .before .pre .1), start-settle (a .rows) (now (a .marks)) (c .before .before .before .before .before .before .before .before .before .one-class .last .0) (c .before .before .before .before .before .before .before .before .before .one-class .last .1 .0) (c .before .before .before .before .before .before .before .before .before .before .before .before .before .before .before .pre .0) (c .before .before .before .before .before .before .before .before .before .before .before .before .before .before .before .pre .1) (c .before .before .before .before .before .before .before .before .before .one-class .ensures .0) (c .before .before .before .before .before .before .before .before .before .one-class .kept .0 ∙ c .before .before .before .before .before .before .before .before .before .before .before .before .before .before .before .pre .3) (c .before .before .before .before .before .before .before .before .before .one-class .kept .1 .0 ∙ c .before .before .before .before .before .before .before .before .before .before .before .before .before .before .before .pre .4) (c .before .before .before .before .before .before .before .before .before .one-class .ensures .1) (replicate maxRows 0) zeros-hold (length-replicate {A = ℕ} maxRows 0) (c .before .before .before .two-marks .ensures))
+
+same-length : tie.Need-same-length
+same-length c = c .before .before .before .before .settle .kept .0 ∙ c .before .before .before .before .before .before .before .before .before .before .before .before .before .before .one-class .kept .0
+
+same-length-2 : tie.Need-same-length-2
+same-length-2 c = c .before .before .before .before .settle .kept .1 .0 ∙ c .before .before .before .before .before .before .before .before .before .before .before .before .before .before .one-class .kept .1 .0
 
 returns : tie.Need-returns
 unfolding maxRows
-returns c = started (c .before .before .before .before .before .before .args .rows) (now (c .before .before .before .before .before .before .args .marks)) (c .before .before .one-class .result .of) (c .before .before .before .before .every-row .result .of) (c .before .before .before .before .before .before .pre .0) (c .before .before .one-class .ensures) (length-unmapped _ (c .before .before .before .before .every-row .result .of) _ (c .before .before .before .before .every-row .ok .1 .1 .0 .1 .0 .1)) (c .before .before .before .before .every-row .ensures) (c .settle .result) (c .settle .ensures)
+returns c = let a = c .before .before .before .before .before .before .before .before .before .before .before .before .before .before .before .before .before .before .before .before .args in start-started (a .rows) (now (a .marks)) (c .before .before .before .before .before .before .before .before .before .before .before .before .before .before .one-class .last .0) (c .before .before .before .before .before .before .before .before .before .before .before .before .before .before .one-class .last .1 .0) (c .before .before .before .before .before .before .before .before .before .before .before .before .before .before .before .before .before .before .before .before .pre .0) (c .before .before .before .before .before .before .before .before .before .before .before .before .before .before .before .before .before .before .before .before .pre .1) (c .before .before .before .before .before .before .before .before .before .before .before .before .before .before .one-class .ensures .0) (c .before .before .before .before .before .before .before .before .before .before .before .before .before .before .one-class .kept .0 ∙ c .before .before .before .before .before .before .before .before .before .before .before .before .before .before .before .before .before .before .before .before .pre .3) (c .before .before .before .before .before .before .before .before .before .before .before .before .before .before .one-class .kept .1 .0 ∙ c .before .before .before .before .before .before .before .before .before .before .before .before .before .before .before .before .before .before .before .before .pre .4) (c .before .before .before .before .before .before .before .before .before .before .before .before .before .before .one-class .ensures .1) (replicate maxRows 0) zeros-hold (length-replicate {A = ℕ} maxRows 0) (c .before .before .before .before .before .before .before .before .two-marks .ensures) (c .before .before .before .before .settle .ensures)
 
 pub start-spec : {M : Type 1} → statement M
 start-spec =
     tie.close
     (tie.spec
-    every-row-requires
     one-class-requires
-    array-share-prefix-of
+    slice-reshare-prefix-two-marks
+    slice-aggregate-two-marks
+    two-marks-requires
+    array-write-mixed
     slice-aggregate-settle
     settle-requires
+    same-length
+    same-length-2
     returns)

@@ -1,24 +1,83 @@
 -- `picking::taking::next_useful` meets its contract.
-use borrow.Author.Needs.{length-unmapped}
-use Rattle.picking.specs.Matrix.{maxRows}
-use Rattle.picking.proofs.Sizes.{count-within, prefix-length}
+use native.Mathlib.Nat.{le-refl}
+use Prim.Native.Nat.{_*_}
+use mathlib.Core.Path.{ap₂, _∙_}
+use mathlib.Core.List.{List}
+use denote.Ref.{now}
+use Prim.Native.Nat.{ℕ}
+use lib.ListN.{drop}
+use Rattle.picking.specs.Matrix.{cell, maxRows}
+use Rattle.picking.specs.Labels.{OpenFit, clear, seek}
+use Rattle.picking.proofs.Slots.{slot-fits, slot-add, slot-scaled, slot-ends, slot-inside, slot-lent, slot-front, lent-as}
 use Rattle.picking.proofs.taking.next_useful.Statement.{statement}
 use Rattle.picking.proofs.taking.next_useful.Tie as tie
 
-array-share-prefix-pending : tie.Need-array-share-prefix-pending
+mul-at : tie.Need-mul-at
 unfolding maxRows
-array-share-prefix-pending c = count-within (length-unmapped _ (c .before .before .before .before .before .before .args .t3 .pending) _ (c .before .before .before .before .before .before .good .1 .1 .0 .1 .1 .1 .1 .0 .1 .0 .1)) (c .before .before .before .before .before .before .pre .1)
+mul-at c = slot-fits (c .before .before .before .before .pre .2)
 
-slice-aggregate-next : tie.Need-slice-aggregate-next
+add-next : tie.Need-add-next
 unfolding maxRows
-slice-aggregate-next c = prefix-length (c .before .before .before .before .before .before .before .args .t3 .pending) (length-unmapped _ (c .before .before .before .before .before .before .before .args .t3 .pending) _ (c .before .before .before .before .before .before .before .good .1 .1 .0 .1 .1 .1 .1 .0 .1 .0 .1)) (c .before .before .before .before .before .before .before .pre .1)
+add-next c = slot-add (c .before .before .before .before .pre .2) (le-refl maxRows)
+
+mul-next : tie.Need-mul-next
+unfolding maxRows
+mul-next c = slot-scaled (c .before .before .before .before .pre .2)
+
+sub-next : tie.Need-sub-next
+unfolding maxRows
+sub-next c = slot-ends (c .before .before .before .before .args .level * maxRows) maxRows
+
+part-next-start : tie.Need-part-next-start
+unfolding maxRows
+part-next-start c = slot-ends (c .before .before .before .before .args .level * maxRows) maxRows
+
+part-next-end : tie.Need-part-next-end
+unfolding maxRows
+part-next-end c = slot-inside (c .before .before .before .before .pre .2) (now (c .before .before .before .before .args .labels)) (le-refl maxRows) (c .before .before .before .before .pre .3)
+
+add-next-2 : tie.Need-add-next-2
+unfolding maxRows
+add-next-2 c = slot-add (c .before .before .before .before .before .pre .2) (c .before .before .before .before .before .pre .1)
+
+mul-next-2 : tie.Need-mul-next-2
+unfolding maxRows
+mul-next-2 c = slot-scaled (c .before .before .before .before .before .pre .2)
+
+sub-next-2 : tie.Need-sub-next-2
+unfolding maxRows
+sub-next-2 c = slot-ends (c .before .before .before .before .before .args .level * maxRows) (c .before .before .before .before .before .args .count)
+
+part-next-start-2 : tie.Need-part-next-start-2
+unfolding maxRows
+part-next-start-2 c = slot-ends (c .before .before .before .before .before .args .level * maxRows) (c .before .before .before .before .before .args .count)
+
+part-next-end-2 : tie.Need-part-next-end-2
+unfolding maxRows
+part-next-end-2 c = slot-inside (c .before .before .before .before .before .pre .2) (now (c .before .before .before .before .before .args .pending)) (c .before .before .before .before .before .pre .1) (c .before .before .before .before .before .pre .4)
 
 next-requires : tie.Need-next-requires
-next-requires c κs = (c .before .before .before .before .before .before .before .pre .0, c .before .before .before .before .before .before .before .pre .2, c .before .before .before .before .before .before .before .pre .3)
+unfolding maxRows
+next-requires c κs = let a = c .before .before .before .before .before .before .args in (lent-as (OpenFit (now (a .work)) (a .width)) (slot-lent (a .level) (now (a .labels))) (slot-front (a .level) (now (a .pending)) (c .before .before .before .before .before .before .pre .1)) (c .before .before .before .before .before .before .pre .0), c .before .before .before .before .before .before .pre .5, c .before .before .before .before .before .before .pre .6)
 
 returns : tie.Need-returns
-returns c = c .next .ensures
+unfolding maxRows
+returns c = let a = c .before .before .before .before .before .before .before .args in c .next .ensures ∙ ap₂ (λ (x y : List ℕ). seek (clear (cell (now (a .work)) (a .width)) x y) (drop (a .from) (now (a .scan))) (a .from)) (slot-lent (a .level) (now (a .labels))) (slot-front (a .level) (now (a .pending)) (c .before .before .before .before .before .before .before .pre .1))
 
 pub next-useful-spec : {M : Type 1} → statement M
 next-useful-spec =
-    tie.close (tie.spec array-share-prefix-pending slice-aggregate-next next-requires returns)
+    tie.close
+    (tie.spec
+    mul-at
+    add-next
+    mul-next
+    sub-next
+    part-next-start
+    part-next-end
+    add-next-2
+    mul-next-2
+    sub-next-2
+    part-next-start-2
+    part-next-end-2
+    next-requires
+    returns)

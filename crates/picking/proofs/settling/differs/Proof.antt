@@ -1,7 +1,7 @@
--- `picking::refining::differs` meets its contract.
+-- `picking::settling::differs` meets its contract.
 use Rattle.picking.proofs.Dissolving.{differs-yes, differs-no}
-use Rattle.picking.proofs.refining.differs.Statement.{statement}
-use Rattle.picking.proofs.refining.differs.Tie as tie
+use Rattle.picking.proofs.settling.differs.Statement.{statement}
+use Rattle.picking.proofs.settling.differs.Tie as tie
 
 returns : tie.Need-returns
 returns c = differs-no (c .if1 .taken)

@@ -1,0 +1,46 @@
+-- `picking::choose_fit` meets its contract.
+use borrow.Author.Needs.{length-unmapped}
+use mathlib.Core.Path.{refl, sym}
+use denote.Ref.{now}
+use Rattle.picking.specs.Matrix.{maxRows, maxEntries}
+use Rattle.picking.proofs.Sizes.{count-within}
+use Rattle.picking.proofs.Fits.{fits-fit}
+use Rattle.picking.proofs.Whole.{chosen, chosen-below}
+use Rattle.picking.proofs.choose_fit.Statement.{statement}
+use Rattle.picking.proofs.choose_fit.Tie as tie
+
+slice-aggregate-take : tie.Need-slice-aggregate-take
+slice-aggregate-take c = refl
+
+slice-aggregate-take-2 : tie.Need-slice-aggregate-take-2
+slice-aggregate-take-2 c = refl
+
+take-requires : tie.Need-take-requires
+unfolding maxRows
+take-requires c κs = let a = c .before .before .before .before .before .args in ((fits-fit (now (a .work)) (a .width) (a .rows) (now (a .marks)) (now (a .scan)) (c .before .before .before .before .before .pre)) .0, (fits-fit (now (a .work)) (a .width) (a .rows) (now (a .marks)) (now (a .scan)) (c .before .before .before .before .before .pre)) .1, refl, refl)
+
+slice-aggregate-conclude : tie.Need-slice-aggregate-conclude
+slice-aggregate-conclude c = sym (c .before .before .before .take .kept .1 .1 .1 .1 .1 .0)
+
+slice-aggregate-conclude-2 : tie.Need-slice-aggregate-conclude-2
+slice-aggregate-conclude-2 c = sym (c .before .before .before .before .take .kept .1 .1 .1 .1 .1 .1 .0)
+
+conclude-requires : tie.Need-conclude-requires
+unfolding maxRows
+conclude-requires c κs = let a = c .before .before .before .before .before .before .before .before .before .before .args in ((fits-fit (now (a .work)) (a .width) (a .rows) (now (a .marks)) (now (a .scan)) (c .before .before .before .before .before .before .before .before .before .before .pre)) .0, c .before .before .before .before .take .ensures .few, chosen-below (now (a .work)) (a .width) (a .rows) (now (a .marks)) (now (a .scan)) ((fits-fit (now (a .work)) (a .width) (a .rows) (now (a .marks)) (now (a .scan)) (c .before .before .before .before .before .before .before .before .before .before .pre)) .1) (c .before .before .before .before .take .ensures), c .before .before .before .before .take .ensures .levels, c .before .before .before .before .take .kept .1 .1 .1 .1 .1 .0, c .before .before .before .before .take .kept .1 .1 .1 .1 .1 .1 .0)
+
+returns : tie.Need-returns
+unfolding maxEntries
+returns c = let a = c .before .before .before .before .before .before .before .before .before .before .before .args in chosen (now (a .work)) (a .width) (a .rows) (now (a .marks)) (now (a .scan)) (count-within (length-unmapped _ (c .before .before .before .before .before .take .result .entries) _ (c .before .before .before .before .before .take .ok .1 .1 .1 .0 .1 .0 .1)) (c .before .before .before .before .before .take .ensures .few)) (c .before .before .before .before .before .before .before .before .before .before .before .pre) (c .before .before .before .before .before .take .ensures) (c .conclude .ensures)
+
+pub choose-fit-spec : {M : Type 1} → statement M
+choose-fit-spec =
+    tie.close
+    (tie.spec
+    slice-aggregate-take
+    slice-aggregate-take-2
+    take-requires
+    slice-aggregate-conclude
+    slice-aggregate-conclude-2
+    conclude-requires
+    returns)

@@ -1,0 +1,83 @@
+-- `picking::dropping::told_at` meets its contract.
+use native.Mathlib.Nat.{le-refl}
+use Prim.Native.Nat.{_*_}
+use mathlib.Core.Path.{ap₂, _∙_}
+use mathlib.Core.List.{List}
+use denote.Ref.{now}
+use Prim.Native.Nat.{ℕ}
+use mathlib.Core.Bool.{not}
+use Rattle.picking.specs.Matrix.{maxRows}
+use Rattle.picking.specs.Labels.{SomeComparable, someOf, strayBy, lowestOf, valueIn}
+use Rattle.picking.proofs.Slots.{slot-fits, slot-add, slot-scaled, slot-ends, slot-inside, slot-lent, slot-front, lent-as}
+use Rattle.picking.proofs.dropping.told_at.Statement.{statement}
+use Rattle.picking.proofs.dropping.told_at.Tie as tie
+
+mul-at : tie.Need-mul-at
+unfolding maxRows
+mul-at c = slot-fits (c .before .before .before .before .pre .2)
+
+add-told-together : tie.Need-add-told-together
+unfolding maxRows
+add-told-together c = slot-add (c .before .before .before .before .pre .2) (le-refl maxRows)
+
+mul-told-together : tie.Need-mul-told-together
+unfolding maxRows
+mul-told-together c = slot-scaled (c .before .before .before .before .pre .2)
+
+sub-told-together : tie.Need-sub-told-together
+unfolding maxRows
+sub-told-together c = slot-ends (c .before .before .before .before .args .level * maxRows) maxRows
+
+part-told-together-start : tie.Need-part-told-together-start
+unfolding maxRows
+part-told-together-start c = slot-ends (c .before .before .before .before .args .level * maxRows) maxRows
+
+part-told-together-end : tie.Need-part-told-together-end
+unfolding maxRows
+part-told-together-end c = slot-inside (c .before .before .before .before .pre .2) (now (c .before .before .before .before .args .labels)) (le-refl maxRows) (c .before .before .before .before .pre .3)
+
+add-told-together-2 : tie.Need-add-told-together-2
+unfolding maxRows
+add-told-together-2 c = slot-add (c .before .before .before .before .before .pre .2) (c .before .before .before .before .before .pre .1)
+
+mul-told-together-2 : tie.Need-mul-told-together-2
+unfolding maxRows
+mul-told-together-2 c = slot-scaled (c .before .before .before .before .before .pre .2)
+
+sub-told-together-2 : tie.Need-sub-told-together-2
+unfolding maxRows
+sub-told-together-2 c = slot-ends (c .before .before .before .before .before .args .level * maxRows) (c .before .before .before .before .before .args .count)
+
+part-told-together-start-2 : tie.Need-part-told-together-start-2
+unfolding maxRows
+part-told-together-start-2 c = slot-ends (c .before .before .before .before .before .args .level * maxRows) (c .before .before .before .before .before .args .count)
+
+part-told-together-end-2 : tie.Need-part-told-together-end-2
+unfolding maxRows
+part-told-together-end-2 c = slot-inside (c .before .before .before .before .before .pre .2) (now (c .before .before .before .before .before .args .pending)) (c .before .before .before .before .before .pre .1) (c .before .before .before .before .before .pre .4)
+
+told-together-requires : tie.Need-told-together-requires
+unfolding maxRows
+told-together-requires c κs = let a = c .before .before .before .before .before .before .args in lent-as (λ x y. SomeComparable (now (a .marks)) x y (now (a .others))) (slot-lent (a .level) (now (a .labels))) (slot-front (a .level) (now (a .pending)) (c .before .before .before .before .before .before .pre .1)) (c .before .before .before .before .before .before .pre .0)
+
+returns : tie.Need-returns
+unfolding maxRows
+returns c = let a = c .before .before .before .before .before .before .before .args in c .told-together .ensures ∙ ap₂ (λ (x y : List ℕ). not (someOf (strayBy (lowestOf x (valueIn (now (a .others)))) (now (a .marks))) y)) (slot-lent (a .level) (now (a .labels))) (slot-front (a .level) (now (a .pending)) (c .before .before .before .before .before .before .before .pre .1))
+
+pub told-at-spec : {M : Type 1} → statement M
+told-at-spec =
+    tie.close
+    (tie.spec
+    mul-at
+    add-told-together
+    mul-told-together
+    sub-told-together
+    part-told-together-start
+    part-told-together-end
+    add-told-together-2
+    mul-told-together-2
+    sub-told-together-2
+    part-told-together-start-2
+    part-told-together-end-2
+    told-together-requires
+    returns)
