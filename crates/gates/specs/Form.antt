@@ -8,7 +8,7 @@
 --   combined      byte i of a table of answers, for the tables at two places
 --   formOf        the polynomial of a row of four answers, over the bits of a mask
 --   kindForm      the polynomial of a kind of gate
---   slopeForm     the polynomial that leads from a table and that of a gate's one line to the table where the gate's answer changes with its other line
+--   slopeForm     the polynomial that is 1 where x is 1 and a gate's answer changes with one of its lines, y being the value of the other
 --   alternating   byte i of the table of an input from the fourth on: eight copies of a bit of i
 use Prim.Native.Nat.{ℕ, _+_, _*_, _/_, _%_, _^_}
 use mathlib.Core.Bool.{cond}
@@ -61,6 +61,6 @@ formOf row keep = formWith (λ b. bitAnd (255 * b) keep) row
 abbrev pub kindForm : ℕ → ℕ → Form
 kindForm kind keep = formOf (getD answers kind []) keep
 
--- with one line x of the gate, its answer changes where first ^ (both & y) is 1, y the other line
+-- a gate's answer changes with its first line where first ^ (both & y) is 1
 abbrev pub slopeForm : Form → Form
 slopeForm f = record { constant = 0; first = f .first; second = 0; both = f .both }

@@ -1,13 +1,17 @@
 //! Parts of the reference written again in the forms that the proved library is held to, to see what a form costs: each
 //! field read by itself, value with cursor or refusal; tables gate by gate, a byte of entries at a step; the spectrum
-//! from those of its two halves, by calls. The circuits stand side by side, as they do in the library.
+//! from those of its two halves, by calls. The tables come from differences, and the circuits with a changed line stand
+//! side by side, as they do in the library.
 
 use reference::{Fault, Gate, Job, Kind, Refusal, MOST_FAULTS, MOST_GATES, MOST_INPUTS};
 
 const MOST_LINES: usize = MOST_INPUTS + MOST_GATES;
-/// The bytes of a line's tables that stand side by side.
-const BLOCK: usize = 512;
-type Block = [u8; BLOCK];
+/// So many circuits stand side by side at most: the good one, and others in which a line is changed.
+const COLUMNS: usize = 22;
+/// A line's tables in all columns, line after line.
+type Rows = [u8; MOST_LINES * COLUMNS * 32];
+/// A table for each line.
+type Lines = [[u8; 32]; MOST_LINES];
 /// The packed tables of all circuits, 32 bytes each.
 type Tables = [[u8; 32]; MOST_FAULTS + 1];
 
@@ -139,58 +143,157 @@ fn entry_bits(inputs: usize) -> u8 {
     !(0xffu16 >> (1usize << inputs.min(3))) as u8
 }
 
-/// The tables of so many circuits from one on, side by side, each at its place of the output's block.
-fn side_by_side(job: &Job, first: usize, count: usize, lines: &mut [Block; MOST_LINES]) {
-    let (inputs, gates) = (usize::from(job.inputs), usize::from(job.gate_count));
+/// The readers of each line: nobody, the line of the one gate, or several.
+const NOBODY: u8 = 255;
+const SEVERAL: u8 = 254;
+
+fn readers(job: &Job) -> [u8; MOST_LINES] {
+    let mut readers = [NOBODY; MOST_LINES];
+    for (gate, own) in job.gates[..job.gate_count.into()].iter().zip(job.inputs..) {
+        let (a, b, _) = masks(*gate);
+        readers[a] = if readers[a] == NOBODY { own } else { SEVERAL };
+        if b != a {
+            readers[b] = if readers[b] == NOBODY { own } else { SEVERAL };
+        }
+    }
+    readers
+}
+
+/// The lines of a fault; a stuck one repeats its line.
+#[inline]
+fn lines_of(fault: Fault) -> (usize, usize) {
+    match fault {
+        Fault::Stuck(line, _) => (line.into(), line.into()),
+        Fault::Bridge(low, high, _) => (low.into(), high.into()),
+    }
+}
+
+/// The lines that the faults fix, and with each line that one gate reads the gate's own.
+fn asked(faults: &[Fault], readers: &[u8; MOST_LINES], lines: usize) -> [bool; MOST_LINES] {
+    let mut asked = [false; MOST_LINES];
+    for fault in faults {
+        let (low, high) = lines_of(*fault);
+        asked[low] = true;
+        asked[high] = true;
+    }
+    for line in 0..lines {
+        if asked[line] && readers[line] < SEVERAL {
+            asked[usize::from(readers[line])] = true;
+        }
+    }
+    asked
+}
+
+/// The good circuit in column 0, and behind it a column for each stem, in which the stem is changed.
+fn side_by_side(job: &Job, stems: &[u8], rows: &mut Rows) {
+    let inputs = usize::from(job.inputs);
     let bytes = (1usize << inputs).div_ceil(8);
-    let fixed = fixed_lines(job, first, count);
-    for line in 0..inputs + gates {
-        let (below, from) = lines.split_at_mut(line);
-        let block = &mut from[0][..count * bytes];
+    let size = (stems.len() + 1) * bytes;
+    let mut next = 0;
+    for line in 0..inputs + usize::from(job.gate_count) {
+        let (below, from) = rows.split_at_mut(line * size);
+        let block = &mut from[..size];
         if line < inputs {
             for (i, byte) in block.iter_mut().enumerate() {
                 *byte = input_byte(line, i);
             }
         } else {
             let (a, b, [zero, single, both]) = masks(job.gates[line - inputs]);
-            for ((byte, a), b) in block.iter_mut().zip(&below[a]).zip(&below[b]) {
+            let (a, b) = (&below[a * size..][..size], &below[b * size..][..size]);
+            for ((byte, a), b) in block.iter_mut().zip(a).zip(b) {
                 *byte = zero ^ single & (a ^ b) ^ both & a & b;
             }
         }
-        let mut left = fixed[line];
-        while left != 0 {
-            let i = left.trailing_zeros() as usize;
-            left &= left - 1;
-            fix(job.faults[first + i - 1], &mut block[i * bytes..(i + 1) * bytes]);
+        if stems.get(next).is_some_and(|stem| usize::from(*stem) == line) {
+            next += 1;
+            block[next * bytes..(next + 1) * bytes].iter_mut().for_each(|byte| *byte = !*byte);
         }
     }
 }
 
-/// Per line the circuits, of so many from one on, whose fault fixes it, a bit each.
-fn fixed_lines(job: &Job, first: usize, count: usize) -> [u64; MOST_LINES] {
-    let mut fixed = [0; MOST_LINES];
-    for i in usize::from(first == 0)..count {
-        let (low, high) = match job.faults[first + i - 1] {
-            Fault::Stuck(line, _) => (line, line),
-            Fault::Bridge(low, high, _) => (low, high),
-        };
-        fixed[usize::from(low)] |= 1 << i;
-        fixed[usize::from(high)] |= 1 << i;
+/// The differences of the asked lines: where the output changes with the line. Leaves the good circuit in column 0 of the
+/// rows, and gives their width.
+fn differences(job: &Job, faults: &[Fault], rows: &mut Rows, difference: &mut Lines) -> usize {
+    let (inputs, output) = (usize::from(job.inputs), usize::from(job.output));
+    let lines = inputs + usize::from(job.gate_count);
+    let bytes = (1usize << inputs).div_ceil(8);
+    let readers = readers(job);
+    let asked = asked(faults, &readers, lines);
+    let mut stems = [0; MOST_LINES];
+    let mut count = 0;
+    for line in 0..lines {
+        if asked[line] && readers[line] == SEVERAL && line != output {
+            stems[count] = line as u8;
+            count += 1;
+        }
     }
-    fixed
-}
-
-/// Puts what a fault fixes its lines at; those of a bridge are inputs.
-#[inline]
-fn fix(fault: Fault, table: &mut [u8]) {
-    match fault {
-        Fault::Stuck(_, level) => table.fill(if level { 255 } else { 0 }),
-        Fault::Bridge(low, high, is_and) => {
-            for (i, byte) in table.iter_mut().enumerate() {
-                let (a, b) = (input_byte(low.into(), i), input_byte(high.into(), i));
-                *byte = if is_and { a & b } else { a | b };
+    let mut first = 0;
+    let width = loop {
+        let batch = &stems[first..count.min(first + COLUMNS - 1)];
+        side_by_side(job, batch, rows);
+        let outputs = &rows[output * (batch.len() + 1) * bytes..][..(batch.len() + 1) * bytes];
+        let (good, columns) = outputs.split_at(bytes);
+        for (stem, column) in batch.iter().zip(columns.chunks_exact(bytes)) {
+            for ((byte, good), changed) in difference[usize::from(*stem)].iter_mut().zip(good).zip(column) {
+                *byte = good ^ changed;
             }
         }
+        first += batch.len();
+        if first == count {
+            break batch.len() + 1;
+        }
+    };
+    for line in (0..lines).rev().filter(|line| asked[*line]) {
+        if line == output {
+            difference[line][..bytes].fill(255);
+        } else if readers[line] < SEVERAL {
+            let gate = usize::from(readers[line]);
+            let (a, b, [_, single, both]) = masks(job.gates[gate - inputs]);
+            let (single, other) = if a == b { (both, [0; 32]) } else { (single, row(rows, (a ^ b ^ line) * width, bytes)) };
+            let onward = difference[gate];
+            for ((byte, onward), other) in difference[line][..bytes].iter_mut().zip(&onward).zip(&other) {
+                *byte = onward & (single ^ both & other);
+            }
+        }
+    }
+    width
+}
+
+#[inline]
+fn row(rows: &Rows, at: usize, bytes: usize) -> [u8; 32] {
+    let mut row = [0; 32];
+    row[..bytes].copy_from_slice(&rows[at * bytes..][..bytes]);
+    row
+}
+
+/// The tables of so many circuits from one on.
+fn tables_of(job: &Job, first: usize, count: usize, tables: &mut Tables) {
+    let inputs = usize::from(job.inputs);
+    let bytes = (1usize << inputs).div_ceil(8);
+    let faults = &job.faults[first.max(1) - 1..first + count - 1];
+    let mut rows = [0; MOST_LINES * COLUMNS * 32];
+    let mut difference = [[0; 32]; MOST_LINES];
+    let width = differences(job, faults, &mut rows, &mut difference);
+    let good = row(&rows, usize::from(job.output) * width, bytes);
+    let mut places = tables.iter_mut();
+    if first == 0 {
+        *places.next().expect("a table") = good;
+    }
+    for (fault, table) in faults.iter().zip(places) {
+        let (low, high) = lines_of(*fault);
+        let (a, b) = (&rows[low * width * bytes..][..bytes], &rows[high * width * bytes..][..bytes]);
+        let (da, db) = (&difference[low], &difference[high]);
+        for i in 0..bytes {
+            let value = match *fault {
+                Fault::Stuck(_, level) => 0u8.wrapping_sub(level.into()),
+                Fault::Bridge(_, _, true) => a[i] & b[i],
+                Fault::Bridge(_, _, false) => a[i] | b[i],
+            };
+            table[i] = good[i] ^ (da[i] & (a[i] ^ value) | db[i] & (b[i] ^ value));
+        }
+    }
+    for table in &mut tables[..count] {
+        table[0] &= entry_bits(inputs);
     }
 }
 
@@ -202,27 +305,10 @@ pub fn table(bytes: &[u8], circuit: usize, out: &mut [u8]) -> Result<(), Refusal
     }
     let size = (1usize << job.inputs).div_ceil(8);
     let out = out.get_mut(..size).ok_or(10)?;
-    let mut lines = [[0; BLOCK]; MOST_LINES];
-    side_by_side(&job, circuit, 1, &mut lines);
-    out.copy_from_slice(&lines[usize::from(job.output)][..size]);
-    out[0] &= entry_bits(job.inputs.into());
+    let mut tables = [[0; 32]; MOST_FAULTS + 1];
+    tables_of(&job, circuit, 1, &mut tables);
+    out.copy_from_slice(&tables[0][..size]);
     Ok(())
-}
-
-fn all_tables(job: &Job, tables: &mut Tables) {
-    let bytes = (1usize << job.inputs).div_ceil(8);
-    let circuits = usize::from(job.fault_count) + 1;
-    let mut lines = [[0; BLOCK]; MOST_LINES];
-    let side = BLOCK / bytes;
-    for first in (0..circuits).step_by(side) {
-        let count = side.min(circuits - first);
-        side_by_side(job, first, count, &mut lines);
-        let block = lines[usize::from(job.output)].chunks_exact(bytes);
-        for (table, part) in tables[first..first + count].iter_mut().zip(block) {
-            table[..bytes].copy_from_slice(part);
-            table[0] &= entry_bits(job.inputs.into());
-        }
-    }
 }
 
 /// For each byte of a table the eight sums of a spectrum of three inputs at polarity 0.
@@ -329,7 +415,7 @@ pub fn fill(bytes: &[u8], kind: Kind, polarity: usize, work: &mut [u16]) -> Resu
     }
     let work = work.get_mut(..(usize::from(job.fault_count) + 1) << job.inputs).ok_or(10)?;
     let mut tables = [[0; 32]; MOST_FAULTS + 1];
-    all_tables(&job, &mut tables);
+    tables_of(&job, 0, usize::from(job.fault_count) + 1, &mut tables);
     let size = (1usize << job.inputs).div_ceil(8);
     for (table, row) in tables.iter().zip(work.chunks_exact_mut(1 << job.inputs)) {
         transform(&table[..size], kind, polarity, row);
