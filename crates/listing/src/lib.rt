@@ -17,7 +17,7 @@ pub const MAX_INPUT_BYTES: usize = 266;
 // Writes the tables of the job that the bytes give.
 pub fn list_tables(job: &[u8]) {
     let mut packed = [0u8; ALL_TABLES_BYTES];
-    let answer = tables::tables(job, &mut packed);
+    let answer = circuits::tables(job, &mut packed);
     match answer {
         TablesAnswer::Filled(counts) => {
             list_counts(counts);

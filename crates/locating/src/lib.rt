@@ -182,7 +182,7 @@ pub fn locate(
     ensures { λ r. ⌜ record { answer = locatedTold r; memory = now (work .exit) } ≡ leaves (locatedOf (now (bytes .entry)) kind polarity (now (indices .entry)) (now (readings .entry)) (length (now (work .entry)))) (now (work .entry)) ⌝ }
 {
     let mut packed = [0u8; ALL_TABLES_BYTES];
-    let answer = tables::tables(bytes, &mut packed);
+    let answer = circuits::tables(bytes, &mut packed);
     match answer {
         TablesAnswer::Refused(cause) => Located::Refused(cause),
         TablesAnswer::Filled(counts) => {

@@ -26,7 +26,7 @@ pub fn job_spectra(bytes: &[u8], kind: Kind, polarity: usize, work: &mut [u16]) 
     ensures { λ r. ⌜ record { answer = tablesTold r; memory = now (work .exit) } ≡ leaves (jobSpectraOf (now (bytes .entry)) kind polarity (length (now (work .entry)))) (now (work .entry)) ⌝ }
 {
     let mut packed = [0u8; ALL_TABLES_BYTES];
-    let answer = tables::tables(bytes, &mut packed);
+    let answer = circuits::tables(bytes, &mut packed);
     match answer {
         TablesAnswer::Refused(cause) => TablesAnswer::Refused(cause),
         TablesAnswer::Filled(counts) => fill_job(work, &packed, counts, kind, polarity),

@@ -12,13 +12,12 @@
 use Prim.Native.Nat.{ℕ, zero, suc, _+_, _-_, _*_, _≤_, _<_}
 use native.Mathlib.Omega.{arith}
 use native.Mathlib.Nat.{add-zero, add-assoc, add-mul, suc-mul, zero-mul, not-suc-le-zero, le-of-suc-le-suc, eq-or-lt-of-le}
-use mathlib.Core.Path.{_≡_, refl, sym, ap, ap₂, subst, _∙_}
+use mathlib.Core.Path.{_≡_, refl, sym, ap, ap₂, _∙_}
 use mathlib.Core.List.{List, [], _∷_, _++_, append-assoc, append-nil}
 use mathlib.Core.Logic.{⊎-elim}
 use lib.ListN.{length, getD, take, drop, length-append, length-take, length-drop, take-append-drop}
 use lib.Seq.{take-suc, getD-drop, take-at, drop-drop, drop-append-add}
 use Rattle.bits.specs.Packed.{tabulate}
-use Rattle.bits.proofs.Packed.{tabulate-ext}
 use Rattle.gates.specs.Rows.{part, splice}
 use Rattle.gates.proofs.Rows.{part-same, part-other}
 use Rattle.gates.proofs.Splice.{length-splice}

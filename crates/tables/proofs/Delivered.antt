@@ -4,18 +4,18 @@
 --   length-tablesTo     the tables of c circuits have c times as many
 --   table-count-fits    the bytes of all tables of a valid job fit a usize
 --   fixes               a valid fault fixes lines of the circuit
+--   fault-lines         it fixes one line, or inputs
 --   splice-start        new bytes at the start, then the rest as it was
 --   tables-all          the good circuit's table, and then those of the faulty circuits
---   table-single        the table of one circuit
---   tables-block        the tables of all circuits, as those from the good one on (tables-start)
+--   tables-block        the tables of all circuits, side by side
 --   single-room         what working out the table of one circuit asks for
---   all-room            so for those of all circuits
 use Prim.Native.Nat.{ℕ, zero, suc, _+_, _*_, _^_, _≤_, _<_}
 use native.Mathlib.Omega.{arith}
-use native.Mathlib.Nat.{lt-of-le-of-lt, zero-add, add-zero, add-mul, one-mul, mul-le-mul, zero-mul, suc-mul}
+use native.Mathlib.Nat.{lt-of-le-of-lt, zero-add, mul-le-mul, zero-mul, suc-mul}
 use mathlib.Core.Path.{_≡_, refl, sym, ap, ap₂, subst, _∙_}
 use mathlib.Core.Bool.{true}
 use mathlib.Core.List.{List, _++_}
+use mathlib.Core.Logic.{_⊎_, inl, inr}
 use borrow.Author.Tests.{ltb-true}
 use lib.Dec.{ltb}
 use mir.Syntax.{w64}
@@ -25,7 +25,7 @@ use Rattle.bits.proofs.Packed.{length-packed}
 use Rattle.bits.proofs.Tests.{and-r}
 use Rattle.job.specs.Check.{Valid, faultLineOk, faultOrderOk}
 use Rattle.job.specs.Layout.{maxFaults}
-use Rattle.job.specs.Record.{faultAt, lines}
+use Rattle.job.specs.Record.{faultA, faultB, faultAt, lines}
 use Rattle.job.specs.declared.Fault.{Fault}
 use Rattle.job.specs.declared.Fault.the-variants.{Stuck, Bridge}
 use Rattle.job.specs.declared.Job.{Job}
@@ -37,7 +37,7 @@ use Rattle.tables.specs.Circuit.{circuitEntry, circuitTable}
 use Rattle.tables.specs.Work.{Fixes, tablesFrom}
 use Rattle.tables.specs.Operations.{tablesTo}
 use Rattle.tables.proofs.Sizes.{all-tables-fit}
-use Rattle.tables.proofs.Blocks.{block-ext, block-append, length-block, splice-append}
+use Rattle.tables.proofs.Blocks.{block-append, splice-append}
 use Rattle.tables.proofs.Space.{tableBytes-most}
 
 pub length-table : (j : Job) (c : ℕ) → length (circuitTable j c) ≡ tableBytes (j .inputs)
@@ -65,6 +65,13 @@ fixes-of j (Bridge a b is-and) p q =
 pub fixes : (j : Job) (i : ℕ) → Valid j → i < j .«fault_count» → Fixes j (faultAt j i)
 fixes j i v h = fixes-of j (faultAt j i) (v .fault-line i h) (v .fault-order i h)
 
+lines-of : (j : Job) (x : Fault) → faultLineOk (j .inputs) (lines j) x ≡ true → (faultA x ≡ faultB x) ⊎ (faultB x < j .inputs)
+lines-of j (Stuck l level) h = inl refl
+lines-of j (Bridge a b is-and) h = inr (ltb-true b (j .inputs) (and-r (ltb a (j .inputs)) (ltb b (j .inputs)) h))
+
+pub fault-lines : (j : Job) (i : ℕ) → Valid j → i < j .«fault_count» → (faultA (faultAt j i) ≡ faultB (faultAt j i)) ⊎ (faultB (faultAt j i) < j .inputs)
+fault-lines j i v h = lines-of j (faultAt j i) (v .fault-line i h)
+
 pub splice-start : (out new : List ℕ) → splice out 0 new ≡ new ++ drop (length new) out
 splice-start out new = ap (λ (k : ℕ). new ++ drop k out) (zero-add (length new))
 
@@ -82,20 +89,7 @@ tables-all j out faults h =
     splice-append out 0 (circuitTable j 0) (tablesFrom j 1 faults) (tableBytes (j .inputs)) (zero-add (length (circuitTable j 0)) ∙ length-table j 0) h
     ∙ ap (splice out 0) (block-append 1 faults (circuitTable j) ∙ ap (λ (k : ℕ). block k (circuitTable j)) e ∙ sym (tables-block j (faults + 1)))
 
-pub table-single : (j : Job) (c : ℕ) → tablesFrom j c 1 ≡ circuitTable j c
-unfolding block
-table-single j c = ap (circuitTable j) (add-zero c)
-
-pub tables-start : (j : Job) (c : ℕ) → tablesFrom j 0 c ≡ tablesTo j c
-tables-start j c = block-ext c (λ i. circuitTable j (0 + i)) (circuitTable j) (λ i l. ap (circuitTable j) (zero-add i)) ∙ sym (tables-block j c)
-
 module _ (j : Job) (shape : Shape) (size : ℕ) (valid : Valid j) (shaped : shape ≡ shapeOf (j .inputs)) where
   pub single-room : (c : ℕ) → c ≤ j .«fault_count» → shape .bytes ≤ size
-      → Valid j × (shape ≡ shapeOf (j .inputs)) × (1 ≤ 1) × (c + 1 ≤ j .«fault_count» + 1) × (1 * tableBytes (j .inputs) ≤ size)
-  single-room c h room =
-      (valid, shaped, omega arith, omega arith, omega (arith, one-mul (tableBytes (j .inputs)), ap (λ (s : Shape). s .bytes) shaped))
-
-  pub all-room : (j .«fault_count» + 1) * shape .bytes ≤ size
-      → Valid j × (shape ≡ shapeOf (j .inputs)) × (1 ≤ j .«fault_count» + 1) × (0 + (j .«fault_count» + 1) ≤ j .«fault_count» + 1)
-      × ((j .«fault_count» + 1) * tableBytes (j .inputs) ≤ size)
-  all-room room = (valid, shaped, omega arith, omega arith, subst (λ (s : Shape). (j .«fault_count» + 1) * s .bytes ≤ size) shaped room)
+      → Valid j × (shape ≡ shapeOf (j .inputs)) × (c ≤ j .«fault_count») × (tableBytes (j .inputs) ≤ size)
+  single-room c h room = (valid, shaped, h, subst (λ (s : Shape). s .bytes ≤ size) shaped room)

@@ -7,8 +7,8 @@
 --   fixes-low, fixes-high   the test finds a fault's lines fixed
 --   given           what a fault gives the lines that it fixes
 --   fixed-value     a fixed line has its level, or the bridge's value, whatever it would have by itself
---   given-table     the table of that, from the good circuit's rows
-use Prim.Native.Nat.{ℕ, _-_, _*_, _^_, _<_}
+--   given-table     the table of that, from the good circuit's rows of the fault's lines
+use Prim.Native.Nat.{ℕ, _*_, _^_, _<_}
 use native.Mathlib.Omega.{arith}
 use mathlib.Core.Path.{_≡_, refl, sym, ap, _∙_}
 use mathlib.Core.Bool.{Bool, true, false, cond, _||_, true≢false}
@@ -25,9 +25,8 @@ use Rattle.job.specs.declared.Job.{Job}
 use Rattle.gates.specs.Values.{bridged}
 use Rattle.tables.specs.Circuit.{free, valuesTo, fixedBy}
 use Rattle.tables.specs.Lines.{isFixed}
-use Rattle.tables.specs.Side.{Good}
 use Rattle.tables.specs.Sizes.{shapeOf, fixedRow}
-use Rattle.tables.specs.Work.{lineValue, rowAt, goodFix, Fixes}
+use Rattle.tables.specs.Work.{lineValue, lineTable, rowAt, goodFix, Fixes}
 use Rattle.tables.proofs.Held.{line-read}
 use Rattle.tables.proofs.Values.{answer-bit, cond-bit}
 
@@ -87,15 +86,18 @@ unfolding fixedBy
 fixed-value (Stuck line level) good l v h = ap (λ (t : Bool). cond t (levelNumber level) v) (either (eqb l line) h)
 fixed-value (Bridge a b is-and) good l v h = ap (λ (t : Bool). cond t (bridged is-and (getD good a 0) (getD good b 0)) v) h
 
-module _ (j : Job) (width : ℕ) (rows : List ℕ) (good : Good j width rows) where
-  read : (k : ℕ) → k < lines j → (m : ℕ) → m < 2 ^ (j .inputs) → entry (rowAt j (k * width) rows) m ≡ getD (valuesTo free j m (lines j)) k 0
+module _ (j : Job) (width : ℕ) (rows : List ℕ) where
+  read : (k : ℕ) → k < lines j → rowAt j (k * width) rows ≡ lineTable goodFix j k → (m : ℕ) → m < 2 ^ (j .inputs)
+      → entry (rowAt j (k * width) rows) m ≡ getD (valuesTo free j m (lines j)) k 0
   unfolding lineValue
-  read k h = line-read goodFix (λ m l v bit. bit) j k h (rowAt j (k * width) rows) (good .line k h)
+  read k h good = line-read goodFix (λ m l v bit. bit) j k h (rowAt j (k * width) rows) good
 
-  pub given-table : (x : Fault) → Fixes j x → fixedRow (shapeOf (j .inputs)) width x rows ≡ packed (2 ^ (j .inputs)) (λ m. given x (valuesTo free j m (lines j)))
+  pub given-table : (x : Fault) → Fixes j x → rowAt j (faultA x * width) rows ≡ lineTable goodFix j (faultA x)
+      → rowAt j (faultB x * width) rows ≡ lineTable goodFix j (faultB x)
+      → fixedRow (shapeOf (j .inputs)) width x rows ≡ packed (2 ^ (j .inputs)) (λ m. given x (valuesTo free j m (lines j)))
   unfolding fixedRow
-  given-table (Stuck line level) fixes = refl
-  given-table (Bridge a b is-and) fixes =
+  given-table (Stuck line level) fixes low high = refl
+  given-table (Bridge a b is-and) fixes low high =
       packed-ext (2 ^ (j .inputs)) (λ m. bridged is-and (entry (rowAt j (a * width) rows) m) (entry (rowAt j (b * width) rows) m))
       (λ m. given (Bridge a b is-and) (valuesTo free j m (lines j)))
-      (λ m k. λ i. bridged is-and (read a (omega (arith, fixes .low, fixes .high)) m k i) (read b (fixes .high) m k i))
+      (λ m k. λ i. bridged is-and (read a (omega (arith, fixes .low, fixes .high)) low m k i) (read b (fixes .high) high m k i))

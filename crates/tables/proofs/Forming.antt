@@ -5,6 +5,7 @@
 --   forming-none   none yet
 --   forming-next   one more
 --   forming-all    all
+--   form-read      the polynomial of a gate's kind
 use Prim.Native.Nat.{ℕ, _+_, _≤_, _<_}
 use native.Mathlib.Omega.{arith}
 use mathlib.Core.Path.{_≡_, ap, _∙_}
@@ -17,8 +18,9 @@ use Rattle.job.specs.Record.{gateKind, gateOf}
 use Rattle.job.specs.declared.Gate.{Gate}
 use Rattle.gates.specs.Form.{kindForm}
 use Rattle.gates.specs.declared.Form.{Form}
+use Rattle.gates.proofs.Answers.{kind-lt}
 use Rattle.tables.specs.Lines.{noForm, Formed}
-use Rattle.tables.specs.declared.circuit.Forms.{Forms}
+use Rattle.tables.specs.declared.rows.Forms.{Forms}
 
 pub kind-of : (kind : ℕ) → kind < 8 → gateKind (gateOf kind 0 0) ≡ kind
 kind-of kind h = equal-below (λ kind _. gateKind (gateOf kind 0 0)) (λ kind _. kind) 8 1 tt kind 0 h (omega arith)
@@ -45,3 +47,7 @@ module _ (keep : ℕ) where
 
   pub forming-all : (forms : Forms) (kind : ℕ) → Forming keep (forms .of) kind → 8 ≤ kind → Formed keep forms
   forming-all forms kind w h = record { form = λ k l. w .done k (omega arith) }
+
+-- the polynomial of a gate's kind
+pub form-read : (keep : ℕ) (forms : Forms) → Formed keep forms → (g : Gate) {kind : ℕ} → kind ≡ gateKind g → getD (forms .of) kind noForm ≡ kindForm (gateKind g) keep
+form-read keep forms formed g e = ap (λ (k : ℕ). getD (forms .of) k noForm) e ∙ formed .form (gateKind g) (kind-lt g)

@@ -9,7 +9,8 @@
 --   gate-columns        the gate step over blocks, table by table
 --   fixed-stuck, fixed-bridge   what the code puts for a fault is the table that the fault gives its lines
 --   low-fits, high-fits   the places of a bridge's good rows fit a word
---   gate-stepped        the gate step over blocks finds its places
+--   shaped-some         a table of a shape has a byte
+--   factor-fits         so a row's number fits a word where its place does
 use Prim.Native.Nat.{ℕ, _+_, _-_, _*_, _^_, _≤_, _<_}
 use native.Mathlib.Nat.{add-assoc, add-mul}
 use native.Mathlib.Omega.{arith}
@@ -35,11 +36,9 @@ use Rattle.gates.specs.declared.Form.{Form}
 use Rattle.gates.proofs.Fitting.{fitted, step-fits, room-fits, alternate-fits}
 use Rattle.gates.proofs.Tabled.{gate-packed, level-packed, patternOf, pattern-packed, alternate-packed}
 use Rattle.tables.specs.Sizes.{shapeOf, Room, Space, Below, block, fixedRow}
-use Rattle.tables.specs.Lines.{rowOf}
-use Rattle.tables.specs.declared.circuit.Batch.{Batch}
 use Rattle.tables.specs.declared.rows.Shape.{Shape}
 use Rattle.tables.proofs.Blocks.{tabulate-block, block-ext}
-use Rattle.tables.proofs.Space.{block-before}
+use Rattle.tables.proofs.Space.{bytes-some, times-some}
 
 -- from three inputs on a table has a power of two of bytes
 whole : (n : ℕ) → 3 ≤ n → tableBytes n ≡ 2 ^ (n - 3)
@@ -152,12 +151,9 @@ module _ (shape : Shape) (to width : ℕ) (rows : List ℕ) (x : Fault) (below :
   pub high-fits : length rows < 2 ^ 64 → {a b : ℕ} {is-and : Bool} → x ≡ Bridge a b is-and → Fits w64 (b * width * shape .bytes)
   high-fits short is = record { fits = omega (arith, below .at .room, below .second, ap (λ (y : Fault). faultB y * width * shape .bytes) is) }
 
--- the gate step over the blocks of a gate's line and of the lines that it reads
-pub gate-stepped : (b : Batch) (line p q bytes : ℕ) (rows : List ℕ) → p < line → q < line → rowOf b line * bytes + b .width * bytes ≤ length rows
-    → {x y to : ℕ} → x ≡ rowOf b p * bytes → y ≡ rowOf b q * bytes → to ≡ rowOf b line * bytes → (form : Form) {out : List ℕ}
-    → out ≡ cond (stepFits x y to (b .width * bytes) (length rows)) (splice rows to (tabulate (b .width * bytes) (combined form x y rows))) rows
-    → out ≡ splice rows (rowOf b line * bytes) (tabulate (b .width * bytes) (combined form (rowOf b p * bytes) (rowOf b q * bytes) rows))
-gate-stepped b line p q bytes rows hp hq room {x} {y} {to} ex ey eto form e =
-    fitted _ rows
-    (step-fits x y to (b .width * bytes) (length rows) (omega arith) (omega (arith, block-before b p line bytes hp)) (omega (arith, block-before b q line bytes hq))) e
-    ∙ (λ i. splice rows (eto i) (tabulate (b .width * bytes) (combined form (ex i) (ey i) rows)))
+module _ (shape : Shape) (shaped : shape ≡ shapeOf (shape .inputs)) where
+  pub shaped-some : 1 ≤ shape .bytes
+  shaped-some = subst (λ (k : ℕ). 1 ≤ k) (sym (ap (λ (s : Shape). s .bytes) shaped)) (bytes-some (shape .inputs))
+
+  pub factor-fits : {row : ℕ} → Fits w64 (row * shape .bytes) → Fits w64 row
+  factor-fits {row} f = record { fits = times-some row (shape .bytes) shaped-some (f .fits) }

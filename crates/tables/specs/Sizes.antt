@@ -6,11 +6,9 @@
 --   Below      there is room for a table at a place, and two tables stand before it
 --   block      tables side by side
 --   fixedRow   the table that a fault gives the lines that it fixes, from the rows of the good circuit
---   Least      the lower of two counts
 use Prim.Native.Nat.{ℕ, zero, suc, _+_, _*_, _^_, _≤_, _<_}
 use mathlib.Core.Path.{_≡_}
 use mathlib.Core.List.{List, [], _++_}
-use mathlib.Core.Logic.{_⊎_}
 use lib.ListN.{length}
 use Rattle.bits.specs.Packed.{packed, entry}
 use Rattle.job.specs.Record.{levelNumber}
@@ -50,9 +48,3 @@ fixedRow shape width (Stuck l level) rows = packed (2 ^ (shape .inputs)) (λ m. 
 fixedRow shape width (Bridge a b is-and) rows =
     packed (2 ^ (shape .inputs))
     (λ m. bridged is-and (entry (part (a * width * shape .bytes) (shape .bytes) rows) m) (entry (part (b * width * shape .bytes) (shape .bytes) rows) m))
-
-pub record Least (a b c : ℕ) : Type 0 where
-  pub first : c ≤ a
-  pub second : c ≤ b
-  pub some : 1 ≤ a → 1 ≤ b → 1 ≤ c
-  pub either : (c ≡ a) ⊎ (c ≡ b)

@@ -1,9 +1,10 @@
 -- What the rows of bytes hold while a job's circuits are worked out.
 --
---   maxTableBytes, maxColumns   the bytes of the largest table, and the most circuits worked out side by side
---   smallBytes, largeBytes      the bytes of rows for small jobs, and for all
---   lineValue, lineTable        the value of a line for one input number, and its packed table
+--   maxTableBytes   the bytes of the largest table
+--   circuitBytes    the bytes of rows for one circuit by itself
+--   lineValue, lineTable   the value of a line for one input number, and its packed table
 --   rowAt        the bytes of a row
+--   Good         the good circuit's tables stand in rows that are so many apart
 --   Loose        a fixing leaves a line as it is
 --   Fixes        the lines that a fault fixes can be fixed: they are lines of the circuit, those of a bridge in order
 use Prim.Native.Nat.{ℕ, _+_, _*_, _^_, _≤_, _<_}
@@ -24,15 +25,9 @@ use Rattle.tables.specs.Sizes.{block}
 unfoldable pub maxTableBytes : ℕ
 maxTableBytes = 32
 
-unfoldable pub maxColumns : ℕ
-maxColumns = 22
-
-unfoldable pub smallBytes : ℕ
-smallBytes = 16384
-
--- a block for each line, a row for each line's difference, and one for what a fault gives its lines
-unfoldable pub largeBytes : ℕ
-largeBytes = ((maxInputs + maxGates) * (maxColumns + 1) + 1) * maxTableBytes
+-- a row for each line, and one for what a fault gives its lines
+unfoldable pub circuitBytes : ℕ
+circuitBytes = (maxInputs + maxGates + 1) * maxTableBytes
 
 -- the value of a line for one input number
 unfoldable pub lineValue : (ℕ → Fixing) → Job → ℕ → ℕ → ℕ
@@ -46,6 +41,9 @@ rowAt j r rows = part (r * tableBytes (j .inputs)) (tableBytes (j .inputs)) rows
 
 abbrev pub goodFix : ℕ → Fixing
 goodFix m = free
+
+pub record Good (j : Job) (width : ℕ) (rows : List ℕ) : Type 0 where
+  pub line : (l : ℕ) → l < lines j → rowAt j (l * width) rows ≡ lineTable goodFix j l
 
 abbrev pub faultFix : Job → Fault → ℕ → Fixing
 faultFix j x m = fixedBy x (valuesTo free j m (lines j))

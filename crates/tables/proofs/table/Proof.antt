@@ -1,16 +1,15 @@
 -- `tables::table` meets its contract.
 use native.Mathlib.Omega.{arith}
 use Prim.Native.Nat.{ℕ, _≤_, _<_}
-use mathlib.Core.Path.{ap, subst, _∙_}
+use mathlib.Core.Path.{ap, subst}
 use denote.Ref.{now}
 use lib.ListN.{length}
 use Rattle.job.specs.Layout.{maxInputs}
 use Rattle.reading.specs.Reading.{reading}
 use Rattle.reading.proofs.Telling.{told-refused, told-done, told-valid}
-use Rattle.gates.specs.Rows.{splice}
 use Rattle.tables.specs.declared.rows.Shape.{Shape}
 use Rattle.tables.proofs.Answering.{table-unread, table-number, table-memory, table-done}
-use Rattle.tables.proofs.Delivered.{single-room, table-single}
+use Rattle.tables.proofs.Delivered.{single-room}
 use borrow.Author.Needs.{needs}
 use Rattle.tables.proofs.table.Statement.{statement}
 use Rattle.tables.proofs.table.Tie as tie
@@ -43,14 +42,14 @@ shape-of-requires c κs = let a = c .before .before .before .before .before .bef
 returns-3 : tie.Need-returns-3
 returns-3 c = let a = c .before .before .before .before .before .before .before .before .before .before .before .before .args in let r = c .before .before .before .before .before .before .before .before .before .read in let done = c .before .before .before .before .before .before .before .enum-told in table-memory (now (a .bytes)) (now (a .out)) (a .circuit) (r .result .job) (told-done (r .result) (reading (now (a .bytes))) (r .ensures) (done .given .1)) (c .before .before .before .before .if1 .left) (subst (λ (k : ℕ). length (now (a .out)) < k) (ap (λ (x : Shape). x .bytes) (c .before .before .shape-of .ensures)) (c .if2 .taken))
 
-put-circuits-requires : tie.Need-put-circuits-requires
-put-circuits-requires c κs = let a = c .before .before .before .before .before .before .before .before .before .before .before .before .before .args in let r = c .before .before .before .before .before .before .before .before .before .before .read in let done = c .before .before .before .before .before .before .before .before .enum-told in single-room (r .result .job) (c .before .before .before .shape-of .result) (length (now (a .out))) (told-valid (r .result) (now (a .bytes)) (r .ensures) (done .given .1)) (c .before .before .before .shape-of .ensures) (a .circuit) (c .before .before .before .before .before .if1 .left) (c .before .if2 .left)
+put-circuit-requires : tie.Need-put-circuit-requires
+put-circuit-requires c κs = let a = c .before .before .before .before .before .before .before .before .before .before .before .before .before .args in let r = c .before .before .before .before .before .before .before .before .before .before .read in let done = c .before .before .before .before .before .before .before .before .enum-told in single-room (r .result .job) (c .before .before .before .shape-of .result) (length (now (a .out))) (told-valid (r .result) (now (a .bytes)) (r .ensures) (done .given .1)) (c .before .before .before .shape-of .ensures) (a .circuit) (c .before .before .before .before .before .if1 .left) (c .before .if2 .left)
 
 same-length : tie.Need-same-length
-same-length c = c .before .before .put-circuits .kept .0
+same-length c = c .before .before .put-circuit .kept .0
 
 returns-4 : tie.Need-returns-4
-returns-4 c = let a = c .before .before .before .before .before .before .before .before .before .before .before .before .before .before .before .before .args in let r = c .before .before .before .before .before .before .before .before .before .before .before .before .before .read in let done = c .before .before .before .before .before .before .before .before .before .before .before .enum-told in table-done (now (a .bytes)) (now (a .out)) (a .circuit) (r .result .job) (told-done (r .result) (reading (now (a .bytes))) (r .ensures) (done .given .1)) _ (c .before .before .before .before .before .before .before .before .if1 .left) (subst (λ (k : ℕ). k ≤ length (now (a .out))) (ap (λ (x : Shape). x .bytes) (c .before .before .before .before .before .before .shape-of .ensures)) (c .before .before .before .before .if2 .left)) (c .before .before .put-circuits .ensures ∙ ap (splice (now (a .out)) 0) (table-single (r .result .job) (a .circuit)))
+returns-4 c = let a = c .before .before .before .before .before .before .before .before .before .before .before .before .before .before .before .before .args in let r = c .before .before .before .before .before .before .before .before .before .before .before .before .before .read in let done = c .before .before .before .before .before .before .before .before .before .before .before .enum-told in table-done (now (a .bytes)) (now (a .out)) (a .circuit) (r .result .job) (told-done (r .result) (reading (now (a .bytes))) (r .ensures) (done .given .1)) _ (c .before .before .before .before .before .before .before .before .if1 .left) (subst (λ (k : ℕ). k ≤ length (now (a .out))) (ap (λ (x : Shape). x .bytes) (c .before .before .before .before .before .before .shape-of .ensures)) (c .before .before .before .before .if2 .left)) (c .before .before .put-circuit .ensures)
 
 pub table-spec : {M : Type 1} → statement M
 table-spec =
@@ -65,6 +64,6 @@ table-spec =
     cast-shape-of
     shape-of-requires
     returns-3
-    put-circuits-requires
+    put-circuit-requires
     same-length
     returns-4)

@@ -1,0 +1,10 @@
+pub mod Batching
+pub mod Changes
+pub mod Charting
+pub mod Deriving
+pub mod Differences
+pub mod Going
+pub mod Knowing
+pub mod Sizes
+pub mod Space
+pub mod Stemming
