@@ -96,13 +96,14 @@ fn marks_of(purpose: Purpose) -> Marks
     Marks { of }
 }
 
-// The order of an index is its number of ones.
-fn all_orders() -> Orders
-    ensures { λ r. ⌜ Holds maxPlaces ones (r .of) ⌝ }
+// The order of an index is its number of ones; those of the indices below `size`.
+fn orders_below(size: usize) -> Orders
+    requires { ⌜ size ≤ maxPlaces ⌝ }
+    ensures { λ r. ⌜ Holds size ones (r .of) ⌝ }
 {
     let mut of = [0u8; MAX_PLACES];
     let mut e = 0;
-    while e < MAX_PLACES {
+    while e < size {
         let index = e as u32;
         of[e] = u32::count_ones(index) as u8;
         e += 1;
@@ -112,7 +113,7 @@ fn all_orders() -> Orders
 
 // How many indices below `size` there are of each order.
 fn count_orders(orders: &[u8], size: usize) -> PerOrder
-    requires { ⌜ (size ≤ maxPlaces) × (length (now orders) ≡ maxPlaces) × Holds maxPlaces ones (now orders) ⌝ }
+    requires { ⌜ (size ≤ maxPlaces) × (length (now orders) ≡ maxPlaces) × Holds size ones (now orders) ⌝ }
     ensures { λ r. ⌜ Holds maxOrders (λ order. length (ofOrder order size)) (r .of) ⌝ }
 {
     let mut of = [0usize; MAX_ORDERS];
@@ -127,7 +128,7 @@ fn count_orders(orders: &[u8], size: usize) -> PerOrder
 
 // The place of the first index of each order, after all those of lower order.
 fn first_places(orders: &[u8], size: usize) -> PerOrder
-    requires { ⌜ (size ≤ maxPlaces) × (length (now orders) ≡ maxPlaces) × Holds maxPlaces ones (now orders) ⌝ }
+    requires { ⌜ (size ≤ maxPlaces) × (length (now orders) ≡ maxPlaces) × Holds size ones (now orders) ⌝ }
     ensures { λ r. ⌜ Holds maxOrders (λ order. length (scanTo size order)) (r .of) ⌝ }
 {
     let counts = count_orders(orders, size);
@@ -144,7 +145,7 @@ fn first_places(orders: &[u8], size: usize) -> PerOrder
 
 // Puts each index at the next place of its order.
 fn put_indices(orders: &[u8], firsts: PerOrder, size: usize) -> Scan
-    requires { ⌜ (size ≤ maxPlaces) × (length (now orders) ≡ maxPlaces) × Holds maxPlaces ones (now orders) × Holds maxOrders (λ order. length (scanTo size order)) (firsts .of) ⌝ }
+    requires { ⌜ (size ≤ maxPlaces) × (length (now orders) ≡ maxPlaces) × Holds size ones (now orders) × Holds maxOrders (λ order. length (scanTo size order)) (firsts .of) ⌝ }
     ensures { λ r. ⌜ (r .count ≡ size) × Placed size (r .of) ⌝ }
 {
     let mut next = firsts.of;
@@ -166,7 +167,7 @@ fn scan_order(n: usize) -> Scan
     ensures { λ r. ⌜ Listed (scanOrder n) (r .count) (r .of) ⌝ }
 {
     let size = 1 << n;
-    let orders = all_orders();
+    let orders = orders_below(size);
     let firsts = first_places(&orders.of, size);
     put_indices(&orders.of, firsts, size)
 }

@@ -28,23 +28,23 @@ cast-order c = omega (arith, c .shared-slice-known .given (c .before .before .lo
 
 mul-of : tie.Need-mul-of Inv-loop μ-loop
 unfolding maxOrders maxInputs
-mul-of c = let p = c .before .before .before .pre in let h = lt-of-lt-of-le (c .before .loop-test .taken) (p .0) in omega (arith, order-within h (p .2 (c .before .before .loop .e) h))
+mul-of c = let p = c .before .before .before .pre in let h = lt-of-lt-of-le (c .before .loop-test .taken) (p .0) in omega (arith, order-within h (p .2 (c .before .before .loop .e) (c .before .loop-test .taken)))
 
 array-read-of : tie.Need-array-read-of Inv-loop μ-loop
 unfolding maxOrders maxInputs
-array-read-of c = let p = c .before .before .before .pre in let h = lt-of-lt-of-le (c .before .loop-test .taken) (p .0) in order-within h (p .2 (c .before .before .loop .e) h)
+array-read-of c = let p = c .before .before .before .pre in let h = lt-of-lt-of-le (c .before .loop-test .taken) (p .0) in order-within h (p .2 (c .before .before .loop .e) (c .before .loop-test .taken))
 
 add-of : tie.Need-add-of Inv-loop μ-loop
 unfolding maxPlaces maxInputs
-add-of c = let p = c .before .before .before .pre in let h = lt-of-lt-of-le (c .before .loop-test .taken) (p .0) in omega (arith, counts-few (c .before .before .loop .inv .1) h (p .2 (c .before .before .loop .e) h))
+add-of c = let p = c .before .before .before .pre in let h = lt-of-lt-of-le (c .before .loop-test .taken) (p .0) in omega (arith, counts-few (c .before .before .loop .inv .1) h (p .2 (c .before .before .loop .e) (c .before .loop-test .taken)))
 
 mul-of-2 : tie.Need-mul-of-2 Inv-loop μ-loop
 unfolding maxOrders maxInputs
-mul-of-2 c = let p = c .before .before .before .pre in let h = lt-of-lt-of-le (c .before .loop-test .taken) (p .0) in omega (arith, order-within h (p .2 (c .before .before .loop .e) h))
+mul-of-2 c = let p = c .before .before .before .pre in let h = lt-of-lt-of-le (c .before .loop-test .taken) (p .0) in omega (arith, order-within h (p .2 (c .before .before .loop .e) (c .before .loop-test .taken)))
 
 array-write-of : tie.Need-array-write-of Inv-loop μ-loop
 unfolding maxOrders maxInputs
-array-write-of c = let p = c .before .before .before .pre in let h = lt-of-lt-of-le (c .before .loop-test .taken) (p .0) in order-within h (p .2 (c .before .before .loop .e) h)
+array-write-of c = let p = c .before .before .before .pre in let h = lt-of-lt-of-le (c .before .loop-test .taken) (p .0) in order-within h (p .2 (c .before .before .loop .e) (c .before .loop-test .taken))
 
 add-e : tie.Need-add-e Inv-loop μ-loop
 add-e c = let p = c .before .before .before .pre in let h = lt-of-lt-of-le (c .before .loop-test .taken) (p .0) in omega (arith, index-fits (c .before .before .loop .e) h)
@@ -53,7 +53,7 @@ loop-less : tie.Need-loop-less Inv-loop μ-loop
 loop-less c = falls _ _ (c .before .loop-test .taken)
 
 loop-again : tie.Need-loop-again Inv-loop μ-loop
-loop-again c = let p = c .before .before .before .pre in let h = lt-of-lt-of-le (c .before .loop-test .taken) (p .0) in (omega (arith, c .before .loop-test .taken), raised-next (c .before .before .loop .inv .1) h (p .2 (c .before .before .loop .e) h) refl)
+loop-again c = let p = c .before .before .before .pre in let h = lt-of-lt-of-le (c .before .loop-test .taken) (p .0) in (omega (arith, c .before .loop-test .taken), raised-next (c .before .before .loop .inv .1) h (p .2 (c .before .before .loop .e) (c .before .loop-test .taken)) refl)
 
 returns : tie.Need-returns Inv-loop μ-loop
 returns c = counts-all (c .before .loop .inv .1) (c .before .loop .inv .0) (c .loop-test .left)

@@ -29,34 +29,34 @@ cast-order c = omega (arith, c .shared-slice-known .given (c .before .before .lo
 
 mul-place : tie.Need-mul-place Inv-loop μ-loop
 unfolding maxOrders maxInputs
-mul-place c = let p = c .before .before .before .before .pre in let h = lt-of-lt-of-le (c .before .loop-test .taken) (p .0) in omega (arith, order-within h (p .2 (c .before .before .loop .e) h))
+mul-place c = let p = c .before .before .before .before .pre in let h = lt-of-lt-of-le (c .before .loop-test .taken) (p .0) in omega (arith, order-within h (p .2 (c .before .before .loop .e) (c .before .loop-test .taken)))
 
 array-read-place : tie.Need-array-read-place Inv-loop μ-loop
 unfolding maxOrders maxInputs
-array-read-place c = let p = c .before .before .before .before .pre in let h = lt-of-lt-of-le (c .before .loop-test .taken) (p .0) in order-within h (p .2 (c .before .before .loop .e) h)
+array-read-place c = let p = c .before .before .before .before .pre in let h = lt-of-lt-of-le (c .before .loop-test .taken) (p .0) in order-within h (p .2 (c .before .before .loop .e) (c .before .loop-test .taken))
 
 cast-of : tie.Need-cast-of Inv-loop μ-loop
 cast-of c = let p = c .before .before .before .before .pre in let h = lt-of-lt-of-le (c .before .loop-test .taken) (p .0) in index-fits (c .before .before .loop .e) h
 
 mul-of : tie.Need-mul-of Inv-loop μ-loop
 unfolding maxPlaces maxInputs
-mul-of c = let p = c .before .before .before .before .pre in let h = lt-of-lt-of-le (c .before .loop-test .taken) (p .0) in omega (arith, placing-inside (c .before .before .loop .inv) (p .0) (c .before .loop-test .taken) (p .2 (c .before .before .loop .e) h))
+mul-of c = let p = c .before .before .before .before .pre in let h = lt-of-lt-of-le (c .before .loop-test .taken) (p .0) in omega (arith, placing-inside (c .before .before .loop .inv) (p .0) (c .before .loop-test .taken) (p .2 (c .before .before .loop .e) (c .before .loop-test .taken)))
 
 array-write-of : tie.Need-array-write-of Inv-loop μ-loop
 unfolding maxPlaces maxInputs
-array-write-of c = let p = c .before .before .before .before .pre in let h = lt-of-lt-of-le (c .before .loop-test .taken) (p .0) in placing-inside (c .before .before .loop .inv) (p .0) (c .before .loop-test .taken) (p .2 (c .before .before .loop .e) h)
+array-write-of c = let p = c .before .before .before .before .pre in let h = lt-of-lt-of-le (c .before .loop-test .taken) (p .0) in placing-inside (c .before .before .loop .inv) (p .0) (c .before .loop-test .taken) (p .2 (c .before .before .loop .e) (c .before .loop-test .taken))
 
 add-next : tie.Need-add-next Inv-loop μ-loop
 unfolding maxPlaces maxInputs
-add-next c = let p = c .before .before .before .before .pre in let h = lt-of-lt-of-le (c .before .loop-test .taken) (p .0) in omega (arith, placing-inside (c .before .before .loop .inv) (p .0) (c .before .loop-test .taken) (p .2 (c .before .before .loop .e) h))
+add-next c = let p = c .before .before .before .before .pre in let h = lt-of-lt-of-le (c .before .loop-test .taken) (p .0) in omega (arith, placing-inside (c .before .before .loop .inv) (p .0) (c .before .loop-test .taken) (p .2 (c .before .before .loop .e) (c .before .loop-test .taken)))
 
 mul-next : tie.Need-mul-next Inv-loop μ-loop
 unfolding maxOrders maxInputs
-mul-next c = let p = c .before .before .before .before .pre in let h = lt-of-lt-of-le (c .before .loop-test .taken) (p .0) in omega (arith, order-within h (p .2 (c .before .before .loop .e) h))
+mul-next c = let p = c .before .before .before .before .pre in let h = lt-of-lt-of-le (c .before .loop-test .taken) (p .0) in omega (arith, order-within h (p .2 (c .before .before .loop .e) (c .before .loop-test .taken)))
 
 array-write-next : tie.Need-array-write-next Inv-loop μ-loop
 unfolding maxOrders maxInputs
-array-write-next c = let p = c .before .before .before .before .pre in let h = lt-of-lt-of-le (c .before .loop-test .taken) (p .0) in order-within h (p .2 (c .before .before .loop .e) h)
+array-write-next c = let p = c .before .before .before .before .pre in let h = lt-of-lt-of-le (c .before .loop-test .taken) (p .0) in order-within h (p .2 (c .before .before .loop .e) (c .before .loop-test .taken))
 
 add-e : tie.Need-add-e Inv-loop μ-loop
 add-e c = let p = c .before .before .before .before .pre in let h = lt-of-lt-of-le (c .before .loop-test .taken) (p .0) in omega (arith, index-fits (c .before .before .loop .e) h)
@@ -65,7 +65,7 @@ loop-less : tie.Need-loop-less Inv-loop μ-loop
 loop-less c = falls _ _ (c .before .loop-test .taken)
 
 loop-again : tie.Need-loop-again Inv-loop μ-loop
-loop-again c = let p = c .before .before .before .before .pre in let h = lt-of-lt-of-le (c .before .loop-test .taken) (p .0) in placing-next (c .before .before .loop .inv) (p .0) (c .before .loop-test .taken) (p .2 (c .before .before .loop .e) h)
+loop-again c = let p = c .before .before .before .before .pre in let h = lt-of-lt-of-le (c .before .loop-test .taken) (p .0) in placing-next (c .before .before .loop .inv) (p .0) (c .before .loop-test .taken) (p .2 (c .before .before .loop .e) (c .before .loop-test .taken))
 
 returns : tie.Need-returns Inv-loop μ-loop
 returns c = (refl, placing-all (c .before .loop .inv) (c .loop-test .left))

@@ -11,16 +11,16 @@ shl-size : tie.Need-shl-size
 unfolding maxInputs
 shl-size c = omega (arith, c .pre)
 
-all-orders-requires : tie.Need-all-orders-requires
-all-orders-requires c κs = tt
+orders-below-requires : tie.Need-orders-below-requires
+orders-below-requires c κs = shifted-few (c .pre)
 
 first-places-requires : tie.Need-first-places-requires
 unfolding maxPlaces maxInputs
-first-places-requires c κs = (shifted-few (c .before .before .before .before .pre), c .first-places-arg2 .given .0, c .before .before .before .all-orders .ensures)
+first-places-requires c κs = (shifted-few (c .before .before .before .before .pre), c .first-places-arg2 .given .0, c .before .before .before .orders-below .ensures)
 
 put-indices-requires : tie.Need-put-indices-requires
 unfolding maxPlaces maxInputs
-put-indices-requires c κs = (shifted-few (c .before .before .before .before .before .before .before .before .pre), c .before .before .before .before .first-places-arg2 .given .0, c .before .before .before .before .before .before .before .all-orders .ensures, c .before .before .before .first-places .ensures)
+put-indices-requires c κs = (shifted-few (c .before .before .before .before .before .before .before .before .pre), c .before .before .before .before .first-places-arg2 .given .0, c .before .before .before .before .before .before .before .orders-below .ensures, c .before .before .before .first-places .ensures)
 
 returns : tie.Need-returns
 unfolding maxPlaces maxInputs
@@ -29,4 +29,4 @@ returns c = placed-listed (c .before .before .before .before .before .before .be
 pub scan-order-spec : {M : Type 1} → statement M
 scan-order-spec =
     tie.close
-    (tie.spec shl-size all-orders-requires first-places-requires put-indices-requires returns)
+    (tie.spec shl-size orders-below-requires first-places-requires put-indices-requires returns)
