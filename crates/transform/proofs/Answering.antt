@@ -7,7 +7,7 @@
 --   rows-onward             past these checks the spectra are filled
 use Prim.Native.Nat.{ℕ, _*_, _/_, _^_, _≤_, _<_}
 use native.Mathlib.Nat.{div-lt-iff-lt-mul, le-div-iff-mul-le}
-use mathlib.Core.Path.{_≡_, sym, ap, ap₂, subst, _∙_}
+use mathlib.Core.Path.{_≡_, sym, ap, ap₂, _∙_}
 use mathlib.Core.Bool.{Bool, true, false}
 use mathlib.Core.List.{List, _++_}
 use borrow.Author.Tests.{le-leb, lt-leb, lt-ltb, le-ltb}
@@ -23,28 +23,28 @@ use Rattle.transform.specs.declared.Kind.{Kind}
 use Rattle.tables.proofs.Answering.{kept}
 use Rattle.transform.proofs.Filling.{length-rowSpectra}
 
-pub room-of : (n : ℕ) {size rows room : ℕ} → size ≡ 2 ^ n → rows ≤ room / size → rows * 2 ^ n ≤ room
-room-of n {size} {rows} {room} e h = le-div-iff-mul-le (pow-pos n) .0 (subst (λ (x : ℕ). rows ≤ room / x) e h)
+pub room-of : (n : ℕ) {rows room : ℕ} → rows ≤ room / 2 ^ n → rows * 2 ^ n ≤ room
+room-of n h = le-div-iff-mul-le (pow-pos n) .0 h
 
 module _ (n : ℕ) {size : ℕ} (e : size ≡ 2 ^ n) (rows : ℕ) (s : List ℕ) (kind : Kind) (k : ℕ) (out : List ℕ) where
   pub filled-polarity : size ≤ k → record { answer = refused 13; memory = out } ≡ leaves (spectraFilled n rows s kind k (length out)) out
   unfolding spectraFilled
   filled-polarity h = kept (spectraFilled n rows s kind k (length out)) 13 out (let l : 2 ^ n ≤ k = rw e at h in simp (le-ltb k (2 ^ n) l))
 
-  pub filled-memory : k < size → length out / size < rows
+  pub filled-memory : k < size → length out / 2 ^ n < rows
       → record { answer = refused 10; memory = out } ≡ leaves (spectraFilled n rows s kind k (length out)) out
   unfolding spectraFilled
   filled-memory h l =
       let i : k < 2 ^ n = rw e at h in
-      let j : length out < rows * 2 ^ n = div-lt-iff-lt-mul (pow-pos n) .0 (subst (λ (x : ℕ). length out / x < rows) e l) in
+      let j : length out < rows * 2 ^ n = div-lt-iff-lt-mul (pow-pos n) .0 l in
       kept (spectraFilled n rows s kind k (length out)) 10 out (simp (lt-ltb k (2 ^ n) i, lt-leb (rows * 2 ^ n) (length out) j))
 
-  pub filled-done : (after : List ℕ) → k < size → rows ≤ length out / size → after ≡ rowSpectra kind n k s rows ++ drop (rows * 2 ^ n) out
+  pub filled-done : (after : List ℕ) → k < size → rows ≤ length out / 2 ^ n → after ≡ rowSpectra kind n k s rows ++ drop (rows * 2 ^ n) out
       → record { answer = gives tt; memory = after } ≡ leaves (spectraFilled n rows s kind k (length out)) out
   unfolding spectraFilled
   filled-done after h l p =
       let i : k < 2 ^ n = rw e at h in
-      let j : rows * 2 ^ n ≤ length out = room-of n e l in
+      let j : rows * 2 ^ n ≤ length out = room-of n l in
       let gave : spectraFilled n rows s kind k (length out) ≡ gives (record { value = tt; filled = rowSpectra kind n k s rows }) =
       simp (lt-ltb k (2 ^ n) i, le-leb (rows * 2 ^ n) (length out) j) in
       ap (λ (m : List ℕ). record { answer = gives tt; memory = m })

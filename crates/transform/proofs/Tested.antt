@@ -5,8 +5,10 @@
 --   table-one, table-two   the spare bits of one and of two inputs
 --   table-full       more inputs leave no spare bits
 --   bytes-some       a table has at least one byte
---   rows-uneven      bytes that no number of rows fills are no rows
---   rows-other       nor are the bytes of another number of rows
+--   count-small, count-large   how many tables bytes hold, by a shift
+--   rows-few-bytes   the bytes of so many rows are no more than there are
+--   rows-other       bytes that hold another number of rows are no such rows
+--   rows-uneven      nor are bytes of which some are left over
 --   Testing          the bytes are as many as the rows have, and the rows below r are tables
 --   testing-start    no row is tested yet
 --   testing-room     the rows lie within the bytes
@@ -16,7 +18,7 @@
 --   testing-end      all are
 --   rows-within      rows that are tables lie within the bytes
 use Prim.Native.Nat.{ℕ, zero, suc, _+_, _-_, _*_, _/_, _%_, _^_, _≤_, _<_}
-use native.Mathlib.Nat.{zero-mul, zero-add, suc-mul, le-antisymm, le-of-eq, add-zero, div-add-mod', mul-div-cancel, mul-mod-left}
+use native.Mathlib.Nat.{zero-mul, zero-add, suc-mul, le-antisymm, le-of-eq, mul-div-cancel, div-one, le-div-iff-mul-le}
 use native.Mathlib.Numerals.{add-one}
 use native.Mathlib.Omega.{arith}
 use mathlib.Core.Path.{_≡_, refl, sym, ap, ap₂, subst, _∙_}
@@ -26,7 +28,7 @@ use mathlib.Core.Logic.{⊎-elim}
 use borrow.Author.Tests.{eqb-true, eq-eqb, ne-eqb, not-true, not-false}
 use lib.Dec.{eqb}
 use lib.ListN.{length, getD, take, drop}
-use lib.Pow.{pow-pos, pow-add, mod-pow-add}
+use lib.Pow.{pow-pos, pow-mono, pow-add, mod-pow-add}
 use Rattle.bits.specs.Packed.{entry}
 use Rattle.bits.proofs.Below.{lt-or-ge}
 use Rattle.bits.proofs.Packed.{entry-digit}
@@ -94,13 +96,29 @@ bytes-pos n = let p = pow-pos n in omega arith
 pub bytes-some : (n : ℕ) {bytes : ℕ} → bytes ≡ tableBytes n → 0 < bytes
 bytes-some n e = rw e (bytes-pos n)
 
-pub rows-uneven : (n : ℕ) {bytes : ℕ} (s : List ℕ) (rows : ℕ) → bytes ≡ tableBytes n → (length s % bytes ≡ 0 → ⊥) → false ≡ rowsFit n s rows
-rows-uneven n s rows e h =
-    wrong-length n s rows (λ p. h (ap₂ _%_ p e ∙ mul-mod-left rows (tableBytes n)))
+-- the bytes of a table are a power of two
+pub count-small : (n size : ℕ) → n < 3 → size ≡ size / tableBytes n
+count-small n size h =
+    let q : 2 ^ n ≤ 2 ^ 2 = pow-mono {i = n} {j = 2} (omega arith) in
+    let e : tableBytes n ≡ 1 = omega (arith, pow-pos n) in
+    sym (div-one size) ∙ ap (λ (w : ℕ). size / w) (sym e)
 
-pub rows-other : (n : ℕ) {bytes : ℕ} (s : List ℕ) (rows : ℕ) → bytes ≡ tableBytes n → (length s / bytes ≡ rows → ⊥) → false ≡ rowsFit n s rows
+pub count-large : (n size : ℕ) → 3 ≤ n → size / 2 ^ (n - 3) ≡ size / tableBytes n
+count-large n size h =
+    let i : 3 + (n - 3) ≡ n = omega arith in
+    let q : 2 ^ n ≡ 8 * 2 ^ (n - 3) = ap (λ (m : ℕ). 2 ^ m) (sym i) ∙ pow-add 2 3 (n - 3) in
+    let e : 2 ^ (n - 3) ≡ tableBytes n = omega arith in
+    ap (λ (w : ℕ). size / w) e
+
+pub rows-few-bytes : (n : ℕ) {bytes count rows size : ℕ} → bytes ≡ tableBytes n → count ≡ size / tableBytes n → count ≡ rows → rows * bytes ≤ size
+rows-few-bytes n {bytes} {count} {rows} {size} e p q = le-div-iff-mul-le (bytes-some n e) .0 (omega (arith, p, q, ap (λ (w : ℕ). size / w) e))
+
+pub rows-uneven : (n : ℕ) {bytes : ℕ} (s : List ℕ) (rows : ℕ) → bytes ≡ tableBytes n → (rows * bytes ≡ length s → ⊥) → false ≡ rowsFit n s rows
+rows-uneven n s rows e h = wrong-length n s rows (λ p. h (ap (λ (w : ℕ). rows * w) e ∙ sym p))
+
+pub rows-other : (n : ℕ) {count : ℕ} (s : List ℕ) (rows : ℕ) → count ≡ length s / tableBytes n → (count ≡ rows → ⊥) → false ≡ rowsFit n s rows
 rows-other n s rows e h =
-    wrong-length n s rows (λ p. h (ap₂ _/_ p e ∙ mul-div-cancel rows (bytes-pos n)))
+    wrong-length n s rows (λ p. h (e ∙ ap (λ (l : ℕ). l / tableBytes n) p ∙ mul-div-cancel rows (bytes-pos n)))
 
 pub record Testing (n : ℕ) (s : List ℕ) (rows bytes r : ℕ) : Type 0 where
   pub wide : bytes ≡ tableBytes n
@@ -108,15 +126,10 @@ pub record Testing (n : ℕ) (s : List ℕ) (rows bytes r : ℕ) : Type 0 where
   pub within : r ≤ rows
   pub ok : rowsOk n s r ≡ true
 
-pub testing-start : {n bytes rows : ℕ} (s : List ℕ) → bytes ≡ tableBytes n → length s % bytes ≡ 0 → length s / bytes ≡ rows → Testing n s rows bytes 0
+pub testing-start : {n bytes rows : ℕ} (s : List ℕ) → bytes ≡ tableBytes n → rows * bytes ≡ length s → Testing n s rows bytes 0
 unfolding rowsOk
-testing-start {n} {bytes} {rows} s e p q =
-    record {
-      wide = e;
-      size = sym (div-add-mod' (length s) bytes) ∙ ap₂ (λ (x y : ℕ). x * bytes + y) q p ∙ add-zero (rows * bytes) ∙ ap (λ (x : ℕ). rows * x) e;
-      within = omega arith;
-      ok = refl;
-    }
+testing-start {n} {bytes} {rows} s e p =
+    record { wide = e; size = sym p ∙ ap (λ (x : ℕ). rows * x) e; within = omega arith; ok = refl }
 
 fails : (n : ℕ) (s : List ℕ) (r rows : ℕ) → r < rows → tableOk n (tableRow n s r) ≡ false → rowsOk n s rows ≡ false
 unfolding rowsOk

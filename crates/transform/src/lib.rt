@@ -628,16 +628,27 @@ fn table_ok(table: &[u8], n: usize) -> bool
     true
 }
 
+// How many packed tables of n inputs so many bytes hold. A table has a power of two of bytes, and shifting takes less time than dividing.
+fn table_count(length: usize, n: usize) -> usize
+    requires { ⌜ n ≤ 15 ⌝ }
+    ensures { λ r. ⌜ r ≡ length / tableBytes n ⌝ }
+{
+    if n < 3 {
+        return length;
+    }
+    length >> (n - 3)
+}
+
 // Whether the bytes are so many packed tables of n inputs.
 fn rows_ok(tables: &[u8], n: usize, rows: usize) -> bool
     requires { ⌜ (1 ≤ n) × (n ≤ 15) ⌝ }
     ensures { λ r. ⌜ r ≡ rowsFit n (now (tables .entry)) rows ⌝ }
 {
     let bytes = gates::table_bytes(n);
-    if tables.len() % bytes != 0 {
+    if table_count(tables.len(), n) != rows {
         return false;
     }
-    if tables.len() / bytes != rows {
+    if rows * bytes != tables.len() {
         return false;
     }
     let mut r = 0;
@@ -674,7 +685,7 @@ pub fn row_spectra(
     if size <= polarity {
         return Outcome::Refused(Refusal::Polarity);
     }
-    if work.len() / size < rows {
+    if work.len() >> n < rows {
         return Outcome::Refused(Refusal::Memory);
     }
     fill_rows(work, tables, n, rows, polarity, kind);

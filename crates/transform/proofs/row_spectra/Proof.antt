@@ -1,6 +1,7 @@
 -- `row_spectra` meets its contract: each way out is one law.
-use Prim.Native.Nat.{_<_, zero-le}
-use native.Mathlib.Nat.{le-trans, lt-of-le-of-lt}
+use Prim.Native.Nat.{_<_}
+use native.Mathlib.Nat.{le-trans}
+use native.Mathlib.Omega.{arith}
 use mathlib.Core.Path.{sym, subst, _∙_}
 use denote.Ref.{now}
 use borrow.Author.Tests.{not-true, not-false}
@@ -33,8 +34,9 @@ returns-4 : tie.Need-returns-4
 unfolding maxInputs
 returns-4 c = filled-polarity (c .before .before .before .before .before .before .before .before .args .n) (places-exact (inputs-few (c .before .before .before .before .if2 .left)) (c .before .places .ensures)) (c .before .before .before .before .before .before .before .before .args .rows) (now (c .before .before .before .before .before .before .before .before .args .tables)) (c .before .before .before .before .before .before .before .before .args .kind) (c .before .before .before .before .before .before .before .before .args .polarity) (now (c .before .before .before .before .before .before .before .before .args .work)) (c .if4 .taken) ∙ rows-onward (c .before .before .before .before .before .before .before .before .args .n) (c .before .before .before .before .before .before .before .before .args .rows) (now (c .before .before .before .before .before .before .before .before .args .tables)) (c .before .before .before .before .before .before .before .before .args .kind) (c .before .before .before .before .before .before .before .before .args .polarity) (now (c .before .before .before .before .before .before .before .before .args .work)) (c .before .before .before .before .before .if1 .left) (c .before .before .before .before .if2 .left) (sym (c .before .before .before .rows-ok .ensures) ∙ not-false (c .before .before .before .rows-ok .result) (c .before .before .if3 .left))
 
-div-if5 : tie.Need-div-if5
-div-if5 c = lt-of-le-of-lt zero-le (c .if4 .left)
+shr-if5 : tie.Need-shr-if5
+unfolding maxInputs
+shr-if5 c = omega (arith, c .before .before .before .before .if2 .left)
 
 returns-5 : tie.Need-returns-5
 unfolding maxInputs
@@ -42,7 +44,7 @@ returns-5 c = filled-memory (c .before .before .before .before .before .before .
 
 fill-rows-requires : tie.Need-fill-rows-requires
 unfolding maxInputs
-fill-rows-requires c κs = (c .before .before .before .before .before .before .if2 .left, subst (λ x. c .before .before .before .before .before .before .before .before .before .before .args .polarity < x) (places-exact (inputs-few (c .before .before .before .before .before .before .if2 .left)) (c .before .before .before .places .ensures)) (c .before .before .if4 .left), room-of (c .before .before .before .before .before .before .before .before .before .before .args .n) (places-exact (inputs-few (c .before .before .before .before .before .before .if2 .left)) (c .before .before .before .places .ensures)) (c .before .if5 .left), rows-within (c .before .before .before .before .before .before .before .before .before .before .args .n) (now (c .before .before .before .before .before .before .before .before .before .before .args .tables)) (c .before .before .before .before .before .before .before .before .before .before .args .rows) (sym (c .before .before .before .before .before .rows-ok .ensures) ∙ not-false (c .before .before .before .before .before .rows-ok .result) (c .before .before .before .before .if3 .left)))
+fill-rows-requires c κs = (c .before .before .before .before .before .before .if2 .left, subst (λ x. c .before .before .before .before .before .before .before .before .before .before .args .polarity < x) (places-exact (inputs-few (c .before .before .before .before .before .before .if2 .left)) (c .before .before .before .places .ensures)) (c .before .before .if4 .left), room-of (c .before .before .before .before .before .before .before .before .before .before .args .n) (c .before .if5 .left), rows-within (c .before .before .before .before .before .before .before .before .before .before .args .n) (now (c .before .before .before .before .before .before .before .before .before .before .args .tables)) (c .before .before .before .before .before .before .before .before .before .before .args .rows) (sym (c .before .before .before .before .before .rows-ok .ensures) ∙ not-false (c .before .before .before .before .before .rows-ok .result) (c .before .before .before .before .if3 .left)))
 
 same-length : tie.Need-same-length
 same-length c = c .before .before .fill-rows .kept .0
@@ -61,7 +63,7 @@ row-spectra-spec =
     returns-3
     places-requires
     returns-4
-    div-if5
+    shr-if5
     returns-5
     fill-rows-requires
     same-length

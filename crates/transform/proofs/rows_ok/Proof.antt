@@ -4,7 +4,7 @@ use Prim.Native.Nat.{_-_}
 use denote.Ref.{now}
 use borrow.Author.Count.{falls}
 use Rattle.gates.proofs.Sized.{table-bytes-exact, fifteen-few}
-use Rattle.transform.proofs.Tested.{Testing, bytes-some, rows-uneven, rows-other, testing-start, testing-place, testing-stop, testing-next, testing-end}
+use Rattle.transform.proofs.Tested.{Testing, rows-few-bytes, rows-uneven, rows-other, testing-start, testing-place, testing-stop, testing-next, testing-end}
 use Rattle.transform.proofs.rows_ok.Statement.{statement}
 use Rattle.transform.proofs.rows_ok.Tie as tie
 
@@ -17,20 +17,20 @@ abbrev μ-loop : tie.MeasureT-loop
 table-bytes-requires : tie.Need-table-bytes-requires Inv-loop μ-loop
 table-bytes-requires c κs = tt
 
-rem-if1 : tie.Need-rem-if1 Inv-loop μ-loop
-rem-if1 c = bytes-some (c .before .before .args .n) (table-bytes-exact (fifteen-few (c .before .before .pre .1)) (c .table-bytes .ensures))
+table-count-requires : tie.Need-table-count-requires Inv-loop μ-loop
+table-count-requires c κs = c .before .before .pre .1
 
 returns : tie.Need-returns Inv-loop μ-loop
-returns c = rows-uneven (c .before .before .before .args .n) (now (c .before .before .before .args .tables)) (c .before .before .before .args .rows) (table-bytes-exact (fifteen-few (c .before .before .before .pre .1)) (c .before .table-bytes .ensures)) (c .if1 .taken)
+returns c = rows-other (c .before .before .before .before .args .n) (now (c .before .before .before .before .args .tables)) (c .before .before .before .before .args .rows) (c .before .table-count .ensures) (c .if1 .taken)
 
-div-if2 : tie.Need-div-if2 Inv-loop μ-loop
-div-if2 c = bytes-some (c .before .before .before .args .n) (table-bytes-exact (fifteen-few (c .before .before .before .pre .1)) (c .before .table-bytes .ensures))
+mul-if2 : tie.Need-mul-if2 Inv-loop μ-loop
+mul-if2 c = omega (arith, rows-few-bytes (c .before .before .before .before .args .n) (table-bytes-exact (fifteen-few (c .before .before .before .before .pre .1)) (c .before .before .table-bytes .ensures)) (c .before .table-count .ensures) (c .if1 .left))
 
 returns-2 : tie.Need-returns-2 Inv-loop μ-loop
-returns-2 c = rows-other (c .before .before .before .before .args .n) (now (c .before .before .before .before .args .tables)) (c .before .before .before .before .args .rows) (table-bytes-exact (fifteen-few (c .before .before .before .before .pre .1)) (c .before .before .table-bytes .ensures)) (c .if2 .taken)
+returns-2 c = rows-uneven (c .before .before .before .before .before .args .n) (now (c .before .before .before .before .before .args .tables)) (c .before .before .before .before .before .args .rows) (table-bytes-exact (fifteen-few (c .before .before .before .before .before .pre .1)) (c .before .before .before .table-bytes .ensures)) (c .if2 .taken)
 
 loop-holds : tie.Need-loop-holds Inv-loop μ-loop
-loop-holds c = testing-start (now (c .before .before .before .before .args .tables)) (table-bytes-exact (fifteen-few (c .before .before .before .before .pre .1)) (c .before .before .table-bytes .ensures)) (c .before .if1 .left) (c .if2 .left)
+loop-holds c = testing-start (now (c .before .before .before .before .before .args .tables)) (table-bytes-exact (fifteen-few (c .before .before .before .before .before .pre .1)) (c .before .before .before .table-bytes .ensures)) (c .if2 .left)
 
 mul-table-ok : tie.Need-mul-table-ok Inv-loop μ-loop
 mul-table-ok c = omega (arith, testing-place (c .before .loop .inv) (c .loop-test .taken))
@@ -51,7 +51,7 @@ part-table-ok-end : tie.Need-part-table-ok-end Inv-loop μ-loop
 part-table-ok-end c = omega (arith, testing-place (c .before .loop .inv) (c .loop-test .taken))
 
 table-ok-requires : tie.Need-table-ok-requires Inv-loop μ-loop
-table-ok-requires c κs = c .before .before .before .before .before .before .before .pre
+table-ok-requires c κs = c .before .before .before .before .before .before .before .before .pre
 
 returns-3 : tie.Need-returns-3 Inv-loop μ-loop
 returns-3 c = testing-stop (c .before .before .before .before .loop .inv) (c .before .table-ok .result) (c .before .before .before .loop-test .taken) (c .before .table-ok .ensures) (c .if3 .taken)
@@ -75,9 +75,9 @@ rows-ok-spec =
     Inv-loop
     μ-loop
     table-bytes-requires
-    rem-if1
+    table-count-requires
     returns
-    div-if2
+    mul-if2
     returns-2
     loop-holds
     mul-table-ok
