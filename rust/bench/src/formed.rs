@@ -1,9 +1,9 @@
 //! Parts of the reference written again in the forms that the proved library is held to, to see what a form costs: each
 //! field read by itself, value with cursor or refusal; tables gate by gate, a byte of entries at a step; the spectrum
-//! from those of its two halves, by calls. The tables come from differences, and the circuits with a changed line stand
-//! side by side, as they do in the library.
+//! from those of its two halves, by calls. The tables of all circuits come from differences, and the circuits with a
+//! changed line stand side by side, as they do in the library. Choosing is the reference's own, on spectra made so.
 
-use reference::{Fault, Gate, Job, Kind, Refusal, MOST_FAULTS, MOST_GATES, MOST_INPUTS};
+use reference::{decide, Chosen, Fault, Gate, Job, Kind, Purpose, Refusal, Table, MOST_FAULTS, MOST_GATES, MOST_INPUTS};
 
 const MOST_LINES: usize = MOST_INPUTS + MOST_GATES;
 /// So many circuits stand side by side at most: the good one, and others in which a line is changed.
@@ -15,25 +15,40 @@ type Lines = [[u8; 32]; MOST_LINES];
 /// The packed tables of all circuits, 32 bytes each.
 type Tables = [[u8; 32]; MOST_FAULTS + 1];
 
+/// A place in a string of bits: a byte, and a number of bits from that byte's first on.
+#[derive(Clone, Copy)]
+struct Cursor {
+    byte: usize,
+    bit: u8,
+}
+
 /// The field of `width` bits at a place, and the place behind it.
 #[inline]
-fn field(bytes: &[u8], at: usize, width: usize) -> Option<(u32, usize)> {
-    let end = at + width;
-    if end > 8 * bytes.len() {
+fn field(bytes: &[u8], at: Cursor, width: usize) -> Option<(u32, Cursor)> {
+    if bytes.len() <= at.byte {
         return None;
     }
-    let rest = &bytes[at / 8..];
-    let mut four = [0; 4];
-    match rest.get(..4) {
-        Some(bytes) => four.copy_from_slice(bytes),
-        None => four[..rest.len()].copy_from_slice(rest),
-    }
-    Some(((u32::from_be_bytes(four) << (at % 8)) >> (32 - width), end))
+    let first = at.byte + usize::from(at.bit / 8);
+    let end = usize::from(at.bit % 8) + width;
+    let next = Cursor { byte: first + end / 8, bit: (end % 8) as u8 };
+    let four = match bytes.get(first..first + 4) {
+        Some(four) => u32::from_be_bytes(four.try_into().expect("four bytes")),
+        None => {
+            let rest = bytes.get(first..)?;
+            if rest.len() * 8 < end {
+                return None;
+            }
+            let mut four = [0; 4];
+            four[..rest.len()].copy_from_slice(rest);
+            u32::from_be_bytes(four)
+        }
+    };
+    Some((four >> (32 - end) & ((1 << width) - 1), next))
 }
 
 /// The job that these bytes are, each field read by itself.
 pub fn read(bytes: &[u8]) -> Result<Job, Refusal> {
-    let Some((inputs, at)) = field(bytes, 0, 4) else { return Err(1) };
+    let Some((inputs, at)) = field(bytes, Cursor { byte: 0, bit: 0 }, 4) else { return Err(1) };
     if inputs == 0 || inputs as usize > MOST_INPUTS {
         return Err(2);
     }
@@ -57,8 +72,8 @@ pub fn read(bytes: &[u8]) -> Result<Job, Refusal> {
         let (fault, next) = read_fault(bytes, at, inputs, lines)?;
         (*place, at) = (fault, next);
     }
-    let whole = at.div_ceil(8);
-    if bytes.len() > whole || bytes[whole - 1] & ((1u16 << (8 * whole - at)) - 1) as u8 != 0 {
+    let left = bytes.get(at.byte..).unwrap_or(&[]);
+    if left.len() > usize::from(at.bit != 0) || left.iter().any(|byte| byte << at.bit != 0) {
         return Err(9);
     }
     let [inputs, gate_count, output, fault_count] = [inputs, gate_count, output, fault_count].map(|count| count as u8);
@@ -66,7 +81,7 @@ pub fn read(bytes: &[u8]) -> Result<Job, Refusal> {
 }
 
 #[inline]
-fn read_gate(bytes: &[u8], at: usize, own: u32) -> Result<(Gate, usize), Refusal> {
+fn read_gate(bytes: &[u8], at: Cursor, own: u32) -> Result<(Gate, Cursor), Refusal> {
     let Some((kind, at)) = field(bytes, at, 3) else { return Err(1) };
     let Some((a, at)) = field(bytes, at, 7) else { return Err(1) };
     let Some((b, at)) = field(bytes, at, 7) else { return Err(1) };
@@ -91,7 +106,7 @@ fn read_gate(bytes: &[u8], at: usize, own: u32) -> Result<(Gate, usize), Refusal
 }
 
 #[inline]
-fn read_fault(bytes: &[u8], at: usize, inputs: u32, lines: u32) -> Result<(Fault, usize), Refusal> {
+fn read_fault(bytes: &[u8], at: Cursor, inputs: u32, lines: u32) -> Result<(Fault, Cursor), Refusal> {
     let Some((kind, at)) = field(bytes, at, 2) else { return Err(1) };
     let Some((a, at)) = field(bytes, at, 7) else { return Err(1) };
     let Some((b, at)) = field(bytes, at, 7) else { return Err(1) };
@@ -266,38 +281,77 @@ fn row(rows: &Rows, at: usize, bytes: usize) -> [u8; 32] {
     row
 }
 
-/// The tables of so many circuits from one on.
-fn tables_of(job: &Job, first: usize, count: usize, tables: &mut Tables) {
+/// The tables of all circuits.
+fn all_tables(job: &Job, tables: &mut Tables) {
     let inputs = usize::from(job.inputs);
     let bytes = (1usize << inputs).div_ceil(8);
-    let faults = &job.faults[first.max(1) - 1..first + count - 1];
+    let faults = &job.faults[..job.fault_count.into()];
     let mut rows = [0; MOST_LINES * COLUMNS * 32];
     let mut difference = [[0; 32]; MOST_LINES];
     let width = differences(job, faults, &mut rows, &mut difference);
     let good = row(&rows, usize::from(job.output) * width, bytes);
-    let mut places = tables.iter_mut();
-    if first == 0 {
-        *places.next().expect("a table") = good;
-    }
-    for (fault, table) in faults.iter().zip(places) {
+    tables[0] = good;
+    for (fault, table) in faults.iter().zip(&mut tables[1..]) {
         let (low, high) = lines_of(*fault);
         let (a, b) = (&rows[low * width * bytes..][..bytes], &rows[high * width * bytes..][..bytes]);
         let (da, db) = (&difference[low], &difference[high]);
         for i in 0..bytes {
-            let value = match *fault {
-                Fault::Stuck(_, level) => 0u8.wrapping_sub(level.into()),
-                Fault::Bridge(_, _, true) => a[i] & b[i],
-                Fault::Bridge(_, _, false) => a[i] | b[i],
-            };
+            let value = fixed(*fault, a[i], b[i]);
             table[i] = good[i] ^ (da[i] & (a[i] ^ value) | db[i] & (b[i] ^ value));
         }
     }
-    for table in &mut tables[..count] {
+    for table in &mut tables[..=faults.len()] {
         table[0] &= entry_bits(inputs);
     }
 }
 
-/// The table of one circuit.
+/// What a fault gives its lines, whose good values are `a` and `b`.
+#[inline]
+fn fixed(fault: Fault, a: u8, b: u8) -> u8 {
+    match fault {
+        Fault::Stuck(_, level) => 0u8.wrapping_sub(level.into()),
+        Fault::Bridge(_, _, true) => a & b,
+        Fault::Bridge(_, _, false) => a | b,
+    }
+}
+
+/// The gates that drive the lines from one on up to another, each from the lines that it reads.
+fn gate_lines(job: &Job, from: usize, to: usize, bytes: usize, lines: &mut Lines) {
+    for line in from..to {
+        let (a, b, [zero, single, both]) = masks(job.gates[line - usize::from(job.inputs)]);
+        let (below, rest) = lines.split_at_mut(line);
+        for ((byte, a), b) in rest[0][..bytes].iter_mut().zip(&below[a]).zip(&below[b]) {
+            *byte = zero ^ single & (a ^ b) ^ both & a & b;
+        }
+    }
+}
+
+/// The table of one circuit: the good lines up to the fault's, and with the fault from there on.
+fn circuit_table(job: &Job, fault: Option<Fault>, bytes: usize) -> [u8; 32] {
+    let inputs = usize::from(job.inputs);
+    let count = inputs + usize::from(job.gate_count);
+    let mut lines = [[0; 32]; MOST_LINES];
+    for (line, row) in lines[..inputs].iter_mut().enumerate() {
+        for (i, byte) in row[..bytes].iter_mut().enumerate() {
+            *byte = input_byte(line, i);
+        }
+    }
+    let mut start = inputs;
+    if let Some(fault) = fault {
+        let (low, high) = lines_of(fault);
+        start = inputs.max(high + 1);
+        gate_lines(job, inputs, start, bytes, &mut lines);
+        for i in 0..bytes {
+            let value = fixed(fault, lines[low][i], lines[high][i]);
+            lines[low][i] = value;
+            lines[high][i] = value;
+        }
+    }
+    gate_lines(job, start, count, bytes, &mut lines);
+    lines[usize::from(job.output)]
+}
+
+/// The table of one circuit of the job that the bytes are.
 pub fn table(bytes: &[u8], circuit: usize, out: &mut [u8]) -> Result<(), Refusal> {
     let job = read(bytes)?;
     if circuit > usize::from(job.fault_count) {
@@ -305,9 +359,9 @@ pub fn table(bytes: &[u8], circuit: usize, out: &mut [u8]) -> Result<(), Refusal
     }
     let size = (1usize << job.inputs).div_ceil(8);
     let out = out.get_mut(..size).ok_or(10)?;
-    let mut tables = [[0; 32]; MOST_FAULTS + 1];
-    tables_of(&job, circuit, 1, &mut tables);
-    out.copy_from_slice(&tables[0][..size]);
+    let fault = circuit.checked_sub(1).map(|place| job.faults[place]);
+    out.copy_from_slice(&circuit_table(&job, fault, size)[..size]);
+    out[0] &= entry_bits(job.inputs.into());
     Ok(())
 }
 
@@ -407,20 +461,35 @@ pub fn spectrum(inputs: usize, table: &[u8], kind: Kind, polarity: usize, out: &
     Ok(())
 }
 
-/// The spectra of all circuits of the job that the bytes are: what choosing and locating begin with.
-pub fn fill(bytes: &[u8], kind: Kind, polarity: usize, work: &mut [u16]) -> Result<(), Refusal> {
+/// The spectra of all circuits of the job that the bytes are, with the job and their tables: what choosing and locating
+/// begin with.
+pub fn fill(bytes: &[u8], kind: Kind, polarity: usize, work: &mut [u16]) -> Result<(Job, Tables), Refusal> {
     let job = read(bytes)?;
     if polarity >> job.inputs != 0 {
         return Err(13);
     }
     let work = work.get_mut(..(usize::from(job.fault_count) + 1) << job.inputs).ok_or(10)?;
     let mut tables = [[0; 32]; MOST_FAULTS + 1];
-    tables_of(&job, 0, usize::from(job.fault_count) + 1, &mut tables);
+    all_tables(&job, &mut tables);
     let size = (1usize << job.inputs).div_ceil(8);
     for (table, row) in tables.iter().zip(work.chunks_exact_mut(1 << job.inputs)) {
         transform(&table[..size], kind, polarity, row);
     }
-    Ok(())
+    Ok((job, tables))
+}
+
+/// Choosing as the reference does, on spectra that are made in the forms.
+pub fn choose(bytes: &[u8], purpose: Purpose, kind: Kind, polarity: usize, work: &mut [u16]) -> Chosen {
+    let (job, tables) = match fill(bytes, kind, polarity, work) {
+        Ok(filled) => filled,
+        Err(number) => return Chosen::Refused(number),
+    };
+    let circuits = usize::from(job.fault_count) + 1;
+    let words: [Table; MOST_FAULTS + 1] = tables.map(|table| {
+        let word = |w: usize| u64::from_be_bytes(table[8 * w..8 * w + 8].try_into().expect("eight bytes"));
+        [word(0), word(1), word(2), word(3)]
+    });
+    decide(&job, purpose, &words[..circuits], &work[..circuits << job.inputs])
 }
 
 #[cfg(test)]
@@ -453,6 +522,10 @@ mod tests {
                 fill(&bytes, kind, polarity, &mut work).expect("spectra");
                 reference::locate(&bytes, kind, polarity, &[], &[], &mut same);
                 assert_eq!(work, same);
+                for purpose in [Purpose::Isolating, Purpose::Detecting] {
+                    let chosen = choose(&bytes, purpose, kind, polarity, &mut work);
+                    assert_eq!(chosen, reference::choose(&bytes, purpose, kind, polarity, &mut same));
+                }
                 let (mut numbers, mut same) = ([7; 256], [7; 256]);
                 spectrum(inputs, &table[..size], kind, polarity, &mut numbers).expect("a spectrum");
                 reference::spectrum(inputs, &table[..size], kind, polarity, &mut same).expect("a spectrum");

@@ -108,8 +108,18 @@ pub const LINES: [Line; 10] = [
 ];
 
 /// The lines on which a form of the library's tells.
-pub const FORMED: [Line; 6] =
-    [Line::Reading, Line::Table, Line::Spectrum(Rm), Line::Spectrum(Mrm), Line::Filling(Rm), Line::Filling(Mrm)];
+pub const FORMED: [Line; 10] = [
+    Line::Reading,
+    Line::Table,
+    Line::Spectrum(Rm),
+    Line::Spectrum(Mrm),
+    Line::Filling(Rm),
+    Line::Filling(Mrm),
+    Line::Choosing(Isolating, Rm),
+    Line::Choosing(Isolating, Mrm),
+    Line::Choosing(Detecting, Rm),
+    Line::Choosing(Detecting, Mrm),
+];
 
 impl Kind {
     fn proved(self) -> horncurlew::Kind {
@@ -229,7 +239,7 @@ impl Line {
     }
 
     fn run_formed(self, case: &Case, memory: &mut Memory) {
-        use crate::formed::{fill, read, spectrum, table};
+        use crate::formed::{choose, fill, read, spectrum, table};
         let bytes = &case.bytes[..];
         let (out, numbers) = (&mut memory.bytes[..], &mut memory.numbers[..]);
         match self {
@@ -246,7 +256,11 @@ impl Line {
                 let work = &mut numbers[..case.work];
                 black_box(fill(bytes, kind.reference(), case.polarity, work).is_ok());
             }
-            Line::Choosing(..) | Line::Locating(_) => unreachable!("no line of FORMED"),
+            Line::Choosing(purpose, kind) => {
+                let work = &mut numbers[..case.work];
+                black_box(choose(bytes, purpose.reference(), kind.reference(), case.polarity, work));
+            }
+            Line::Locating(_) => unreachable!("no line of FORMED"),
         }
     }
 }

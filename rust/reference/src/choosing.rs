@@ -5,7 +5,7 @@
 //! in one class. Detecting keeps, per index taken, the set of faults that it tells from the good circuit.
 
 use crate::differences::MOST_CIRCUITS;
-use crate::job::{read, MOST_FAULTS};
+use crate::job::{read, Job, MOST_FAULTS};
 use crate::refusal::{self, Refusal};
 use crate::spectra::{fill, Kind};
 use crate::words::Table;
@@ -67,7 +67,12 @@ pub fn choose(bytes: &[u8], purpose: Purpose, kind: Kind, polarity: usize, work:
         return Chosen::Refused(refusal::MEMORY);
     };
     let tables = fill(&job, kind, polarity, work);
-    let tables = &tables[..faults + 1];
+    decide(&job, purpose, &tables[..faults + 1], work)
+}
+
+/// The choice for a job whose circuits' tables and spectra are there; the tables need only be equal where the circuits' are.
+pub fn decide(job: &Job, purpose: Purpose, tables: &[Table], work: &[u16]) -> Chosen {
+    let (inputs, faults) = (usize::from(job.inputs), usize::from(job.fault_count));
     let alike = match purpose {
         Purpose::Isolating => first_alike(tables),
         Purpose::Detecting => (1..tables.len()).find(|c| tables[*c] == tables[0]).map(|c| (0, c)),

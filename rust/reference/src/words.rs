@@ -7,7 +7,7 @@
 use std::array::from_fn;
 
 /// A table of at most 8 inputs; words that it doesn't need are 0.
-pub(crate) type Table = [u64; 4];
+pub type Table = [u64; 4];
 
 /// The entries of the first six variables in a word.
 const VARIABLES: [u64; 6] = [
