@@ -59,7 +59,7 @@ module _ (work : List ℕ) (width : ℕ) (marks : List ℕ) (entry level count :
 module _ {work : List ℕ} {width rows : ℕ} {marks taken L P : List ℕ} {count : ℕ} (fit : Fit work width rows marks)
     (level : Level work width rows marks taken L P count) where
   pub level-ready : Ready work width rows marks L (take count P)
-  level-ready = record { fit = fit; low = level .classed .low; own = level .classed .own; covers = level .settled .covers }
+  level-ready = record { fit = fit; low = level .classed .low; own = level .classed .own; covers = level .settled .covers; mixed = level .settled .mixed }
 
   pub level-fit : length L ≡ maxRows → OpenFit work width L (take count P)
   level-fit e = ready-fit level-ready e

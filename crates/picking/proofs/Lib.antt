@@ -10,6 +10,7 @@ pub mod Walking
 pub mod Strays
 pub mod Relabelling
 pub mod Dissolving
+pub mod OneMark
 pub mod Within
 pub mod Fits
 pub mod Seeking

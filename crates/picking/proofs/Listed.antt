@@ -4,7 +4,9 @@
 --   some-passing, filtered-passing of rows that pass a test
 --   passing-all                    all numbers pass
 --   some-same, filtered-same       tests that say the same of the rows of a list
+--   some-none                      a test that holds of none of them
 use Prim.Native.Nat.{ℕ, zero, suc, _+_, _≤_, _<_}
+use native.Mathlib.Nat.{not-suc-le-zero, le-of-suc-le-suc}
 use native.Mathlib.Omega.{arith}
 use mathlib.Core.Path.{_≡_, refl, sym, ap, ap₂, _∙_}
 use mathlib.Core.Bool.{Bool, true, false, cond, _&&_, _||_, or-false, or-assoc}
@@ -12,7 +14,9 @@ use mathlib.Core.List.{List, [], _∷_, _++_, append-nil, append-assoc}
 use lib.ListN.{length, take, getD}
 use lib.Seq.{take-suc}
 use Rattle.bits.specs.Passing.{passing}
+use Rattle.bits.proofs.Tests.{clash}
 use Rattle.method.specs.Method.{someBelow}
+use Rattle.method.proofs.Pairs.{by-test}
 use Rattle.picking.specs.Labels.{someOf, filtered, Holds}
 
 module _ (test : ℕ → Bool) where
@@ -81,6 +85,15 @@ module _ (p q : ℕ → Bool) where
   filtered-same [] e = refl
   filtered-same (c ∷ l) e =
       ap₂ (λ (t : Bool) (r : List ℕ). cond t (c ∷ []) [] ++ r) (e zero (omega arith)) (filtered-same l (λ i h. e (suc i) (omega arith)))
+
+pub some-none : (p : ℕ → Bool) (l : List ℕ) → someOf p l ≡ false → AllOf (λ c. p c ≡ false) l
+unfolding someOf
+some-none p [] e i h = absurd (not-suc-le-zero h)
+some-none p (c ∷ l) e zero h =
+    by-test (p c) (λ t. absurd (clash (ap (λ (x : Bool). x || someOf p l) t) e)) (λ f. f)
+some-none p (c ∷ l) e (suc i) h =
+    by-test (p c) (λ t. absurd (clash (ap (λ (x : Bool). x || someOf p l) t) e))
+    (λ f. some-none p l (sym (ap (λ (x : Bool). x || someOf p l) f) ∙ e) i (le-of-suc-le-suc h))
 
 -- every number below n, in order
 pub passing-all : (of : List ℕ) (n : ℕ) → n ≤ length of → Holds n (λ c. c) of → take n of ≡ passing (λ c. true) n

@@ -3,6 +3,7 @@
 --   count-within     a count no greater than a size is within what has that size
 --   prefix-length    the first entries of an array are as many as asked for
 --   prefix-inside, prefix-end   a place is among them, or past them
+--   first-place      where there is a place, there is the first
 --   place-fits       a place within lent memory fits a machine word
 --   start-fits       and so does the start of the row that it lies in
 --   row-byte, row-place   a row's number fits in a byte, and a machine word
@@ -34,6 +35,10 @@ module _ (l : List ℕ) {count : ℕ} (h : count ≤ length l) where
 
   pub prefix-end : {i : ℕ} → count ≤ i → length (take count l) ≤ i
   prefix-end k = omega (arith, length-take-le count l h)
+
+-- where there is a place, there is the first
+pub first-place : {i n : ℕ} → i < n → 0 < n
+first-place h = omega arith
 
 -- n entries of so many bytes, at least one, take fewer than 2 ^ 63
 module _ {n : ℕ} (bytes : ℕ) (room : n * suc bytes < 2 ^ 63) where

@@ -6,6 +6,7 @@
 --   lowestOf       the lowest row that has a row's label and value
 --   met            the labels of the rows by two columns of labels
 --   stray          a row's mark is not its label's
+--   otherMark      a row's mark is not that of the first of some rows
 --   alikeMarked    two rows of one class whose marks differ
 --   split          the class of a label holds two marks
 --   Classed        labels by what a relation says of rows whose marks differ
@@ -19,8 +20,9 @@
 --   Walkable, Walked   what seeking along a chain asks for, and does
 --   parted, Flagged    which classes hold two marks, seen from some rows
 --   settledOf, settledBy   the label that a row has when the other classes are dissolved, by a test and by numbers
---   OpenSettle, Settles    what dissolving asks for, and does
---   Dissolved      what it does where the numbers tell which classes hold two marks
+--   keptBy         the label that a row has when it keeps its own only where that has its value
+--   relabelled     a row's new label, by a rule
+--   OpenSettle, Flags, Settles   what relabelling the pending rows asks for, and does
 --   Fit            what `fits` tests
 --   Settled        the pending rows are listed, and all classes that are left hold two marks
 --   Ready, Refined, Parts   what parting classes by an entry asks for, what refining does, and what parting does
@@ -93,6 +95,10 @@ strayBy label marks c = not (eqb (getD marks c 0) (getD marks (label c) 0))
 
 abbrev pub stray : List ℕ → List ℕ → ℕ → Bool
 stray labels marks = strayBy (valueIn labels) marks
+
+-- a row's mark is not that of the first row listed
+abbrev pub otherMark : List ℕ → List ℕ → ℕ → Bool
+otherMark marks rows c = not (eqb (getD marks c 0) (getD marks (getD rows 0 0) 0))
 
 -- two rows of one class whose marks differ
 abbrev pub alikeMarked : List ℕ → List ℕ → ℕ → ℕ → Bool
@@ -213,33 +219,38 @@ parted label marks pending l = someOf (λ c. eqb (label c) l && strayBy label ma
 abbrev pub Flagged : (ℕ → ℕ) → List ℕ → List ℕ → List ℕ → Type 0
 Flagged label marks pending mixed = (l : ℕ) → l < maxRows → getD mixed l 0 ≡ cond (parted label marks pending l) 1 0
 
--- a row of a class that holds two marks keeps its label, any other is its own
-abbrev pub settledOf : (ℕ → Bool) → List ℕ → ℕ → ℕ
-settledOf holds labels c = cond (holds (getD labels c 0)) (getD labels c 0) c
+-- a row's new label by its label: a row of a class that holds two marks keeps it, any other is its own
+abbrev pub settledOf : (ℕ → Bool) → ℕ → ℕ → ℕ
+settledOf holds label c = cond (holds label) label c
 
 -- the same, by numbers
-abbrev pub settledBy : List ℕ → List ℕ → ℕ → ℕ
-settledBy mixed labels c = c - getD mixed (getD labels c 0) 0 * (c - getD labels c 0)
+abbrev pub settledBy : List ℕ → ℕ → ℕ → ℕ
+settledBy mixed label c = c - getD mixed label 0 * (c - label)
 
-pub record OpenSettle (labels mixed pending : List ℕ) : Type 0 where
+-- a row that has its label's value keeps its label, any other is its own
+abbrev pub keptBy : (ℕ → ℕ) → ℕ → ℕ → ℕ
+keptBy value label c = cond (eqb (value c) (value label)) label c
+
+abbrev pub relabelled : (ℕ → ℕ → ℕ) → List ℕ → ℕ → ℕ
+relabelled rule labels c = rule (getD labels c 0) c
+
+pub record OpenSettle (labels pending : List ℕ) : Type 0 where
   pub few : length pending ≤ maxRows
   pub sized : length labels ≡ maxRows
-  pub known : length mixed ≡ maxRows
   pub listed : (i : ℕ) → i < length pending → getD pending i 0 < maxRows
   pub low : (i : ℕ) → i < length pending → getD labels (getD pending i 0) 0 ≤ getD pending i 0
   pub rises : (i j : ℕ) → i < j → j < length pending → getD pending i 0 < getD pending j 0
+
+-- one or zero for each row
+pub record Flags (mixed : List ℕ) : Type 0 where
+  pub known : length mixed ≡ maxRows
   pub flags : (l : ℕ) → l < maxRows → getD mixed l 0 ≤ 1
 
-pub record Settles (mixed old list labels pending : List ℕ) (count : ℕ) : Type 0 where
+-- the pending rows have their new labels, and those that are not their own are listed
+pub record Settles (rule : ℕ → ℕ → ℕ) (old list labels pending : List ℕ) (count : ℕ) : Type 0 where
   pub few : count ≤ maxRows
-  pub listed : take count pending ≡ filtered (λ c. not (eqb (settledBy mixed old c) c)) list
-  pub done : (i : ℕ) → i < length list → getD labels (getD list i 0) 0 ≡ settledBy mixed old (getD list i 0)
-  pub kept : (c : ℕ) → ((i : ℕ) → i < length list → getD list i 0 ≡ c → ⊥) → getD labels c 0 ≡ getD old c 0
-
-pub record Dissolved (marks old list labels pending : List ℕ) (count : ℕ) : Type 0 where
-  pub few : count ≤ maxRows
-  pub listed : take count pending ≡ filtered (λ c. not (eqb (settledOf (parted (valueIn old) marks list) old c) c)) list
-  pub done : (i : ℕ) → i < length list → getD labels (getD list i 0) 0 ≡ settledOf (parted (valueIn old) marks list) old (getD list i 0)
+  pub listed : take count pending ≡ filtered (λ c. not (eqb (relabelled rule old c) c)) list
+  pub done : (i : ℕ) → i < length list → getD labels (getD list i 0) 0 ≡ relabelled rule old (getD list i 0)
   pub kept : (c : ℕ) → ((i : ℕ) → i < length list → getD list i 0 ≡ c → ⊥) → getD labels c 0 ≡ getD old c 0
 
 -- ---- parting
@@ -261,6 +272,7 @@ pub record Ready (work : List ℕ) (width rows : ℕ) (marks labels list : List 
   pub low : Low rows labels
   pub own : Own rows labels
   pub covers : Covers rows labels list
+  pub mixed : Mixed rows marks labels
 
 abbrev pub SomeReady : List ℕ → ℕ → List ℕ → List ℕ → List ℕ → Type 0
 SomeReady work width marks labels list = (rows : ℕ) × Ready work width rows marks labels list

@@ -1,57 +1,55 @@
--- `picking::settling::part` meets its contract.
-use mathlib.Core.Path.{refl, sym, _∙_}
+-- `picking::settling::part` meets its contract: where the pending rows have one mark, by the shorter way.
 use denote.Ref.{now}
-use Rattle.picking.specs.Matrix.{maxRows}
 use Rattle.picking.proofs.Sizes.{count-within, prefix-length}
-use Rattle.picking.proofs.Columns.{zeros-hold}
-use Rattle.picking.proofs.Parting.{ready-settle, ready-parted}
+use Rattle.picking.proofs.Parting.{ready-fit, ready-open, ready-marked, ready-kept}
 use Rattle.picking.proofs.settling.part.Statement.{statement}
 use Rattle.picking.proofs.settling.part.Tie as tie
 
-slice-reshare-prefix-refine : tie.Need-slice-reshare-prefix-refine
-slice-reshare-prefix-refine c = count-within (c .before .before .before .before .before .pre .4) (c .before .before .before .before .before .pre .2)
+slice-reshare-prefix-two-marks : tie.Need-slice-reshare-prefix-two-marks
+slice-reshare-prefix-two-marks c = count-within (c .before .before .before .before .pre .4) (c .before .before .before .before .pre .2)
 
-slice-aggregate-refine : tie.Need-slice-aggregate-refine
-slice-aggregate-refine c = prefix-length (now (c .before .before .before .before .before .before .args .pending)) (c .before .before .before .before .before .before .pre .4) (c .before .before .before .before .before .before .pre .2)
+slice-aggregate-two-marks : tie.Need-slice-aggregate-two-marks
+slice-aggregate-two-marks c = prefix-length (now (c .before .before .before .before .before .args .pending)) (c .before .before .before .before .before .pre .4) (c .before .before .before .before .before .pre .2)
 
-slice-aggregate-refine-2 : tie.Need-slice-aggregate-refine-2
-slice-aggregate-refine-2 c = refl
+two-marks-requires : tie.Need-two-marks-requires
+two-marks-requires c κs = ready-marked (c .before .before .before .before .before .pre .0 .1)
 
-slice-aggregate-refine-3 : tie.Need-slice-aggregate-refine-3
-slice-aggregate-refine-3 c = refl
-
-refine-requires : tie.Need-refine-requires
-unfolding maxRows
-refine-requires c κs = (c .before .before .before .before .before .before .before .before .pre .0, c .before .before .before .before .before .before .before .before .pre .1, c .before .before .before .before .before .before .before .before .pre .3, refl, refl, zeros-hold, zeros-hold)
-
-slice-aggregate-settle : tie.Need-slice-aggregate-settle
-slice-aggregate-settle c = sym (c .before .before .before .before .before .before .before .refine .kept .1 .1 .1 .1 .1 .1 .1 .0)
-
-settle-requires : tie.Need-settle-requires
-unfolding maxRows
-settle-requires c κs = let q = c .before .before .before .before .before .before .before .before .before .before .before .before .before .before .before .before .pre .0 in (count-within (c .before .before .before .before .before .before .before .before .before .before .before .before .before .before .before .before .pre .4) (c .before .before .before .before .before .before .before .before .before .before .before .before .before .before .before .before .pre .2), ready-settle (q .1) (c .before .before .before .before .before .before .before .refine .ensures (q .0) (q .1)) (c .before .before .before .before .before .before .before .refine .kept .1 .1 .1 .0 ∙ c .before .before .before .before .before .before .before .before .before .before .before .before .before .before .before .before .pre .3) (c .before .before .before .before .before .before .before .refine .kept .1 .1 .1 .1 .1 .1 .1 .0))
+part-from-labels-requires : tie.Need-part-from-labels-requires
+part-from-labels-requires c κs = let q = c .before .before .before .before .before .before .before .before .before .pre in (count-within (q .4) (q .2), ready-open (q .0 .1) (q .3), ready-fit (q .0 .1) (q .3), q .1)
 
 same-length : tie.Need-same-length
-same-length c = c .before .before .before .before .settle .kept .0 ∙ c .before .before .before .before .before .before .before .before .before .before .before .before .refine .kept .1 .1 .1 .0
+same-length c = c .before .before .before .before .part-from-labels .kept .1 .1 .0
 
 same-length-2 : tie.Need-same-length-2
-same-length-2 c = c .before .before .before .before .settle .kept .1 .0
+same-length-2 c = c .before .before .before .before .part-from-labels .kept .1 .1 .1 .0
 
 returns : tie.Need-returns
-unfolding maxRows
-returns c = λ rows ready. ready-parted ready (c .before .before .before .before .before .before .before .before .before .before .before .before .refine .ensures rows ready) (c .before .before .before .before .before .before .before .before .before .before .before .before .refine .kept .1 .1 .1 .0 ∙ c .before .before .before .before .before .before .before .before .before .before .before .before .before .before .before .before .before .before .before .before .before .pre .3) (c .before .before .before .before .before .before .before .before .before .before .before .before .refine .kept .1 .1 .1 .1 .1 .1 .1 .0) (c .before .before .before .before .settle .ensures)
+returns c = λ rows ready. ready-kept ready (c .before .before .before .before .before .before .before .before .two-marks .ensures) (c .before .before .before .before .before .before .before .if1 .taken) (c .before .before .before .before .part-from-labels .ensures)
+
+refine-and-settle-requires : tie.Need-refine-and-settle-requires
+refine-and-settle-requires c κs = c .before .before .before .before .before .before .before .before .before .pre
+
+same-length-3 : tie.Need-same-length-3
+same-length-3 c = c .before .before .before .before .refine-and-settle .kept .1 .1 .1 .0
+
+same-length-4 : tie.Need-same-length-4
+same-length-4 c = c .before .before .before .before .refine-and-settle .kept .1 .1 .1 .1 .0
+
+returns-2 : tie.Need-returns-2
+returns-2 c = c .before .before .before .before .refine-and-settle .ensures
 
 pub part-spec : {M : Type 1} → statement M
 part-spec =
     tie.close
     (tie.spec
-    slice-reshare-prefix-refine
-    slice-aggregate-refine
-    slice-aggregate-refine-2
-    slice-aggregate-refine-3
-    refine-requires
-    slice-aggregate-settle
-    settle-requires
+    slice-reshare-prefix-two-marks
+    slice-aggregate-two-marks
+    two-marks-requires
+    part-from-labels-requires
     same-length
     same-length-2
-    returns)
+    returns
+    refine-and-settle-requires
+    same-length-3
+    same-length-4
+    returns-2)

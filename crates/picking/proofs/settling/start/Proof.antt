@@ -1,5 +1,4 @@
 -- `picking::settling::start` meets its contract.
-use native.Mathlib.Nat.{le-trans}
 use mathlib.Core.Path.{refl, _∙_}
 use Prim.Native.Nat.{ℕ}
 use lib.Dec.{lit<}
@@ -8,7 +7,7 @@ use denote.Ref.{now}
 use Rattle.picking.specs.Matrix.{maxRows}
 use Rattle.picking.proofs.Sizes.{count-within, prefix-length}
 use Rattle.picking.proofs.Columns.{zeros-hold}
-use Rattle.picking.proofs.Parting.{start-marked, start-settle, start-started}
+use Rattle.picking.proofs.Parting.{start-open, start-marked, start-flags, start-started}
 use Rattle.picking.proofs.settling.start.Statement.{statement}
 use Rattle.picking.proofs.settling.start.Tie as tie
 
@@ -22,7 +21,7 @@ slice-aggregate-two-marks : tie.Need-slice-aggregate-two-marks
 slice-aggregate-two-marks c = prefix-length (c .before .before .before .before .before .one-class .last .1 .0) (c .before .before .before .before .before .one-class .kept .1 .0 ∙ c .before .before .before .before .before .before .before .before .before .before .before .pre .4) (c .before .before .before .before .before .before .before .before .before .before .before .pre .1)
 
 two-marks-requires : tie.Need-two-marks-requires
-two-marks-requires c κs = let a = c .before .before .before .before .before .before .before .before .before .before .before .args in (le-trans (c .before .before .before .before .before .before .before .before .before .before .before .pre .0) (c .before .before .before .before .before .before .before .before .before .before .before .pre .2), start-marked (a .rows) (now (a .marks)) (c .before .before .before .before .before .one-class .last .0) (c .before .before .before .before .before .one-class .last .1 .0) (c .before .before .before .before .before .before .before .before .before .before .before .pre .0) (c .before .before .before .before .before .before .before .before .before .before .before .pre .1) (c .before .before .before .before .before .one-class .ensures .0) (c .before .before .before .before .before .one-class .kept .0 ∙ c .before .before .before .before .before .before .before .before .before .before .before .pre .3) (c .before .before .before .before .before .one-class .kept .1 .0 ∙ c .before .before .before .before .before .before .before .before .before .before .before .pre .4) (c .before .before .before .before .before .one-class .ensures .1) (c .before .before .before .before .before .before .before .before .before .before .before .pre .2))
+two-marks-requires c κs = let a = c .before .before .before .before .before .before .before .before .before .before .before .args in start-marked (a .rows) (now (a .marks)) (c .before .before .before .before .before .one-class .last .0) (c .before .before .before .before .before .one-class .last .1 .0) (c .before .before .before .before .before .before .before .before .before .before .before .pre .0) (c .before .before .before .before .before .before .before .before .before .before .before .pre .1) (c .before .before .before .before .before .one-class .ensures .0) (c .before .before .before .before .before .one-class .kept .0 ∙ c .before .before .before .before .before .before .before .before .before .before .before .pre .3) (c .before .before .before .before .before .one-class .kept .1 .0 ∙ c .before .before .before .before .before .before .before .before .before .before .before .pre .4) (c .before .before .before .before .before .one-class .ensures .1) (c .before .before .before .before .before .before .before .before .before .before .before .pre .2)
 
 array-write-mixed : tie.Need-array-write-mixed
 array-write-mixed c = lit< tt
@@ -32,7 +31,7 @@ slice-aggregate-settle c = refl
 
 settle-requires : tie.Need-settle-requires
 unfolding maxRows
-settle-requires c κs = let a = c .before .before .before .before .before .before .before .before .before .before .before .before .before .before .before .args in (count-within (c .before .before .before .before .before .before .before .before .before .one-class .kept .1 .0 ∙ c .before .before .before .before .before .before .before .before .before .before .before .before .before .before .before .pre .4) (c .before .before .before .before .before .before .before .before .before .before .before .before .before .before .before .pre .1), start-settle (a .rows) (now (a .marks)) (c .before .before .before .before .before .before .before .before .before .one-class .last .0) (c .before .before .before .before .before .before .before .before .before .one-class .last .1 .0) (c .before .before .before .before .before .before .before .before .before .before .before .before .before .before .before .pre .0) (c .before .before .before .before .before .before .before .before .before .before .before .before .before .before .before .pre .1) (c .before .before .before .before .before .before .before .before .before .one-class .ensures .0) (c .before .before .before .before .before .before .before .before .before .one-class .kept .0 ∙ c .before .before .before .before .before .before .before .before .before .before .before .before .before .before .before .pre .3) (c .before .before .before .before .before .before .before .before .before .one-class .kept .1 .0 ∙ c .before .before .before .before .before .before .before .before .before .before .before .before .before .before .before .pre .4) (c .before .before .before .before .before .before .before .before .before .one-class .ensures .1) (replicate maxRows 0) zeros-hold (length-replicate {A = ℕ} maxRows 0) (c .before .before .before .two-marks .ensures))
+settle-requires c κs = let a = c .before .before .before .before .before .before .before .before .before .before .before .before .before .before .before .args in (count-within (c .before .before .before .before .before .before .before .before .before .one-class .kept .1 .0 ∙ c .before .before .before .before .before .before .before .before .before .before .before .before .before .before .before .pre .4) (c .before .before .before .before .before .before .before .before .before .before .before .before .before .before .before .pre .1), start-open (a .rows) (now (a .marks)) (c .before .before .before .before .before .before .before .before .before .one-class .last .0) (c .before .before .before .before .before .before .before .before .before .one-class .last .1 .0) (c .before .before .before .before .before .before .before .before .before .before .before .before .before .before .before .pre .0) (c .before .before .before .before .before .before .before .before .before .before .before .before .before .before .before .pre .1) (c .before .before .before .before .before .before .before .before .before .one-class .ensures .0) (c .before .before .before .before .before .before .before .before .before .one-class .kept .0 ∙ c .before .before .before .before .before .before .before .before .before .before .before .before .before .before .before .pre .3) (c .before .before .before .before .before .before .before .before .before .one-class .kept .1 .0 ∙ c .before .before .before .before .before .before .before .before .before .before .before .before .before .before .before .pre .4) (c .before .before .before .before .before .before .before .before .before .one-class .ensures .1), start-flags (a .rows) (now (a .marks)) (c .before .before .before .before .before .before .before .before .before .one-class .last .0) (c .before .before .before .before .before .before .before .before .before .one-class .last .1 .0) (c .before .before .before .before .before .before .before .before .before .before .before .before .before .before .before .pre .0) (c .before .before .before .before .before .before .before .before .before .before .before .before .before .before .before .pre .1) (c .before .before .before .before .before .before .before .before .before .one-class .ensures .0) (c .before .before .before .before .before .before .before .before .before .one-class .kept .0 ∙ c .before .before .before .before .before .before .before .before .before .before .before .before .before .before .before .pre .3) (c .before .before .before .before .before .before .before .before .before .one-class .kept .1 .0 ∙ c .before .before .before .before .before .before .before .before .before .before .before .before .before .before .before .pre .4) (c .before .before .before .before .before .before .before .before .before .one-class .ensures .1) (replicate maxRows 0) zeros-hold (length-replicate {A = ℕ} maxRows 0) (c .before .before .before .two-marks .ensures))
 
 same-length : tie.Need-same-length
 same-length c = c .before .before .before .before .settle .kept .0 ∙ c .before .before .before .before .before .before .before .before .before .before .before .before .before .before .one-class .kept .0
