@@ -9,8 +9,8 @@ use mathlib.Core.Path.{_≡_, refl}
 use mir.Syntax.{w8}
 use mir.Val.{Fits}
 use lib.Count.{ones, ones-le}
-use Rattle.picking.specs.Matrix.{maxRows}
-use Rattle.picking.proofs.Sizes.{rows-fit}
+use Rattle.classes.specs.Matrix.{maxRows}
+use Rattle.classes.proofs.Sizes.{rows-fit}
 use Rattle.choosing.specs.Choosing.{mark}
 use Rattle.choosing.specs.declared.Purpose.the-variants.{Detecting}
 

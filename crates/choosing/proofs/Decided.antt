@@ -35,12 +35,13 @@ use Rattle.tables.specs.declared.TablesAnswer.the-variants as tables
 use Rattle.spectra.specs.Operations.{circuitSpectra, jobSpectraOf}
 use Rattle.transform.specs.declared.Kind.{Kind}
 use Rattle.spectra.proofs.WorkPlaces.{length-circuitSpectra, circuitSpectra-at}
-use Rattle.picking.specs.Labels.{Holds}
-use Rattle.picking.specs.Matrix.{cell, apart, allBelow, fits, maxRows, picked, pickedBy, choiceOf, signatureOf}
+use Rattle.classes.specs.Labels.{Holds}
+use Rattle.classes.specs.Matrix.{cell, apart, maxRows}
+use Rattle.picking.specs.Matrix.{allBelow, fits, picked, pickedBy, choiceOf, signatureOf}
 use Rattle.method.specs.Method.{agree, signature, firstPair, Pair}
 use Rattle.method.specs.Method.Pair.{nobody, pair}
 use Rattle.picking.specs.declared.Choice.{Choice as Picking}
-use Rattle.picking.proofs.Columns.{cell-within}
+use Rattle.classes.proofs.Cells.{cell-within}
 use Rattle.method.proofs.Firsts.{firstPair-same}
 use Rattle.method.proofs.Pairs.{by-test}
 use Rattle.method.proofs.Unchanged.{agree-same, signature-same}

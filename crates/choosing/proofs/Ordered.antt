@@ -35,10 +35,10 @@ use Rattle.bits.proofs.Fields.{shift-exact}
 use Rattle.bits.proofs.Below.{lt-or-ge}
 use Rattle.bits.specs.Passing.{passing}
 use Rattle.method.proofs.Pairs.{by-test}
-use Rattle.picking.specs.Labels.{Holds}
+use Rattle.classes.specs.Labels.{Holds}
 use Rattle.choosing.specs.Choosing.{scanTo, scanOrder}
 use Rattle.choosing.specs.Looking.{maxPlaces, maxOrders, ofOrder, placeOf, Placed, Listed}
-use Rattle.picking.proofs.Columns.{Filling, filling-start, filling-next, filling-all}
+use Rattle.classes.proofs.Columns.{Filling, filling-start, filling-next, filling-all}
 use Rattle.choosing.proofs.Indices.{length-passing, passing-more, length-scanTo, length-all}
 use Rattle.choosing.proofs.Sizes.{places-fit}
 

@@ -1,4 +1,4 @@
--- That one size fits another, computed from the limits' values (job's specs/Layout.antt, picking's specs/Matrix.antt).
+-- That one size fits another, computed from the limits' values (job's specs/Layout.antt, specs/Matrix.antt of classes and picking).
 --
 --   faults-rows      the method has a row for each circuit of a job
 --   faults-entries   a signature has room for as many entries as a job has faults
@@ -6,7 +6,8 @@
 use Prim.Native.Nat.{_+_, _^_, _≤_}
 use lib.Dec.{lit≤}
 use Rattle.job.specs.Layout.{maxInputs, maxFaults}
-use Rattle.picking.specs.Matrix.{maxRows, maxEntries}
+use Rattle.classes.specs.Matrix.{maxRows}
+use Rattle.picking.specs.Matrix.{maxEntries}
 use Rattle.choosing.specs.Looking.{maxPlaces}
 
 pub faults-rows : maxFaults + 1 ≤ maxRows

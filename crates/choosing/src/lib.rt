@@ -5,8 +5,9 @@ ghost use mathlib.Core.List.{[]};
 ghost use lib.Count.{ones};
 ghost use lib.ListN.{length};
 ghost use Rattle.job.specs.Layout.{maxInputs};
-ghost use Rattle.picking.specs.Labels.{Holds};
-ghost use Rattle.picking.specs.Matrix.{cell, maxRows, signatureOf};
+ghost use Rattle.classes.specs.Labels.{Holds};
+ghost use Rattle.classes.specs.Matrix.{cell, maxRows};
+ghost use Rattle.picking.specs.Matrix.{signatureOf};
 ghost use Rattle.choosing.specs.Choosing.{mark, scanTo, scanOrder, chosenOf, chose, verdictTold};
 ghost use Rattle.choosing.specs.declared.Purpose.the-variants.{Detecting};
 ghost use Rattle.choosing.specs.declared.Verdict.the-variants.{Refused};
@@ -45,7 +46,7 @@ const MAX_ORDERS: usize = job::MAX_INPUTS + 1;
 
 // A mark for each circuit: those with different marks are to be told apart.
 struct Marks {
-    of: [u8; picking::MAX_ROWS],
+    of: [u8; classes::MAX_ROWS],
 }
 
 // The order of each index.
@@ -87,9 +88,9 @@ fn mark_of(purpose: Purpose, c: usize) -> u8
 fn marks_of(purpose: Purpose) -> Marks
     ensures { λ r. ⌜ Holds maxRows (mark purpose) (r .of) ⌝ }
 {
-    let mut of = [0u8; picking::MAX_ROWS];
+    let mut of = [0u8; classes::MAX_ROWS];
     let mut c = 0;
-    while c < picking::MAX_ROWS {
+    while c < classes::MAX_ROWS {
         of[c] = mark_of(purpose, c);
         c += 1;
     }

@@ -30,7 +30,7 @@ use Rattle.transform.specs.declared.Kind.{Kind}
 use Rattle.bits.proofs.Fields.{shift-exact}
 use Rattle.picking.specs.Matrix.{maxEntries}
 use Rattle.picking.specs.declared.Signature.{Signature}
-use Rattle.picking.proofs.Columns.{cell-within}
+use Rattle.classes.proofs.Cells.{cell-within}
 use Rattle.locating.specs.Locating.{Location, locatedOf}
 use Rattle.locating.specs.Scanning.{numbersAt}
 use Rattle.locating.proofs.Indexed.{numbers-length}

@@ -35,7 +35,7 @@ use Rattle.method.specs.Method.{Pair}
 use Rattle.method.specs.Method.Pair.{nobody, pair}
 use Rattle.picking.specs.Matrix.{signatureOf}
 use Rattle.picking.specs.declared.Signature.{Signature}
-use Rattle.picking.proofs.Columns.{cell-within}
+use Rattle.classes.proofs.Cells.{cell-within}
 use Rattle.choosing.specs.Choosing.{Choice, Chose, Finding, choiceBy, choice, coefOf, chosenOf, chose, alikePair, signatureIn, verdictTold}
 use Rattle.choosing.specs.Choosing.Finding.{chosen, alike}
 use Rattle.choosing.specs.declared.Chosen.{Chosen}

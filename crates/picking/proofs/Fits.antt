@@ -18,8 +18,9 @@ use lib.Dec.{leb, ltb}
 use lib.ListN.{length, getD, drop, drop-of-length-le}
 use lib.Seq.{drop-cons}
 use Rattle.bits.proofs.Tests.{and-l, and-r}
-use Rattle.picking.specs.Matrix.{allBelow, fits, maxRows}
-use Rattle.picking.specs.Labels.{Fit}
+use Rattle.classes.specs.Matrix.{maxRows}
+use Rattle.picking.specs.Matrix.{allBelow, fits}
+use Rattle.classes.specs.Labels.{Fit}
 
 -- ---- every entry lies within a row
 

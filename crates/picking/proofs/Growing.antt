@@ -1,4 +1,4 @@
--- Taking, level by level (specs/Labels.antt, `Levels`, `TakenAll`).
+-- Taking, level by level (specs/Levels.antt, `Levels`, `TakenAll`).
 --
 --   grown           the next level is this one, copied and parted
 --   level-ready, level-fit   what the classes of a level allow
@@ -27,12 +27,14 @@ use Rattle.method.specs.Method.{useful, takes}
 use Rattle.method.proofs.Pairs.{by-cond}
 use Rattle.method.proofs.Takes.{takes-keeps, takes-useful}
 use Rattle.method.proofs.Bounded.{takes-bounded}
-use Rattle.picking.specs.Matrix.{cell, apart, allBelow, maxRows, maxEntries}
-use Rattle.picking.specs.Labels.{Fit, OpenFit, Ready, Parted, Parts, clear, seek, slot, copied, Level, Levels, Grows, Started, Begun, TakenAll}
+use Rattle.classes.specs.Matrix.{cell, apart, maxRows}
+use Rattle.picking.specs.Matrix.{allBelow, maxEntries}
+use Rattle.classes.specs.Labels.{Fit, OpenFit, Ready, Parted, Parts, Started}
+use Rattle.picking.specs.Levels.{clear, seek, slot, copied, Level, Levels, Grows, Begun, TakenAll}
 use Rattle.picking.proofs.Labelled.{classed-start, classed-entry}
 use Rattle.picking.proofs.Marked.{labels-useful}
 use Rattle.picking.proofs.Seeking.{seek-rises, seek-within, seek-fails, seek-goes}
-use Rattle.picking.proofs.Parting.{ready-fit}
+use Rattle.classes.proofs.Parting.{ready-fit}
 use Rattle.picking.proofs.Sizes.{rows-entries}
 use Rattle.picking.proofs.Slots.{lent-as, after-slot, put, put-stays, put-slot}
 

@@ -1,4 +1,4 @@
--- Classes of the rows by what lists of entries tell (specs/Labels.antt).
+-- Classes of the rows by what lists of entries tell (classes/specs/Labels.antt).
 --
 --   classed-as      classes by a relation are classes by any that says the same of rows whose marks differ
 --   classed-start   the empty list leaves all rows in one class
@@ -11,8 +11,8 @@ use mathlib.Core.Bool.{Bool, true, _&&_, and-comm, and-true}
 use mathlib.Core.List.{List, [], _∷_, _++_}
 use lib.Dec.{eqb}
 use Rattle.method.specs.Method.{agree}
-use Rattle.picking.specs.Matrix.{apart}
-use Rattle.picking.specs.Labels.{Labels, Classed, valueIn, both}
+use Rattle.classes.specs.Matrix.{apart}
+use Rattle.classes.specs.Labels.{Labels, Classed, valueIn, both}
 use Rattle.method.proofs.Agreement.{agree-append}
 
 pub classed-as : {rows : ℕ} {marks : List ℕ} {same other : ℕ → ℕ → Bool} {R : List ℕ}

@@ -1,4 +1,4 @@
--- Marks and classes: what labels and marks say of needed pairs (specs/Labels.antt).
+-- Marks and classes: what labels and marks say of needed pairs (classes/specs/Labels.antt).
 --
 --   clear-passing   all rows that pass a test are clear at an entry when none that passes has another number than its label there
 --   labels-full     a list tells all needed pairs apart when no row has another mark than its label
@@ -17,12 +17,13 @@ use lib.Dec.{ltb, eqb}
 use lib.ListN.{getD}
 use Rattle.bits.proofs.Tests.{and-l, and-r, and-i, clash}
 use Rattle.method.specs.Method.{someBelow, agree, useful, full, firstPair}
-use Rattle.picking.specs.Matrix.{apart}
+use Rattle.classes.specs.Matrix.{apart}
 use Rattle.bits.specs.Passing.{passing}
-use Rattle.picking.specs.Labels.{Classed, Mixed, Covers, stray, alikeMarked, split, clear}
+use Rattle.classes.specs.Labels.{Classed, Mixed, Covers, stray, alikeMarked, split}
+use Rattle.picking.specs.Levels.{clear}
 use Rattle.method.proofs.Pairs.{by-test, someBelow-some, some-someBelow, somePair-some, some-somePair, all-full, some-full}
 use Rattle.method.proofs.Firsts.{firstPair-same}
-use Rattle.picking.proofs.Strays.{one-mark}
+use Rattle.classes.proofs.Strays.{one-mark}
 
 -- numbers that a test tells apart differ, and the other way
 differ : (a b : ℕ) → not (eqb a b) ≡ true → a ≡ b → ⊥

@@ -1,4 +1,4 @@
--- Dropping, from the last entry taken to the first (specs/Labels.antt, `Keeping`).
+-- Dropping, from the last entry taken to the first (specs/Levels.antt, `Keeping`).
 --
 --   start-place      the place before those kept
 --   start-back       those kept start after it
@@ -23,14 +23,16 @@ use lib.ListN.{length, take, drop, getD, set, drop-of-length-le}
 use lib.Seq.{append-snoc, drop-cons, lt-length-set, getD-set-same, drop-set-lt, length-take-le, take-suc, take-all, getD-take}
 use Rattle.bits.proofs.Packed.{tabulate-at}
 use Rattle.method.specs.Method.{without, agree, full, drops}
-use Rattle.picking.specs.Matrix.{cell, apart, maxRows, maxEntries}
-use Rattle.picking.specs.Labels.{Classed, Fit, Ready, Parts, Comparable, valueIn, lowestOf, stray, strayBy, met, someOf, slot, Levels, Started, Keeping, Droppable, Dropping, Left}
+use Rattle.classes.specs.Matrix.{cell, apart, maxRows}
+use Rattle.picking.specs.Matrix.{maxEntries}
+use Rattle.classes.specs.Labels.{Classed, Fit, Ready, Parts, Comparable, valueIn, lowestOf, stray, strayBy, met, someOf, Started}
+use Rattle.picking.specs.Levels.{slot, Levels, Keeping, Droppable, Dropping, Left}
 use Rattle.picking.proofs.Labelled.{classed-start, classed-front, classed-join}
-use Rattle.picking.proofs.Listed.{some-same}
+use Rattle.classes.proofs.Listed.{some-same}
 use Rattle.picking.proofs.Marked.{labels-full}
-use Rattle.picking.proofs.Refined.{met-labels}
-use Rattle.picking.proofs.Strays.{some-strays}
-use Rattle.picking.proofs.Parting.{pending-below}
+use Rattle.classes.proofs.Refined.{met-labels}
+use Rattle.classes.proofs.Strays.{some-strays}
+use Rattle.classes.proofs.Parting.{pending-below}
 use Rattle.picking.proofs.Growing.{level-ready}
 
 pub start-place : {start : ℕ} → 1 ≤ start → start ≤ maxEntries → start - 1 < maxEntries

@@ -1,20 +1,17 @@
--- Seeking the next entry that tells a pending row from its label, as the code does it (specs/Labels.antt).
+-- Seeking the next entry that tells a pending row from its label, as the code does it (specs/Levels.antt).
 --
---   row-cell, label-cell   a pending row's number at an entry, and its label's, stand within the work
 --   Clearing         what a loop knows after i pending rows: they have their labels' numbers
 --   clearing-none, clearing-stop, clearing-next, clearing-all   its start, its ways out and its step
 --   Seeking          what a loop knows at a place: the entries before it are clear
 --   seeking-none, seeking-stop, seeking-next, seeking-all       its start, its ways out and its step
 --   seek-idle        with no pending row, all entries are clear
---   passing-fit      the numbers of the rows below a bound that pass a test can be read
 --   seek-rises, seek-within   the place sought is not before the first, and within the scan
 --   seek-fails       the entry there does not pass the test
 --   seek-goes        taking passes over the entries before it
-use Prim.Native.Nat.{ℕ, suc, _+_, _*_, _≤_, _<_}
-use native.Mathlib.Nat.{mul-le-mul-right, le-refl, le-trans}
+use Prim.Native.Nat.{ℕ, suc, _+_, _≤_, _<_}
 use native.Mathlib.Numerals.{add-one}
 use native.Mathlib.Omega.{arith}
-use mathlib.Core.Path.{_≡_, refl, sym, ap, subst, _∙_}
+use mathlib.Core.Path.{_≡_, refl, sym, ap, _∙_}
 use mathlib.Core.Bool.{Bool, true, false, not, cond, _&&_}
 use mathlib.Core.List.{List, [], _∷_}
 use borrow.Author.Tests.{eq-eqb, ne-eqb, not-true, not-false}
@@ -22,25 +19,9 @@ use lib.Dec.{eqb}
 use lib.ListN.{length, drop, getD, length-drop, drop-of-length-le}
 use lib.Seq.{drop-cons, drop-drop, getD-drop}
 use Rattle.method.specs.Method.{useful, takes}
-use Rattle.bits.specs.Passing.{passing}
-use Rattle.picking.specs.Matrix.{maxRows}
-use Rattle.picking.specs.Labels.{Low, clear, seek, OpenFit}
+use Rattle.picking.specs.Levels.{clear, seek}
 use Rattle.method.proofs.Pairs.{by-cond}
 use Rattle.method.proofs.Takes.{takes-idle}
-use Rattle.picking.proofs.Columns.{cell-within}
-use Rattle.bits.proofs.Passing.{passing-few, passing-listing}
-
--- ---- places
-
-module _ {work : List ℕ} {width : ℕ} {labels rows : List ℕ} (w : OpenFit work width labels rows) where
-  pub row-cell : (i entry : ℕ) → i < length rows → entry < width → getD rows i 0 * width + entry < length work
-  row-cell i entry h k = cell-within {rows = suc (getD rows i 0)} (le-refl (suc (getD rows i 0))) k (w .filled i h)
-
-  pub label-cell : (i entry : ℕ) → i < length rows → entry < width → getD labels (getD rows i 0) 0 * width + entry < length work
-  label-cell i entry h k =
-      let low : getD labels (getD rows i 0) 0 ≤ getD rows i 0 = w .low i h in
-      let up : getD labels (getD rows i 0) 0 < suc (getD rows i 0) = omega arith in
-      cell-within {rows = suc (getD rows i 0)} up k (w .filled i h)
 
 -- ---- an entry
 
@@ -120,21 +101,6 @@ seek-idle coef labels pending scan from e h =
     let r : seek (clear coef labels pending) (drop from scan) from ≡ from + length (drop from scan) =
     seek-past (clear coef labels pending) (clear-nothing coef labels pending e) (drop from scan) from in
     omega (arith, length-drop from scan)
-
--- ---- pending rows
-
-pub passing-fit : (work : List ℕ) (width rows : ℕ) (labels : List ℕ) (test : ℕ → Bool) (pending : List ℕ) → rows ≤ maxRows
-    → rows * width ≤ length work → rows ≤ length labels → Low rows labels
-    → pending ≡ passing test rows → OpenFit work width labels pending
-passing-fit work width rows labels test pending most h k low e =
-    let w = passing-listing test rows in
-    subst (OpenFit work width labels) (sym e)
-    (record {
-      few = omega (arith, passing-few test rows);
-      listed = λ i l. let b : getD (passing test rows) i 0 < rows = w .below i l in omega arith;
-      filled = λ i l. le-trans (mul-le-mul-right width (w .below i l)) h;
-      low = λ i l. low (getD (passing test rows) i 0) (w .below i l);
-    })
 
 -- ---- the place sought
 

@@ -1,4 +1,4 @@
--- Levels in lent memory: each has a slot of as many numbers as there are rows (specs/Labels.antt, `slot`).
+-- Levels in lent memory: each has a slot of as many numbers as there are rows (specs/Levels.antt, `slot`).
 --
 --   slot-fits, slot-add, slot-scaled   a slot's place fits a machine word
 --   slot-ends       it ends after it starts
@@ -27,8 +27,8 @@ use lib.ListN.{length, take, drop, getD, set, length-append, length-take, length
 use lib.Seq.{paste, paste-zero, paste-suc, length-paste, length-take-le, take-take, take-add, take-at, drop-at, take-append-le, getD-take, getD-drop}
 use mir.Syntax.{w64}
 use mir.Val.{Fits}
-use Rattle.picking.specs.Matrix.{maxRows}
-use Rattle.picking.specs.Labels.{slot, copied}
+use Rattle.classes.specs.Matrix.{maxRows}
+use Rattle.picking.specs.Levels.{slot, copied}
 use Rattle.picking.proofs.Sizes.{slots-fit}
 
 -- ---- places

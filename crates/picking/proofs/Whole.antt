@@ -20,20 +20,22 @@ use lib.ListN.{length, take, getD}
 use lib.Seq.{length-take-le, take-take}
 use Rattle.bits.proofs.Tests.{and-l, and-r, and-i}
 use Rattle.method.specs.Method.{Pair, agree, useful, takes, drops, signature, firstPair}
-use Rattle.picking.specs.Matrix.{cell, apart, allBelow, fits, picked, pickedBy, choiceOf, signatureOf}
+use Rattle.classes.specs.Matrix.{cell, apart}
+use Rattle.picking.specs.Matrix.{allBelow, fits, picked, pickedBy, choiceOf, signatureOf}
 use Rattle.picking.specs.Matrix.Picked.{unfit}
-use Rattle.picking.specs.Labels.{OwnLabels, pairTold, alikeMarked, slot, Level, Levels, TakenAll}
+use Rattle.classes.specs.Labels.{pairTold, alikeMarked}
+use Rattle.picking.specs.Levels.{OwnLabels, slot, Level, Levels, TakenAll}
 use Rattle.picking.specs.declared.Choice.{Choice}
 use Rattle.picking.specs.declared.Found.the-variants.{Told, Alike, Unfit}
 use Rattle.picking.specs.declared.Signature.{Signature}
-use Rattle.picking.specs.declared.classes.Two.{Two}
-use Rattle.picking.specs.declared.classes.Two.the-variants.{Nobody, Both}
+use Rattle.classes.specs.declared.Two.{Two}
+use Rattle.classes.specs.declared.Two.the-variants.{Nobody, Both}
 use Rattle.method.proofs.Pairs.{by-test, by-cond}
 use Rattle.method.proofs.Agreement.{agree-both}
 use Rattle.method.proofs.Takes.{takes-tell}
 use Rattle.method.proofs.Firsts.{firstPair-same}
 use Rattle.picking.proofs.Marked.{labels-pair}
-use Rattle.picking.proofs.Partners.{none-pending}
+use Rattle.classes.proofs.Partners.{none-pending}
 use Rattle.picking.proofs.Growing.{takes-below}
 
 module _ {E : Type 0} (coef : ℕ → E → ℕ) (rows : ℕ) (needed : ℕ → ℕ → Bool) where

@@ -1,35 +1,26 @@
 -- The method over numbers that stand row after row in lent memory, with a mark for each row.
 --
---   cell           the number of a row at an entry
---   apart          two rows are to be told apart: their marks differ
+--   maxEntries     no signature has more
+--   allBelow       every entry lies within a row
 --   fits           the rows and their marks are there, no more than a job has circuits, and every entry lies within a row
 --   Picked         a signature, or the first two rows that should be told apart and are not, or no such matrix
 --   picked         what the method picks
 --   choiceOf       the answer that stands for it
 use Prim.Native.Nat.{ℕ, zero, suc, _-_, _+_, _*_}
-use mathlib.Core.Bool.{Bool, true, not, cond, _&&_}
+use mathlib.Core.Bool.{Bool, true, cond, _&&_}
 use mathlib.Core.List.{List, [], _∷_, _++_}
-use lib.Dec.{leb, ltb, eqb}
-use lib.ListN.{length, getD}
+use lib.Dec.{leb, ltb}
+use lib.ListN.{length}
 use Rattle.method.specs.Method.{agree, signature, firstPair, Pair}
 use Rattle.method.specs.Method.Pair.{nobody, pair}
+use Rattle.classes.specs.Matrix.{cell, apart, maxRows}
 use Rattle.picking.specs.declared.Choice.{Choice}
 use Rattle.picking.specs.declared.Found.the-variants.{Told, Alike, Unfit}
 use Rattle.picking.specs.declared.Signature.{Signature}
 
--- as many rows as a job has circuits, "0 to f"
-unfoldable pub maxRows : ℕ
-maxRows = 64
-
 -- the method takes fewer entries than there are rows
 unfoldable pub maxEntries : ℕ
 maxEntries = 63
-
-abbrev pub cell : List ℕ → ℕ → ℕ → ℕ → ℕ
-cell work width c e = getD work (c * width + e) 0
-
-abbrev pub apart : List ℕ → ℕ → ℕ → Bool
-apart marks a b = not (eqb (getD marks a 0) (getD marks b 0))
 
 unfoldable pub allBelow : ℕ → List ℕ → Bool
 allBelow width [] = true

@@ -4,13 +4,15 @@ ghost use mathlib.Core.Path.{_≡_};
 ghost use mathlib.Core.Bool.{true, not};
 ghost use mathlib.Core.List.{_∷_};
 ghost use lib.ListN.{length, take, drop};
-ghost use Rattle.picking.specs.Matrix.{cell, apart, allBelow, maxRows, maxEntries, signatureOf};
+ghost use Rattle.classes.specs.Matrix.{cell, apart, maxRows};
+ghost use Rattle.picking.specs.Matrix.{allBelow, maxEntries, signatureOf};
 ghost use Rattle.method.specs.Method.{drops};
-ghost use Rattle.picking.specs.Labels.{slot, someOf, strayBy, lowestOf, valueIn, SomeComparable, Fit, SomeReady, Parts, Levels, SomeDroppable, Drops, SomeDropping, DropsAll};
+ghost use Rattle.classes.specs.Labels.{someOf, strayBy, lowestOf, valueIn, SomeComparable, Fit, SomeReady, Parts};
+ghost use Rattle.picking.specs.Levels.{slot, Levels, SomeDroppable, Drops, SomeDropping, DropsAll};
 use crate::MAX_ENTRIES;
-use crate::MAX_ROWS;
 use crate::Signature;
 use crate::taking::Taken;
+use classes::MAX_ROWS;
 
 // The entries kept stand at the end of an array, from `start` on; so many rows are pending by them.
 struct Kept {
@@ -31,7 +33,7 @@ fn told_at(
     ensures { λ r. ⌜ r ≡ not (someOf (strayBy (lowestOf (slot level (now (labels .entry))) (valueIn (now (others .entry)))) (now (marks .entry))) (take count (slot level (now (pending .entry))))) ⌝ }
 {
     let at = level * MAX_ROWS;
-    crate::classes::told_together(
+    classes::told_together(
         marks,
         &labels[at..at + MAX_ROWS],
         &pending[at..at + count],
@@ -53,7 +55,7 @@ fn keep(
     requires { ⌜ SomeReady (now work) width (now marks) (now others) (take (kept .pending) (now left)) × (entry < width) × (kept .pending ≤ maxRows) × (length (now others) ≡ maxRows) × (length (now left) ≡ maxRows) × (length (now entries) ≡ maxEntries) × (1 ≤ kept .start) × (kept .start ≤ maxEntries) ⌝ }
     ensures { λ r. ⌜ (r .start + 1 ≡ kept .start) × (drop (r .start) (now (entries .exit)) ≡ entry ∷ drop (kept .start) (now (entries .entry))) × Parts (now (work .entry)) width (now (marks .entry)) entry (now (others .entry)) (take (kept .pending) (now (left .entry))) (now (others .exit)) (now (left .exit)) (r .pending) ⌝ }
 {
-    let pending = crate::settling::part(
+    let pending = classes::settling::part(
         work,
         width,
         marks,
@@ -163,7 +165,7 @@ pub(crate) fn signature(
     let mut others = [0u16; MAX_ROWS];
     let mut left = [0u16; MAX_ROWS];
     let mut kept = [0u16; MAX_ENTRIES];
-    let count = crate::settling::start(&mut others, &mut left, rows, marks);
+    let count = classes::settling::start(&mut others, &mut left, rows, marks);
     let start = drop_all(
         work,
         width,

@@ -6,19 +6,17 @@ ghost use mathlib.Core.Bool.{true};
 ghost use mathlib.Core.List.{[]};
 ghost use lib.ListN.{length, take, getD};
 ghost use Rattle.method.specs.Method.{firstPair, drops};
-ghost use Rattle.picking.specs.Matrix.{cell, apart, allBelow, fits, picked, pickedBy, choiceOf, signatureOf, maxRows, maxEntries};
-ghost use Rattle.picking.specs.Labels.{pairTold, alikeMarked, slot, OwnLabels, Fit, Levels};
+ghost use Rattle.classes.specs.Matrix.{cell, apart, maxRows};
+ghost use Rattle.picking.specs.Matrix.{allBelow, fits, picked, pickedBy, choiceOf, signatureOf, maxEntries};
+ghost use Rattle.classes.specs.Labels.{pairTold, alikeMarked, Fit};
+ghost use Rattle.picking.specs.Levels.{slot, OwnLabels, Levels};
+use classes::MAX_ROWS;
 use classes::Two;
 use taking::Taken;
 
-mod classes;
 mod dropping;
-mod refining;
-mod settling;
 mod taking;
 
-// As many rows as a job has circuits.
-pub const MAX_ROWS: usize = 64;
 // The method takes fewer entries than there are rows.
 pub const MAX_ENTRIES: usize = 63;
 

@@ -4,10 +4,12 @@ ghost use Prim.Native.Nat.{_+_, _*_, _≤_, _<_};
 ghost use mathlib.Core.Path.{_≡_};
 ghost use mathlib.Core.Bool.{true};
 ghost use lib.ListN.{length, take, drop};
-ghost use Rattle.picking.specs.Matrix.{cell, allBelow, maxRows, maxEntries};
-ghost use Rattle.picking.specs.Labels.{clear, seek, OpenFit, slot, copied, SomeReady, Fit, Grows, Started, SomeBegun, Takings, TakenAll};
+ghost use Rattle.classes.specs.Matrix.{cell, maxRows};
+ghost use Rattle.picking.specs.Matrix.{allBelow, maxEntries};
+ghost use Rattle.classes.specs.Labels.{OpenFit, SomeReady, Fit, Started};
+ghost use Rattle.picking.specs.Levels.{clear, seek, slot, copied, Grows, SomeBegun, Takings, TakenAll};
 use crate::MAX_ENTRIES;
-use crate::MAX_ROWS;
+use classes::MAX_ROWS;
 
 // The entries taken, in order, and the number of pending rows of each level.
 pub(crate) struct Taken {
@@ -112,7 +114,7 @@ fn take_one(
     copy_level(labels, level);
     copy_level(pending, level);
     let at = level * MAX_ROWS + MAX_ROWS;
-    crate::settling::part(
+    classes::settling::part(
         work,
         width,
         marks,
@@ -167,7 +169,7 @@ fn first_level(labels: &mut [u16], pending: &mut [u16], rows: usize, marks: &[u8
     requires { ⌜ (1 ≤ rows) × (rows ≤ maxRows) × (rows ≤ length (now marks)) × (length (now labels) ≡ maxRows * maxRows) × (length (now pending) ≡ maxRows * maxRows) ⌝ }
     ensures { λ r. ⌜ Started rows (now (marks .entry)) (slot 0 (now (labels .exit))) (slot 0 (now (pending .exit))) r ⌝ }
 {
-    crate::settling::start(
+    classes::settling::start(
         &mut labels[..MAX_ROWS],
         &mut pending[..MAX_ROWS],
         rows,

@@ -3,7 +3,7 @@ use native.Mathlib.Omega.{arith}
 use mathlib.Core.Path.{_∙_}
 use Rattle.job.specs.Layout.{maxInputs, maxFaults}
 use Rattle.bits.proofs.Fields.{shift-exact}
-use Rattle.picking.specs.Matrix.{maxRows}
+use Rattle.classes.specs.Matrix.{maxRows}
 use Rattle.choosing.proofs.Decided.{filled-answer}
 use Rattle.choosing.proofs.Ordered.{listed-within, listed-length}
 use Rattle.choosing.proofs.choose_filled.Statement.{statement}

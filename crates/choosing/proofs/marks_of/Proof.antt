@@ -5,8 +5,8 @@ use Prim.Native.Nat.{_-_}
 use mathlib.Core.Path.{refl}
 use borrow.Author.Count.{falls}
 use Rattle.choosing.specs.Choosing.{mark}
-use Rattle.picking.proofs.Columns.{Filling, filling-start, filling-next, filling-all}
-use Rattle.picking.specs.Matrix.{maxRows}
+use Rattle.classes.proofs.Columns.{Filling, filling-start, filling-next, filling-all}
+use Rattle.classes.specs.Matrix.{maxRows}
 use Rattle.choosing.proofs.marks_of.Statement.{statement}
 use Rattle.choosing.proofs.marks_of.Tie as tie
 

@@ -3,7 +3,7 @@ use native.Mathlib.Numerals.{add-one-le}
 use borrow.Author.Needs.{scaled-fits}
 use mir.Syntax.{w16}
 use mir.Facts.{fits-widen}
-use Rattle.picking.proofs.Sizes.{place-fits}
+use Rattle.classes.proofs.Sizes.{place-fits}
 use Prim.Native.Nat.{_-_}
 use lib.ListN.{length}
 use denote.Ref.{now}

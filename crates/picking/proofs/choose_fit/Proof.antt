@@ -2,8 +2,9 @@
 use borrow.Author.Needs.{length-unmapped}
 use mathlib.Core.Path.{refl, sym}
 use denote.Ref.{now}
-use Rattle.picking.specs.Matrix.{maxRows, maxEntries}
-use Rattle.picking.proofs.Sizes.{count-within}
+use Rattle.classes.specs.Matrix.{maxRows}
+use Rattle.picking.specs.Matrix.{maxEntries}
+use Rattle.classes.proofs.Sizes.{count-within}
 use Rattle.picking.proofs.Fits.{fits-fit}
 use Rattle.picking.proofs.Whole.{chosen, chosen-below}
 use Rattle.picking.proofs.choose_fit.Statement.{statement}

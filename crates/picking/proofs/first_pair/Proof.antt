@@ -6,10 +6,11 @@ use mathlib.Core.List.{List}
 use lib.ListN.{length}
 use denote.Ref.{now}
 use Rattle.method.specs.Method.{firstPair}
-use Rattle.picking.specs.Matrix.{maxRows}
-use Rattle.picking.specs.Labels.{alikeMarked, slot}
+use Rattle.classes.specs.Matrix.{maxRows}
+use Rattle.classes.specs.Labels.{alikeMarked}
+use Rattle.picking.specs.Levels.{slot}
 use Rattle.picking.proofs.Sizes.{entries-row}
-use Rattle.picking.proofs.Partners.{own-unpaired}
+use Rattle.classes.proofs.Partners.{own-unpaired}
 use Rattle.picking.proofs.Slots.{slot-fits, slot-add, slot-scaled, slot-ends, slot-inside, slot-length, slot-lent}
 use Rattle.picking.proofs.first_pair.Statement.{statement}
 use Rattle.picking.proofs.first_pair.Tie as tie

@@ -1,7 +1,7 @@
 -- `picking::fitting` meets its contract.
 use mathlib.Core.Path.{_∙_}
 use denote.Ref.{now}
-use Rattle.picking.specs.Matrix.{maxRows}
+use Rattle.classes.specs.Matrix.{maxRows}
 use Rattle.picking.proofs.Fits.{unfit-none, unfit-many, unfit-marks, unfit-width, unfit-work, fit-entries}
 use Rattle.picking.proofs.fitting.Statement.{statement}
 use Rattle.picking.proofs.fitting.Tie as tie

@@ -4,7 +4,7 @@ use mir.Facts.{fits-le, fits-lit}
 use native.Mathlib.Nat.{le-of-lt}
 use lib.Dec.{lit<}
 use Rattle.picking.specs.Matrix.{maxEntries, zeros}
-use Rattle.picking.proofs.Sizes.{count-within, place-fits}
+use Rattle.classes.proofs.Sizes.{count-within, place-fits}
 use Prim.Native.Nat.{_-_}
 use lib.ListN.{length}
 use denote.Ref.{now}

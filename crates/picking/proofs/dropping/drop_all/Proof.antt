@@ -6,9 +6,11 @@ use mathlib.Core.Path.{_≡_, sym, subst, _∙_}
 use lib.Dec.{lit<}
 use lib.ListN.{length, take}
 use denote.Ref.{now}
-use Rattle.picking.specs.Matrix.{maxRows, maxEntries}
-use Rattle.picking.specs.Labels.{Dropping, Keeping}
-use Rattle.picking.proofs.Sizes.{row-place, entries-row}
+use Rattle.classes.specs.Matrix.{maxRows}
+use Rattle.picking.specs.Matrix.{maxEntries}
+use Rattle.picking.specs.Levels.{Dropping, Keeping}
+use Rattle.classes.proofs.Sizes.{row-place}
+use Rattle.picking.proofs.Sizes.{entries-row}
 use Rattle.picking.proofs.Within.{entry-below}
 use Rattle.picking.proofs.Resting.{dropping-start, dropping-at, dropping-end, taken-length, taken-within, taken-at, taken-inside, level-back, level-entry, level-within}
 use Rattle.picking.proofs.dropping.drop_all.Statement.{statement}

@@ -1,7 +1,7 @@
 -- `picking::dropping::drop_at` meets its contract.
 use mathlib.Core.Path.{refl}
 use denote.Ref.{now}
-use Rattle.picking.specs.Labels.{slot}
+use Rattle.picking.specs.Levels.{slot}
 use Rattle.picking.proofs.Slots.{slot-length}
 use Rattle.picking.proofs.Resting.{drop-comparable, drop-ready, drop-room, drop-goes, drop-keeps}
 use Rattle.picking.proofs.dropping.drop_at.Statement.{statement}

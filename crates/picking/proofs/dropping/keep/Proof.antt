@@ -7,7 +7,7 @@ use lib.ListN.{length-set}
 use Prim.Native.Nat.{_-_}
 use denote.Ref.{now}
 use Rattle.picking.specs.Matrix.{maxEntries}
-use Rattle.picking.proofs.Sizes.{count-within}
+use Rattle.classes.proofs.Sizes.{count-within}
 use Rattle.picking.proofs.Resting.{start-place, start-back, kept-front}
 use Rattle.picking.proofs.dropping.keep.Statement.{statement}
 use Rattle.picking.proofs.dropping.keep.Tie as tie

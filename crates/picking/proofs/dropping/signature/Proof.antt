@@ -1,7 +1,8 @@
 -- `picking::dropping::signature` meets its contract.
 use borrow.Author.Needs.{length-unmapped}
 use mathlib.Core.Path.{refl, sym, ap, _∙_}
-use Rattle.picking.specs.Matrix.{maxRows, maxEntries, signatureOf}
+use Rattle.classes.specs.Matrix.{maxRows}
+use Rattle.picking.specs.Matrix.{maxEntries, signatureOf}
 use Rattle.picking.proofs.Resting.{dropping-of, taken-few}
 use Rattle.picking.proofs.dropping.signature.Statement.{statement}
 use Rattle.picking.proofs.dropping.signature.Tie as tie

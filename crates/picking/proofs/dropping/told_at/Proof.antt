@@ -6,8 +6,8 @@ use mathlib.Core.List.{List}
 use denote.Ref.{now}
 use Prim.Native.Nat.{ℕ}
 use mathlib.Core.Bool.{not}
-use Rattle.picking.specs.Matrix.{maxRows}
-use Rattle.picking.specs.Labels.{SomeComparable, someOf, strayBy, lowestOf, valueIn}
+use Rattle.classes.specs.Matrix.{maxRows}
+use Rattle.classes.specs.Labels.{SomeComparable, someOf, strayBy, lowestOf, valueIn}
 use Rattle.picking.proofs.Slots.{slot-fits, slot-add, slot-scaled, slot-ends, slot-inside, slot-lent, slot-front, lent-as}
 use Rattle.picking.proofs.dropping.told_at.Statement.{statement}
 use Rattle.picking.proofs.dropping.told_at.Tie as tie

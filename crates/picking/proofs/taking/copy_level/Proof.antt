@@ -4,8 +4,8 @@ use native.Mathlib.Omega.{arith}
 use borrow.Author.Count.{falls}
 use Prim.Native.Nat.{_-_}
 use denote.Ref.{now}
-use Rattle.picking.specs.Matrix.{maxRows}
-use Rattle.picking.proofs.Sizes.{row-place}
+use Rattle.classes.specs.Matrix.{maxRows}
+use Rattle.classes.proofs.Sizes.{row-place}
 use Rattle.picking.proofs.Slots.{Copying, copying-none, copying-next, copying-all, copying-length, copying-from, copying-to, copy-fits, copy-scaled, before-start, before-from, before-next, before-to}
 use Rattle.picking.proofs.taking.copy_level.Statement.{statement}
 use Rattle.picking.proofs.taking.copy_level.Tie as tie

@@ -2,9 +2,10 @@
 use borrow.Author.Needs.{needs}
 use mathlib.Core.Path.{sym, _∙_}
 use denote.Ref.{now}
-use Rattle.picking.specs.Matrix.{maxRows}
-use Rattle.picking.specs.Labels.{Started}
-use Rattle.picking.proofs.Sizes.{count-within, prefix-length, slots-most}
+use Rattle.classes.specs.Matrix.{maxRows}
+use Rattle.classes.specs.Labels.{Started}
+use Rattle.classes.proofs.Sizes.{count-within, prefix-length}
+use Rattle.picking.proofs.Sizes.{slots-most}
 use Rattle.picking.proofs.Slots.{first-put, lent-as}
 use Rattle.picking.proofs.taking.first_level.Statement.{statement}
 use Rattle.picking.proofs.taking.first_level.Tie as tie

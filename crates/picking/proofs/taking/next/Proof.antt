@@ -3,13 +3,13 @@ use native.Mathlib.Numerals.{add-one-le}
 use borrow.Author.Needs.{scaled-fits}
 use mir.Syntax.{w16}
 use mir.Facts.{fits-widen}
-use Rattle.picking.proofs.Sizes.{place-fits}
+use Rattle.classes.proofs.Sizes.{place-fits}
 use Prim.Native.Nat.{_-_}
 use lib.ListN.{length}
 use denote.Ref.{now}
 use borrow.Author.Count.{falls}
-use Rattle.picking.specs.Matrix.{cell}
-use Rattle.picking.specs.Labels.{clear}
+use Rattle.classes.specs.Matrix.{cell}
+use Rattle.picking.specs.Levels.{clear}
 use Rattle.picking.proofs.Seeking.{Seeking, seeking-none, seeking-stop, seeking-next, seeking-all, seek-idle}
 use Rattle.picking.proofs.Within.{entry-below}
 use Rattle.picking.proofs.taking.next.Statement.{statement}

@@ -6,8 +6,9 @@ use mathlib.Core.List.{List}
 use denote.Ref.{now}
 use Prim.Native.Nat.{ℕ}
 use lib.ListN.{drop}
-use Rattle.picking.specs.Matrix.{cell, maxRows}
-use Rattle.picking.specs.Labels.{OpenFit, clear, seek}
+use Rattle.classes.specs.Matrix.{cell, maxRows}
+use Rattle.classes.specs.Labels.{OpenFit}
+use Rattle.picking.specs.Levels.{clear, seek}
 use Rattle.picking.proofs.Slots.{slot-fits, slot-add, slot-scaled, slot-ends, slot-inside, slot-lent, slot-front, lent-as}
 use Rattle.picking.proofs.taking.next_useful.Statement.{statement}
 use Rattle.picking.proofs.taking.next_useful.Tie as tie

@@ -9,9 +9,11 @@ use mathlib.Core.Path.{_≡_, sym, _∙_}
 use lib.Dec.{lit<}
 use lib.ListN.{length}
 use denote.Ref.{now}
-use Rattle.picking.specs.Matrix.{maxRows, maxEntries}
-use Rattle.picking.specs.Labels.{Begun}
-use Rattle.picking.proofs.Sizes.{place-fits, row-place, row-byte, some-rows, add-one-lt}
+use Rattle.classes.specs.Matrix.{maxRows}
+use Rattle.picking.specs.Matrix.{maxEntries}
+use Rattle.picking.specs.Levels.{Begun}
+use Rattle.classes.proofs.Sizes.{place-fits, row-place, row-byte}
+use Rattle.picking.proofs.Sizes.{some-rows, add-one-lt}
 use Rattle.picking.proofs.Within.{entry-below}
 use Rattle.picking.proofs.Slots.{slot-length}
 use Rattle.picking.proofs.Growing.{level-ready, level-fit, sought-falls, Taking, taking-level, taking-place, taking-room, taking-next-place, taking-grown, taking-next, taking-end, begun-level, taking-start}

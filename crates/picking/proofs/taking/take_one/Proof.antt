@@ -4,8 +4,8 @@ use Prim.Native.Nat.{_+_, _*_}
 use mathlib.Core.Path.{_∙_}
 use lib.ListN.{take}
 use denote.Ref.{now}
-use Rattle.picking.specs.Matrix.{maxRows}
-use Rattle.picking.specs.Labels.{SomeReady}
+use Rattle.classes.specs.Matrix.{maxRows}
+use Rattle.classes.specs.Labels.{SomeReady}
 use Rattle.picking.proofs.Slots.{copy-fits, copy-scaled, before-start, before-next, slot-ends, after-room, after-slot, after-slot-length, put-length, lent-as}
 use Rattle.picking.proofs.Growing.{grown}
 use Rattle.picking.proofs.taking.take_one.Statement.{statement}

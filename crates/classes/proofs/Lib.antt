@@ -1,0 +1,14 @@
+pub mod Sizes
+pub mod Columns
+pub mod Cells
+pub mod Listed
+pub mod Partners
+pub mod Refined
+pub mod Gathering
+pub mod Chaining
+pub mod Walking
+pub mod Strays
+pub mod Relabelling
+pub mod Dissolving
+pub mod OneMark
+pub mod Parting

@@ -1,0 +1,288 @@
+-- Classes of rows, as the code keeps them: each row's label is the lowest row of its class, and a class whose rows have one mark is dissolved, so
+-- that each of its rows is its own label.
+--
+--   Low, Own, Labels   what makes numbers labels of a relation
+--   both           two rows have the same label and the same value
+--   lowestOf       the lowest row that has a row's label and value
+--   met            the labels of the rows by two columns of labels
+--   stray          a row's mark is not its label's
+--   otherMark      a row's mark is not that of the first of some rows
+--   alikeMarked    two rows of one class whose marks differ
+--   split          the class of a label holds two marks
+--   Classed        labels by what a relation says of rows whose marks differ
+--   Mixed          every class of more rows than one holds two marks
+--   someOf, filtered   a test holds of one of some rows; those of which it holds
+--   Covers         rows among which are all that are not their own labels
+--   OpenFit        what reading the pending rows' numbers, and their labels', asks for
+--   Comparable     what comparing labels in two columns asks for
+--   First, Mate    a row is the first of its class with its value; two rows of one class, the second such a one
+--   Chain          the rows of each class that are the first with their values are linked in order
+--   Walkable, Walked   what seeking along a chain asks for, and does
+--   parted, Flagged    which classes hold two marks, seen from some rows
+--   settledOf, settledBy   the label that a row has when the other classes are dissolved, by a test and by numbers
+--   keptBy         the label that a row has when it keeps its own only where that has its value
+--   relabelled     a row's new label, by a rule
+--   OpenSettle, Flags, Settles   what relabelling the pending rows asks for, and does
+--   Fit            there are so many rows of so many numbers, and a mark for each
+--   Settled        the pending rows are listed, and all classes that are left hold two marks
+--   Ready, Refined, Parts   what parting classes by an entry asks for, what refining does, and what parting does
+--   Started        the classes by no entry
+use Prim.Native.Nat.{ℕ, zero, suc, _+_, _-_, _*_, _≤_, _<_}
+use mathlib.Core.Path.{_≡_}
+use mathlib.Core.Bool.{Bool, true, false, not, cond, _&&_, _||_}
+use mathlib.Core.Logic.{_⊎_}
+use mathlib.Core.List.{List, [], _∷_, _++_}
+use lib.Dec.{eqb}
+use lib.ListN.{length, take, getD, set}
+use Rattle.bits.specs.Packed.{tabulate}
+use Rattle.bits.specs.Passing.{passing}
+use Rattle.method.specs.Method.{someBelow, Pair}
+use Rattle.method.specs.Method.Pair.{nobody, pair}
+use Rattle.classes.specs.Matrix.{cell, apart, maxRows}
+use Rattle.classes.specs.declared.Two.{Two}
+use Rattle.classes.specs.declared.Two.the-variants.{Nobody, Both}
+
+abbrev pub Holds : ℕ → (ℕ → ℕ) → List ℕ → Type 0
+Holds rows f l = (c : ℕ) → c < rows → getD l c 0 ≡ f c
+
+abbrev pub Low : ℕ → List ℕ → Type 0
+Low rows labels = (c : ℕ) → c < rows → getD labels c 0 ≤ c
+
+abbrev pub Own : ℕ → List ℕ → Type 0
+Own rows labels = (c : ℕ) → c < rows → getD labels (getD labels c 0) 0 ≡ getD labels c 0
+
+pub record Labels (rows : ℕ) (same : ℕ → ℕ → Bool) (labels : List ℕ) : Type 0 where
+  pub low : Low rows labels
+  pub own : Own rows labels
+  pub equal : (a b : ℕ) → a < rows → b < rows → eqb (getD labels a 0) (getD labels b 0) ≡ same a b
+
+-- a column of numbers as a value of each row
+abbrev pub valueIn : List ℕ → ℕ → ℕ
+valueIn values c = getD values c 0
+
+abbrev pub both : List ℕ → (ℕ → ℕ) → ℕ → ℕ → Bool
+both labels value a b = eqb (getD labels a 0) (getD labels b 0) && eqb (value a) (value b)
+
+-- the lowest number, of so many from k on, that passes a test, or else the one after them
+unfoldable pub lowestFrom : (ℕ → Bool) → ℕ → ℕ → ℕ
+lowestFrom test zero k = k
+lowestFrom test (suc left) k = cond (test k) k (lowestFrom test left (suc k))
+
+-- the lowest row that has a row's label and value
+abbrev pub lowestOf : List ℕ → (ℕ → ℕ) → ℕ → ℕ
+lowestOf labels value c = lowestFrom (λ k. both labels value k c) (c - getD labels c 0) (getD labels c 0)
+
+-- the labels of the rows by two columns of labels: the lowest row that has both
+abbrev pub met : ℕ → List ℕ → List ℕ → List ℕ
+met rows labels others = tabulate rows (lowestOf labels (valueIn others))
+
+-- a row's mark is not that of its label, by a function or in a list
+abbrev pub strayBy : (ℕ → ℕ) → List ℕ → ℕ → Bool
+strayBy label marks c = not (eqb (getD marks c 0) (getD marks (label c) 0))
+
+abbrev pub stray : List ℕ → List ℕ → ℕ → Bool
+stray labels marks = strayBy (valueIn labels) marks
+
+-- a row's mark is not that of the first row listed
+abbrev pub otherMark : List ℕ → List ℕ → ℕ → Bool
+otherMark marks rows c = not (eqb (getD marks c 0) (getD marks (getD rows 0 0) 0))
+
+-- two rows of one class whose marks differ
+abbrev pub alikeMarked : List ℕ → List ℕ → ℕ → ℕ → Bool
+alikeMarked labels marks a b = apart marks a b && eqb (getD labels a 0) (getD labels b 0)
+
+abbrev pub pairTold : Two → Pair
+pairTold Nobody = nobody
+pairTold (Both a b) = pair a b
+
+unfoldable pub split : ℕ → List ℕ → List ℕ → ℕ → Bool
+split rows labels marks label = someBelow rows (λ c. eqb (getD labels c 0) label && stray labels marks c)
+
+-- labels by what a relation says of rows that are to be told apart
+pub record Classed (rows : ℕ) (marks : List ℕ) (same : ℕ → ℕ → Bool) (labels : List ℕ) : Type 0 where
+  pub low : Low rows labels
+  pub own : Own rows labels
+  pub told : (a b : ℕ) → a < rows → b < rows → apart marks a b ≡ true → eqb (getD labels a 0) (getD labels b 0) ≡ same a b
+
+-- every class of more rows than one holds two marks
+abbrev pub Mixed : ℕ → List ℕ → List ℕ → Type 0
+Mixed rows marks labels = (c : ℕ) → c < rows → (getD labels c 0 ≡ c → ⊥) → split rows labels marks (getD labels c 0) ≡ true
+
+-- ---- some of the rows
+
+unfoldable pub someOf : (ℕ → Bool) → List ℕ → Bool
+someOf test [] = false
+someOf test (c ∷ more) = test c || someOf test more
+
+unfoldable pub filtered : (ℕ → Bool) → List ℕ → List ℕ
+filtered test [] = []
+filtered test (c ∷ more) = cond (test c) (c ∷ []) [] ++ filtered test more
+
+-- rows in order, among which are all that are not their own labels
+pub record Covers (rows : ℕ) (labels pending : List ℕ) : Type 0 where
+  pub test : ℕ → Bool
+  pub listed : pending ≡ passing test rows
+  pub others : (c : ℕ) → c < rows → test c ≡ false → getD labels c 0 ≡ c
+
+-- what reading the pending rows' numbers and their labels' asks for
+pub record OpenFit (work : List ℕ) (width : ℕ) (labels rows : List ℕ) : Type 0 where
+  pub few : length rows ≤ maxRows
+  pub listed : (i : ℕ) → i < length rows → getD rows i 0 < length labels
+  pub filled : (i : ℕ) → i < length rows → suc (getD rows i 0) * width ≤ length work
+  pub low : (i : ℕ) → i < length rows → getD labels (getD rows i 0) 0 ≤ getD rows i 0
+
+-- labels in two columns, with the marks of the rows
+pub record Comparable (rows : ℕ) (marks labels pending others : List ℕ) : Type 0 where
+  pub marked : rows ≤ length marks
+  pub labelled : rows ≤ length labels
+  pub other : rows ≤ length others
+  pub low : Low rows labels
+  pub others-low : Low rows others
+  pub listed : (i : ℕ) → i < length pending → getD pending i 0 < rows
+
+abbrev pub SomeComparable : List ℕ → List ℕ → List ℕ → List ℕ → Type 0
+SomeComparable marks labels pending others = (rows : ℕ) × Comparable rows marks labels pending others
+
+-- ---- refining
+
+abbrev pub First : List ℕ → (ℕ → ℕ) → ℕ → Type 0
+First labels value r = lowestOf labels value r ≡ r
+
+abbrev pub Mate : List ℕ → (ℕ → ℕ) → ℕ → ℕ → Type 0
+Mate labels value r k = (getD labels k 0 ≡ getD labels r 0) × First labels value k
+
+-- none of the rows between two has the class of a row and is the first with its value
+abbrev pub NoMate : List ℕ → (ℕ → ℕ) → ℕ → ℕ → ℕ → Type 0
+NoMate labels value r from to = (k : ℕ) → from < k → k < to → Mate labels value r k → ⊥
+
+-- the link of a row: 0 if none follows below a bound, or else the next one
+abbrev pub LinkOf : List ℕ → (ℕ → ℕ) → ℕ → ℕ → ℕ → Type 0
+LinkOf labels value bound r n =
+    ((n ≡ 0) × NoMate labels value r r bound)
+    ⊎ ((r < n) × (n < bound) × Mate labels value r n × NoMate labels value r r n)
+
+-- of the rows below a bound
+pub record Chain (rows : ℕ) (labels : List ℕ) (value : ℕ → ℕ) (bound : ℕ) (next : List ℕ) : Type 0 where
+  pub low : Low rows labels
+  pub own : Own rows labels
+  pub sized : rows ≤ length next
+  pub links : (r : ℕ) → r < bound → First labels value r → LinkOf labels value bound r (getD next r 0)
+  pub free : (k : ℕ) → bound ≤ k → k < rows → getD next k 0 ≡ 0
+
+-- a chain of the rows below row c, whose label is that of the first row to look at
+pub record Walkable (rows : ℕ) (labels : List ℕ) (value : ℕ → ℕ) (next : List ℕ) (label c : ℕ) : Type 0 where
+  pub chain : Chain rows labels value c next
+  pub inside : c < rows
+  pub few : rows ≤ maxRows
+  pub at : getD labels c 0 ≡ label
+
+-- the row found is row c's new label, and the chain has row c too
+pub record Walked (rows : ℕ) (labels : List ℕ) (value : ℕ → ℕ) (next : List ℕ) (c r : ℕ) : Type 0 where
+  pub found : r ≡ lowestOf labels value c
+  pub chain : Chain rows labels value (suc c) next
+
+-- there are such rows and labels, and their numbers can be read
+pub record SomeWalkable (work : List ℕ) (width entry : ℕ) (next : List ℕ) (label c : ℕ) : Type 0 where
+  pub rows : ℕ
+  pub labels : List ℕ
+  pub walkable : Walkable rows labels (λ k. cell work width k entry) next label c
+  pub filled : suc c * width ≤ length work
+  pub inside : entry < width
+
+abbrev pub Walks : (ℕ → ℕ) → List ℕ → ℕ → ℕ → List ℕ → ℕ → Type 0
+Walks value next label c after r =
+    (rows : ℕ) (labels : List ℕ) → Walkable rows labels value next label c → Walked rows labels value after c r
+
+-- row c is put after row r where nothing follows it
+abbrev pub linked : List ℕ → ℕ → ℕ → List ℕ
+linked next r c = cond (eqb (getD next r 0) 0) (set next r c) next
+
+-- ---- dissolving
+
+abbrev pub parted : (ℕ → ℕ) → List ℕ → List ℕ → ℕ → Bool
+parted label marks pending l = someOf (λ c. eqb (label c) l && strayBy label marks c) pending
+
+-- one for each class that holds two marks
+abbrev pub Flagged : (ℕ → ℕ) → List ℕ → List ℕ → List ℕ → Type 0
+Flagged label marks pending mixed = (l : ℕ) → l < maxRows → getD mixed l 0 ≡ cond (parted label marks pending l) 1 0
+
+-- a row's new label by its label: a row of a class that holds two marks keeps it, any other is its own
+abbrev pub settledOf : (ℕ → Bool) → ℕ → ℕ → ℕ
+settledOf holds label c = cond (holds label) label c
+
+-- the same, by numbers
+abbrev pub settledBy : List ℕ → ℕ → ℕ → ℕ
+settledBy mixed label c = c - getD mixed label 0 * (c - label)
+
+-- a row that has its label's value keeps its label, any other is its own
+abbrev pub keptBy : (ℕ → ℕ) → ℕ → ℕ → ℕ
+keptBy value label c = cond (eqb (value c) (value label)) label c
+
+abbrev pub relabelled : (ℕ → ℕ → ℕ) → List ℕ → ℕ → ℕ
+relabelled rule labels c = rule (getD labels c 0) c
+
+pub record OpenSettle (labels pending : List ℕ) : Type 0 where
+  pub few : length pending ≤ maxRows
+  pub sized : length labels ≡ maxRows
+  pub listed : (i : ℕ) → i < length pending → getD pending i 0 < maxRows
+  pub low : (i : ℕ) → i < length pending → getD labels (getD pending i 0) 0 ≤ getD pending i 0
+  pub rises : (i j : ℕ) → i < j → j < length pending → getD pending i 0 < getD pending j 0
+
+-- one or zero for each row
+pub record Flags (mixed : List ℕ) : Type 0 where
+  pub known : length mixed ≡ maxRows
+  pub flags : (l : ℕ) → l < maxRows → getD mixed l 0 ≤ 1
+
+-- the pending rows have their new labels, and those that are not their own are listed
+pub record Settles (rule : ℕ → ℕ → ℕ) (old list labels pending : List ℕ) (count : ℕ) : Type 0 where
+  pub few : count ≤ maxRows
+  pub listed : take count pending ≡ filtered (λ c. not (eqb (relabelled rule old c) c)) list
+  pub done : (i : ℕ) → i < length list → getD labels (getD list i 0) 0 ≡ relabelled rule old (getD list i 0)
+  pub kept : (c : ℕ) → ((i : ℕ) → i < length list → getD list i 0 ≡ c → ⊥) → getD labels c 0 ≡ getD old c 0
+
+-- ---- parting
+
+pub record Fit (work : List ℕ) (width rows : ℕ) (marks : List ℕ) : Type 0 where
+  pub some : 1 ≤ rows
+  pub most : rows ≤ maxRows
+  pub marked : rows ≤ length marks
+  pub filled : rows * width ≤ length work
+
+-- the first so many of `pending` are the pending rows, and all classes that are left hold two marks
+pub record Settled (rows : ℕ) (marks labels pending : List ℕ) (count : ℕ) : Type 0 where
+  pub few : count ≤ maxRows
+  pub covers : Covers rows labels (take count pending)
+  pub mixed : Mixed rows marks labels
+
+pub record Ready (work : List ℕ) (width rows : ℕ) (marks labels list : List ℕ) : Type 0 where
+  pub fit : Fit work width rows marks
+  pub low : Low rows labels
+  pub own : Own rows labels
+  pub covers : Covers rows labels list
+  pub mixed : Mixed rows marks labels
+
+abbrev pub SomeReady : List ℕ → ℕ → List ℕ → List ℕ → List ℕ → Type 0
+SomeReady work width marks labels list = (rows : ℕ) × Ready work width rows marks labels list
+
+-- labels by the rows' numbers at an entry, and which classes then hold two marks
+pub record Refined (work : List ℕ) (width rows : ℕ) (marks list : List ℕ) (entry : ℕ) (old labels mixed : List ℕ) : Type 0 where
+  pub labels-by : Labels rows (both old (λ c. cell work width c entry)) labels
+  pub flagged : Flagged (valueIn labels) marks list mixed
+
+-- however many rows there are
+abbrev pub Refines : List ℕ → ℕ → List ℕ → List ℕ → ℕ → List ℕ → List ℕ → List ℕ → Type 0
+Refines work width marks list entry old labels mixed =
+    (rows : ℕ) → Ready work width rows marks old list → Refined work width rows marks list entry old labels mixed
+
+pub record Parted (work : List ℕ) (width rows : ℕ) (marks : List ℕ) (entry : ℕ) (old labels pending : List ℕ) (count : ℕ) : Type 0 where
+  pub classed : Classed rows marks (both old (λ c. cell work width c entry)) labels
+  pub settled : Settled rows marks labels pending count
+
+abbrev pub Parts : List ℕ → ℕ → List ℕ → ℕ → List ℕ → List ℕ → List ℕ → List ℕ → ℕ → Type 0
+Parts work width marks entry old list labels pending count =
+    (rows : ℕ) → Ready work width rows marks old list → Parted work width rows marks entry old labels pending count
+
+-- the classes by no entry
+pub record Started (rows : ℕ) (marks labels pending : List ℕ) (count : ℕ) : Type 0 where
+  pub classed : Classed rows marks (λ a b. true) labels
+  pub settled : Settled rows marks labels pending count

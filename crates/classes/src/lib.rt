@@ -1,0 +1,98 @@
+// Classes of rows that no entry so far tells apart (document 01, "Choosing"). A row's label is the lowest row of its class; a row is pending if it is not its own
+// label.
+ghost use Prim.Native.Nat.{ℕ, _+_, _-_, _≤_, _<_};
+ghost use mathlib.Core.Path.{_≡_};
+ghost use mathlib.Core.Bool.{not, cond};
+ghost use lib.Dec.{ltb};
+ghost use lib.ListN.{length};
+ghost use Rattle.method.specs.Method.{firstPair, pairWith, Pair};
+ghost use Rattle.method.specs.Method.Pair.{pair};
+ghost use Rattle.classes.specs.Labels.{both, valueIn, strayBy, someOf, lowestFrom, lowestOf, alikeMarked, pairTold, SomeComparable};
+
+mod refining;
+pub mod settling;
+
+// As many rows as a job has circuits.
+pub const MAX_ROWS: usize = 64;
+
+// Two rows of one class whose marks differ, or no such rows.
+pub enum Two {
+    Nobody,
+    Both(usize, usize),
+}
+
+// The lowest row, from a row on, that has the labels of row c in both columns.
+fn lowest(labels: &[u16], others: &[u16], from: usize, c: usize) -> usize
+    requires { ⌜ (c < length (now labels)) × (c < length (now others)) × (from ≤ c) ⌝ }
+    ensures { λ r. ⌜ r ≡ lowestFrom (λ k. both (now (labels .entry)) (valueIn (now (others .entry))) k c) (c - from) from ⌝ }
+{
+    let label = labels[c];
+    let other = others[c];
+    let mut k = from;
+    while k < c {
+        if labels[k] == label {
+            if others[k] == other {
+                return k;
+            }
+        }
+        k += 1;
+    }
+    c
+}
+
+fn larger(a: usize, b: usize) -> usize
+    ensures { λ r. ⌜ (a ≤ r) × (b ≤ r) × ((c : ℕ) → a ≤ c → b ≤ c → r ≤ c) ⌝ }
+{
+    if a < b { b } else { a }
+}
+
+// Whether the entries of these and of the other classes together tell all needed pairs apart: every pending row has the mark of the lowest row that has its
+// labels in both columns, and no row before its labels has them. A row that is its own label in the one column is the lowest that has both.
+pub fn told_together(marks: &[u8], labels: &[u16], pending: &[u16], others: &[u16]) -> bool
+    requires { ⌜ SomeComparable (now marks) (now labels) (now pending) (now others) ⌝ }
+    ensures { λ r. ⌜ r ≡ not (someOf (strayBy (lowestOf (now (labels .entry)) (valueIn (now (others .entry)))) (now (marks .entry))) (now (pending .entry))) ⌝ }
+{
+    let mut i = 0;
+    while i < pending.len() {
+        let c = pending[i] as usize;
+        let from = larger(labels[c] as usize, others[c] as usize);
+        if marks[c] != marks[lowest(labels, others, from, c)] {
+            return false;
+        }
+        i += 1;
+    }
+    true
+}
+
+// The lowest row after row a that has its label and not its mark, or `rows`.
+fn partner(rows: usize, marks: &[u8], labels: &[u16], a: usize) -> usize
+    requires { ⌜ (rows ≤ length (now marks)) × (rows ≤ length (now labels)) × (a < rows) ⌝ }
+    ensures { λ r. ⌜ (r ≤ rows) × ((other : Pair) → pairWith a (alikeMarked (now (labels .entry)) (now (marks .entry)) a) (rows - (a + 1)) (a + 1) other ≡ cond (ltb r rows) (pair a r) other) ⌝ }
+{
+    let mut b = a + 1;
+    while b < rows {
+        if labels[b] == labels[a] {
+            if marks[b] != marks[a] {
+                return b;
+            }
+        }
+        b += 1;
+    }
+    rows
+}
+
+// The first two rows of one class whose marks differ, by the lower, then by the higher.
+pub fn search_pairs(rows: usize, marks: &[u8], labels: &[u16]) -> Two
+    requires { ⌜ (rows ≤ length (now marks)) × (rows ≤ length (now labels)) ⌝ }
+    ensures { λ r. ⌜ pairTold r ≡ firstPair rows (alikeMarked (now (labels .entry)) (now (marks .entry))) ⌝ }
+{
+    let mut a = 0;
+    while a < rows {
+        let b = partner(rows, marks, labels, a);
+        if b < rows {
+            return Two::Both(a, b);
+        }
+        a += 1;
+    }
+    Two::Nobody
+}
