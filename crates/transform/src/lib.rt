@@ -45,8 +45,8 @@ fn combine(out: &mut [u16], half: usize)
 }
 
 // The sums of four entries as the spectrum of three inputs has them: sixteen rows of eight for a byte's upper four entries, and then sixteen for
-// its lower four.
-const HALF_SUMS: [u16; 256] = [
+// its lower four. They are bytes, since a constant is copied for each call that reads it.
+const HALF_SUMS: [u8; 256] = [
     0,
     0,
     0,
@@ -306,19 +306,19 @@ const HALF_SUMS: [u16; 256] = [
 ];
 
 // A row of eight numbers. All are read at once, so that a row is one vector.
-fn eight_at(sums: &[u16], at: usize) -> [u16; 8]
+fn eight_at(sums: &[u8], at: usize) -> [u16; 8]
     requires { ⌜ (at + 8 ≤ length (now sums)) × (at < 256) ⌝ }
     ensures { λ r. ⌜ r ≡ eightFrom (now (sums .entry)) at ⌝ }
 {
     [
-        sums[at],
-        sums[at + 1],
-        sums[at + 2],
-        sums[at + 3],
-        sums[at + 4],
-        sums[at + 5],
-        sums[at + 6],
-        sums[at + 7],
+        sums[at] as u16,
+        sums[at + 1] as u16,
+        sums[at + 2] as u16,
+        sums[at + 3] as u16,
+        sums[at + 4] as u16,
+        sums[at + 5] as u16,
+        sums[at + 6] as u16,
+        sums[at + 7] as u16,
     ]
 }
 
@@ -340,7 +340,7 @@ fn added(x: [u16; 8], y: [u16; 8]) -> [u16; 8]
 }
 
 // The MRM spectrum of a byte's eight entries: the sums of its halves, added.
-fn byte_sums(sums: &[u16], byte: u8) -> [u16; 8]
+fn byte_sums(sums: &[u8], byte: u8) -> [u16; 8]
     requires { ⌜ now sums ≡ halfSums ⌝ }
     ensures { λ r. ⌜ r ≡ byteSums byte ⌝ }
 {
@@ -392,7 +392,7 @@ fn put_rows(
 }
 
 // The MRM spectrum of three inputs, from one byte.
-fn leaf(out: &mut [u16], sums: &[u16], table: &[u8], at: usize)
+fn leaf(out: &mut [u16], sums: &[u8], table: &[u8], at: usize)
     requires { ⌜ LeafAsks 3 (length (now out)) (now sums) (length (now table)) at 0 ⌝ }
     ensures { λ r. ⌜ now (out .exit) ≡ spectrum Mrm 3 0 (entriesFrom (now (table .entry)) at) ⌝ }
 {
@@ -400,7 +400,7 @@ fn leaf(out: &mut [u16], sums: &[u16], table: &[u8], at: usize)
 }
 
 // The MRM spectrum of four inputs, from two bytes, which change places where bit 3 of k is 1: that of the first, and then the sums of both.
-fn pair_leaf(out: &mut [u16], sums: &[u16], table: &[u8], at: usize, k: usize)
+fn pair_leaf(out: &mut [u16], sums: &[u8], table: &[u8], at: usize, k: usize)
     requires { ⌜ LeafAsks 4 (length (now out)) (now sums) (length (now table)) at k ⌝ }
     ensures { λ r. ⌜ now (out .exit) ≡ spectrum Mrm 4 k (entriesFrom (now (table .entry)) at) ⌝ }
 {
@@ -414,7 +414,7 @@ fn pair_leaf(out: &mut [u16], sums: &[u16], table: &[u8], at: usize, k: usize)
 
 // The MRM spectrum of six inputs, from eight bytes: that of three inputs whose entries are the bytes' own spectra. All bytes are read before
 // anything is written, so that the rows stay vectors.
-fn wide_leaf(out: &mut [u16], sums: &[u16], table: &[u8], at: usize, k: usize)
+fn wide_leaf(out: &mut [u16], sums: &[u8], table: &[u8], at: usize, k: usize)
     requires { ⌜ LeafAsks 6 (length (now out)) (now sums) (length (now table)) at k ⌝ }
     ensures { λ r. ⌜ now (out .exit) ≡ spectrum Mrm 6 k (entriesFrom (now (table .entry)) at) ⌝ }
 {
@@ -445,7 +445,7 @@ fn wide_leaf(out: &mut [u16], sums: &[u16], table: &[u8], at: usize, k: usize)
 
 // The MRM spectrum of the 2 to the power n entries from `at` on. "The spectrum of n inputs is combined from those of its two halves; the
 // halves change places where the top bit of k is 1."
-fn transform(out: &mut [u16], sums: &[u16], table: &[u8], at: usize, n: usize, k: usize)
+fn transform(out: &mut [u16], sums: &[u8], table: &[u8], at: usize, n: usize, k: usize)
     requires { ⌜ Asks (length (now out)) (now sums) (length (now table)) at n k ⌝ }
     ensures { λ r. ⌜ now (out .exit) ≡ spectrum Mrm n k (entriesFrom (now (table .entry)) at) ⌝ }
 {
@@ -482,7 +482,7 @@ fn transform(out: &mut [u16], sums: &[u16], table: &[u8], at: usize, n: usize, k
 
 // The MRM spectrum of a whole table. One that is a leaf is made here, since the leaf becomes part of the caller, and a call of the recursion
 // does not.
-fn transform_whole(out: &mut [u16], sums: &[u16], table: &[u8], n: usize, k: usize)
+fn transform_whole(out: &mut [u16], sums: &[u8], table: &[u8], n: usize, k: usize)
     requires { ⌜ Asks (length (now out)) (now sums) (length (now table)) 0 n k ⌝ }
     ensures { λ r. ⌜ now (out .exit) ≡ spectrum Mrm n k (entriesFrom (now (table .entry)) 0) ⌝ }
 {
@@ -560,7 +560,7 @@ fn reorder(ordered: &mut [u8], table: &[u8], k: usize)
 
 // The spectrum of one table. The table is put in the order that the three lowest bits of the polarity ask for; then come the sums, and the kind is a
 // matter of the whole row.
-fn transform_row(out: &mut [u16], sums: &[u16], table: &[u8], n: usize, k: usize, kind: Kind)
+fn transform_row(out: &mut [u16], sums: &[u8], table: &[u8], n: usize, k: usize, kind: Kind)
     requires { ⌜ (n ≤ maxInputs) × (length (now out) ≡ 2 ^ n) × (k < 2 ^ n) × (length (now table) ≡ tableBytes n) × (now sums ≡ halfSums) ⌝ }
     ensures { λ r. ⌜ now (out .exit) ≡ spectrum kind n k (entriesFrom (now (table .entry)) 0) ⌝ }
 {
@@ -576,7 +576,7 @@ fn transform_row(out: &mut [u16], sums: &[u16], table: &[u8], n: usize, k: usize
 // The spectra of tables that stand row after row, with the sums of half bytes.
 fn transform_rows(
     work: &mut [u16],
-    sums: &[u16],
+    sums: &[u8],
     tables: &[u8],
     n: usize,
     rows: usize,

@@ -1,78 +1,81 @@
 -- `transform::eight_at` meets its contract: eight elements are read.
+use Prim.Native.Nat.{_+_}
 use native.Mathlib.Omega.{arith}
 use denote.Ref.{now}
+use mir.Facts.{fits-widen}
+use mir.Syntax.{w8}
 use Rattle.transform.proofs.Leaves.{eight-read}
 use Rattle.transform.proofs.eight_at.Statement.{statement}
 use Rattle.transform.proofs.eight_at.Tie as tie
 
-mul-t3 : tie.Need-mul-t3
-mul-t3 c = omega (arith, c .pre .0, c .pre .1)
+shared-slice-read-t4 : tie.Need-shared-slice-read-t4
+shared-slice-read-t4 c = omega (arith, c .before .pre .0, c .before .pre .1)
 
-shared-slice-read-t5 : tie.Need-shared-slice-read-t5
-shared-slice-read-t5 c = omega (arith, c .before .pre .0, c .before .pre .1)
+cast-t5 : tie.Need-cast-t5
+cast-t5 c = fits-widen {w = w8} tt (c .shared-slice-known .given (c .before .args .at))
 
 add-t6 : tie.Need-add-t6
 add-t6 c = omega (arith, c .before .pre .0, c .before .pre .1)
 
-mul-t7 : tie.Need-mul-t7
-mul-t7 c = omega (arith, c .before .pre .0, c .before .pre .1)
+shared-slice-read-t8 : tie.Need-shared-slice-read-t8
+shared-slice-read-t8 c = omega (arith, c .before .before .pre .0, c .before .before .pre .1)
 
-shared-slice-read-t9 : tie.Need-shared-slice-read-t9
-shared-slice-read-t9 c = omega (arith, c .before .before .pre .0, c .before .before .pre .1)
+cast-t9 : tie.Need-cast-t9
+cast-t9 c = fits-widen {w = w8} tt (c .shared-slice-known2 .given (c .before .before .args .at + 1))
 
 add-t10 : tie.Need-add-t10
 add-t10 c = omega (arith, c .before .before .pre .0, c .before .before .pre .1)
 
-mul-t11 : tie.Need-mul-t11
-mul-t11 c = omega (arith, c .before .before .pre .0, c .before .before .pre .1)
+shared-slice-read-t12 : tie.Need-shared-slice-read-t12
+shared-slice-read-t12 c = omega (arith, c .before .before .before .pre .0, c .before .before .before .pre .1)
 
-shared-slice-read-t13 : tie.Need-shared-slice-read-t13
-shared-slice-read-t13 c = omega (arith, c .before .before .before .pre .0, c .before .before .before .pre .1)
+cast-t13 : tie.Need-cast-t13
+cast-t13 c = fits-widen {w = w8} tt (c .shared-slice-known3 .given (c .before .before .before .args .at + 2))
 
 add-t14 : tie.Need-add-t14
 add-t14 c = omega (arith, c .before .before .before .pre .0, c .before .before .before .pre .1)
 
-mul-t15 : tie.Need-mul-t15
-mul-t15 c = omega (arith, c .before .before .before .pre .0, c .before .before .before .pre .1)
+shared-slice-read-t16 : tie.Need-shared-slice-read-t16
+shared-slice-read-t16 c = omega (arith, c .before .before .before .before .pre .0, c .before .before .before .before .pre .1)
 
-shared-slice-read-t17 : tie.Need-shared-slice-read-t17
-shared-slice-read-t17 c = omega (arith, c .before .before .before .before .pre .0, c .before .before .before .before .pre .1)
+cast-t17 : tie.Need-cast-t17
+cast-t17 c = fits-widen {w = w8} tt (c .shared-slice-known4 .given (c .before .before .before .before .args .at + 3))
 
 add-t18 : tie.Need-add-t18
 add-t18 c = omega (arith, c .before .before .before .before .pre .0, c .before .before .before .before .pre .1)
 
-mul-t19 : tie.Need-mul-t19
-mul-t19 c = omega (arith, c .before .before .before .before .pre .0, c .before .before .before .before .pre .1)
+shared-slice-read-t20 : tie.Need-shared-slice-read-t20
+shared-slice-read-t20 c = omega (arith, c .before .before .before .before .before .pre .0, c .before .before .before .before .before .pre .1)
 
-shared-slice-read-t21 : tie.Need-shared-slice-read-t21
-shared-slice-read-t21 c = omega (arith, c .before .before .before .before .before .pre .0, c .before .before .before .before .before .pre .1)
+cast-t21 : tie.Need-cast-t21
+cast-t21 c = fits-widen {w = w8} tt (c .shared-slice-known5 .given (c .before .before .before .before .before .args .at + 4))
 
 add-t22 : tie.Need-add-t22
 add-t22 c = omega (arith, c .before .before .before .before .before .pre .0, c .before .before .before .before .before .pre .1)
 
-mul-t23 : tie.Need-mul-t23
-mul-t23 c = omega (arith, c .before .before .before .before .before .pre .0, c .before .before .before .before .before .pre .1)
+shared-slice-read-t24 : tie.Need-shared-slice-read-t24
+shared-slice-read-t24 c = omega (arith, c .before .before .before .before .before .before .pre .0, c .before .before .before .before .before .before .pre .1)
 
-shared-slice-read-t25 : tie.Need-shared-slice-read-t25
-shared-slice-read-t25 c = omega (arith, c .before .before .before .before .before .before .pre .0, c .before .before .before .before .before .before .pre .1)
+cast-t25 : tie.Need-cast-t25
+cast-t25 c = fits-widen {w = w8} tt (c .shared-slice-known6 .given (c .before .before .before .before .before .before .args .at + 5))
 
 add-t26 : tie.Need-add-t26
 add-t26 c = omega (arith, c .before .before .before .before .before .before .pre .0, c .before .before .before .before .before .before .pre .1)
 
-mul-t27 : tie.Need-mul-t27
-mul-t27 c = omega (arith, c .before .before .before .before .before .before .pre .0, c .before .before .before .before .before .before .pre .1)
+shared-slice-read-t28 : tie.Need-shared-slice-read-t28
+shared-slice-read-t28 c = omega (arith, c .before .before .before .before .before .before .before .pre .0, c .before .before .before .before .before .before .before .pre .1)
 
-shared-slice-read-t29 : tie.Need-shared-slice-read-t29
-shared-slice-read-t29 c = omega (arith, c .before .before .before .before .before .before .before .pre .0, c .before .before .before .before .before .before .before .pre .1)
+cast-t29 : tie.Need-cast-t29
+cast-t29 c = fits-widen {w = w8} tt (c .shared-slice-known7 .given (c .before .before .before .before .before .before .before .args .at + 6))
 
 add-t30 : tie.Need-add-t30
 add-t30 c = omega (arith, c .before .before .before .before .before .before .before .pre .0, c .before .before .before .before .before .before .before .pre .1)
 
-mul-t31 : tie.Need-mul-t31
-mul-t31 c = omega (arith, c .before .before .before .before .before .before .before .pre .0, c .before .before .before .before .before .before .before .pre .1)
+shared-slice-read-t32 : tie.Need-shared-slice-read-t32
+shared-slice-read-t32 c = omega (arith, c .before .before .before .before .before .before .before .before .pre .0, c .before .before .before .before .before .before .before .before .pre .1)
 
-shared-slice-read-t33 : tie.Need-shared-slice-read-t33
-shared-slice-read-t33 c = omega (arith, c .before .before .before .before .before .before .before .before .pre .0, c .before .before .before .before .before .before .before .before .pre .1)
+cast-t33 : tie.Need-cast-t33
+cast-t33 c = fits-widen {w = w8} tt (c .shared-slice-known8 .given (c .before .before .before .before .before .before .before .before .args .at + 7))
 
 returns : tie.Need-returns
 returns c = eight-read (now (c .before .before .before .before .before .before .before .before .args .sums)) (c .before .before .before .before .before .before .before .before .args .at)
@@ -81,27 +84,27 @@ pub eight-at-spec : {M : Type 1} → statement M
 eight-at-spec =
     tie.close
     (tie.spec
-    mul-t3
-    shared-slice-read-t5
+    shared-slice-read-t4
+    cast-t5
     add-t6
-    mul-t7
-    shared-slice-read-t9
+    shared-slice-read-t8
+    cast-t9
     add-t10
-    mul-t11
-    shared-slice-read-t13
+    shared-slice-read-t12
+    cast-t13
     add-t14
-    mul-t15
-    shared-slice-read-t17
+    shared-slice-read-t16
+    cast-t17
     add-t18
-    mul-t19
-    shared-slice-read-t21
+    shared-slice-read-t20
+    cast-t21
     add-t22
-    mul-t23
-    shared-slice-read-t25
+    shared-slice-read-t24
+    cast-t25
     add-t26
-    mul-t27
-    shared-slice-read-t29
+    shared-slice-read-t28
+    cast-t29
     add-t30
-    mul-t31
-    shared-slice-read-t33
+    shared-slice-read-t32
+    cast-t33
     returns)
