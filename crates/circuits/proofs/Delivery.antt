@@ -8,7 +8,7 @@
 use Prim.Native.Nat.{ℕ, _+_, _*_, _^_, _≤_, _<_}
 use native.Mathlib.Nat.{mul-le-mul-right, one-mul}
 use native.Mathlib.Omega.{arith}
-use mathlib.Core.Path.{_≡_, refl, sym, ap, subst, _∙_}
+use mathlib.Core.Path.{_≡_, sym, ap, subst, _∙_}
 use mathlib.Core.List.{List}
 use lib.ListN.{length}
 use mir.Syntax.{w64}
@@ -16,12 +16,13 @@ use mir.Val.{Fits}
 use Rattle.job.specs.declared.Job.{Job}
 use Rattle.gates.specs.Form.{tableBytes}
 use Rattle.gates.specs.Rows.{part, splice}
-use Rattle.tables.specs.Circuit.{fixingOf, circuitEntry, circuitTable}
+use Rattle.tables.specs.Circuit.{fixingOf, circuitTable}
 use Rattle.differences.specs.Known.{Spacious, Narrow}
 use Rattle.circuits.specs.Faulty.{Asked}
-use Rattle.tables.specs.Work.{Good, lineValue, lineTable, goodFix, tablesFrom}
+use Rattle.tables.specs.Work.{Good, lineTable, goodFix, tablesFrom}
 use Rattle.tables.specs.Operations.{tablesTo}
 use Rattle.tables.specs.declared.rows.Shape.{Shape}
+use Rattle.tables.proofs.Alone.{circuit-line}
 use Rattle.tables.proofs.Delivered.{tables-all}
 use Rattle.tables.proofs.Space.{times-some}
 use Rattle.differences.proofs.Space.{spacious-bytes, spacious-some, spacious-row}
@@ -29,8 +30,8 @@ use Rattle.circuits.proofs.Putting.{line-before}
 
 -- the good circuit is circuit 0
 good-circuit : (j : Job) → lineTable goodFix j (j .output) ≡ circuitTable j 0
-unfolding circuitTable circuitEntry fixingOf lineValue
-good-circuit j = refl
+unfolding fixingOf
+good-circuit j = circuit-line j 0
 
 abbrev pub Ready : Job → Shape → ℕ → ℕ → List ℕ → ℕ → Type 0
 Ready j shape width place rows size =

@@ -7,14 +7,15 @@
 --   written-more      a turn writes one byte more
 --   written-length    the bytes are as many as before
 --   written-before    the bytes before the place are as they were
+--   written-behind    so are those behind the last place (splice-behind)
 --   written-all       all are written
-use Prim.Native.Nat.{ℕ, suc, _+_, _≤_, _<_, zero-le}
+use Prim.Native.Nat.{ℕ, suc, _+_, _-_, _≤_, _<_, zero-le}
 use native.Mathlib.Omega.{arith}
 use native.Mathlib.Nat.{add-zero, le-antisymm}
 use mathlib.Core.Path.{_≡_, sym, ap, _∙_}
 use mathlib.Core.List.{List, [], _∷_, _++_, append-assoc, append-nil}
 use lib.ListN.{length, getD, take, drop, set, length-append, length-take, length-drop, take-append-drop, List·getD-append}
-use lib.Seq.{drop-cons, set-at, getD-take, append-snoc}
+use lib.Seq.{drop-cons, set-at, getD-take, getD-drop, getD-append-add, append-snoc}
 use Rattle.bits.specs.Packed.{tabulate}
 use Rattle.bits.proofs.Packed.{length-tabulate, tabulate-more}
 use Rattle.gates.specs.Rows.{splice}
@@ -52,6 +53,15 @@ splice-more rows to f i h =
     ap (λ (n : ℕ). set (splice rows to (tabulate i f)) (to + n) (f i)) (sym (length-tabulate i f))
     ∙ splice-snoc rows to (tabulate i f) (f i) (rw length-tabulate h) ∙ ap (splice rows to) (sym (tabulate-more i f))
 
+splice-behind : (rows : List ℕ) (to : ℕ) (new : List ℕ) (k : ℕ) → to + length new ≤ length rows → to + length new ≤ k → getD (splice rows to new) k 0 ≡ getD rows k 0
+splice-behind rows to new k h l =
+    let head : length (take to rows ++ new) ≡ to + length new = simp (length-append, length-take) (omega arith) in
+    let at : k ≡ length (take to rows ++ new) + (k - (to + length new)) = omega arith in
+    let back : to + length new + (k - (to + length new)) ≡ k = omega arith in
+    ap (λ (n : ℕ). getD (splice rows to new) n 0) at
+    ∙ getD-append-add (take to rows ++ new) (drop (to + length new) rows) (k - (to + length new)) 0
+    ∙ getD-drop (to + length new) rows (k - (to + length new)) 0 ∙ ap (λ (n : ℕ). getD rows n 0) back
+
 pub record Written (start : List ℕ) (to count : ℕ) (f : ℕ → ℕ) (rows : List ℕ) (i : ℕ) : Type 0 where
   pub room : to + count ≤ length start
   pub within : i ≤ count
@@ -67,6 +77,11 @@ module _ {start : List ℕ} {to count : ℕ} {f : ℕ → ℕ} where
 
     pub written-before : (j : ℕ) → j < to → getD rows j 0 ≡ getD start j 0
     written-before j l = ap (λ (s : List ℕ). getD s j 0) (w .so-far) ∙ splice-before start to (tabulate i f) j (omega arith) l
+
+    pub written-behind : (j : ℕ) → to + count ≤ j → getD rows j 0 ≡ getD start j 0
+    written-behind j l =
+        ap (λ (s : List ℕ). getD s j 0) (w .so-far)
+        ∙ splice-behind start to (tabulate i f) j (omega (arith, length-tabulate i f, w .room, w .within)) (omega (arith, length-tabulate i f, w .within))
 
     pub written-more : (v : ℕ) → i < count → v ≡ f i → Written start to count f (set rows (to + i) v) (i + 1)
     written-more v h e =

@@ -1,7 +1,5 @@
 -- One circuit worked out by itself (specs/Single.antt).
 --
---   splice-behind    the bytes behind new ones are as they were
---   written-behind   so are those behind the ones that a loop writes
 --   length-part      a part that ends within the bytes is as long as it says
 --   spare-kept       rows of the same length still have a row for each line and one more
 --   spare-row        each of these rows lies within the rows, and its place fits a word (spare-fits, read-fits)
@@ -28,16 +26,16 @@ use native.Mathlib.Omega.{arith}
 use native.Mathlib.Decide.{ℕ-discrete}
 use mathlib.Core.Path.{_≡_, refl, sym, ap, subst, _∙_}
 use mathlib.Core.Bool.{Bool, true, cond}
-use mathlib.Core.List.{List, _++_}
+use mathlib.Core.List.{List}
 use mathlib.Core.Logic.{⊎-elim}
 use borrow.Author.Tests.{lt-ltb, le-ltb}
-use lib.ListN.{length, getD, take, drop, length-append, length-take, length-drop}
-use lib.Seq.{getD-append-add, getD-drop, length-take-le}
+use lib.ListN.{length, drop, length-drop}
+use lib.Seq.{length-take-le}
 use mir.Syntax.{w64}
 use mir.Val.{Fits}
 use Rattle.bits.specs.Packed.{tabulate, packed, entry}
 use Rattle.bits.proofs.Below.{lt-or-ge}
-use Rattle.bits.proofs.Packed.{length-tabulate, length-packed, packed-ext}
+use Rattle.bits.proofs.Packed.{length-packed, packed-ext}
 use Rattle.job.specs.Check.{Valid}
 use Rattle.job.specs.Layout.{maxInputs, maxGates}
 use Rattle.job.specs.Record.{gateKind, gateA, gateB, gateAt, faultA, faultB, faultAt, lines, levelNumber}
@@ -50,7 +48,6 @@ use Rattle.gates.specs.Rows.{part, splice, stepFits}
 use Rattle.gates.specs.Values.{inputValue}
 use Rattle.gates.specs.declared.Form.{Form}
 use Rattle.gates.proofs.Answers.{kind-lt}
-use Rattle.gates.proofs.Splice.{Written}
 use Rattle.tables.specs.Circuit.{Fixing, free, valuesTo, fixingOf, circuitEntry, circuitTable}
 use Rattle.tables.specs.Lines.{isFixed}
 use Rattle.tables.specs.Single.{Spare, Worked, Inputs, Carries, Gives, startOf}
@@ -65,21 +62,6 @@ use Rattle.tables.proofs.Shaped.{gate-spliced}
 use Rattle.tables.proofs.Sizes.{byte-inputs, circuit-fits}
 use Rattle.tables.proofs.Space.{lines-most, tableBytes-most, bytes-some, row-order}
 use Rattle.tables.proofs.Values.{line-own, first-below, second-below}
-
-splice-behind : (rows : List ℕ) (to : ℕ) (new : List ℕ) (k : ℕ) → to + length new ≤ length rows → to + length new ≤ k → getD (splice rows to new) k 0 ≡ getD rows k 0
-splice-behind rows to new k h l =
-    let head : length (take to rows ++ new) ≡ to + length new = simp (length-append, length-take) (omega arith) in
-    let at : k ≡ length (take to rows ++ new) + (k - (to + length new)) = omega arith in
-    let back : to + length new + (k - (to + length new)) ≡ k = omega arith in
-    ap (λ (n : ℕ). getD (splice rows to new) n 0) at
-    ∙ getD-append-add (take to rows ++ new) (drop (to + length new) rows) (k - (to + length new)) 0
-    ∙ getD-drop (to + length new) rows (k - (to + length new)) 0 ∙ ap (λ (n : ℕ). getD rows n 0) back
-
-pub written-behind : {start : List ℕ} {to count : ℕ} {f : ℕ → ℕ} {rows : List ℕ} {i : ℕ} → Written start to count f rows i
-    → (k : ℕ) → to + count ≤ k → getD rows k 0 ≡ getD start k 0
-written-behind {start} {to} {count} {f} {rows} {i} w k h =
-    ap (λ (s : List ℕ). getD s k 0) (w .so-far)
-    ∙ splice-behind start to (tabulate i f) k (omega (arith, length-tabulate i f, w .room, w .within)) (omega (arith, length-tabulate i f, w .within))
 
 length-part : (at count : ℕ) (rows : List ℕ) → at + count ≤ length rows → length (part at count rows) ≡ count
 length-part at count rows h = length-take-le count (drop at rows) (omega (arith, length-drop at rows))
@@ -344,7 +326,7 @@ module _ (inputs : ℕ) (x : Fault) where
   start-lines : (count : ℕ) → faultB x < count → inputs ≤ count → startOf inputs x ≤ count
   start-lines count high less = start-case (λ k. k ≤ count) (λ h. less) (λ h. omega arith)
 
-circuit-line : (j : Job) (c : ℕ) → lineTable (fixingOf j c) j (j .output) ≡ circuitTable j c
+pub circuit-line : (j : Job) (c : ℕ) → lineTable (fixingOf j c) j (j .output) ≡ circuitTable j c
 unfolding circuitTable circuitEntry lineValue
 circuit-line j c = refl
 
