@@ -1,4 +1,4 @@
--- The table of a faulty circuit, put together byte by byte (specs/Known.antt).
+-- The table of a faulty circuit, put together byte by byte (specs/Faulty.antt).
 --
 --   mixed            a byte of the table, from bytes of the good output, and of the difference and good value of each line, and of what the fault gives them
 --   mixed-digit      each bit of it comes from the bits at the same place

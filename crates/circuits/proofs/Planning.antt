@@ -1,4 +1,4 @@
--- Laws of the rows in which the tables of some circuits are worked out (specs/Known.antt): they have room, and hold what is delivered.
+-- Laws of the rows in which the tables of all circuits are worked out (specs/Planned.antt): they have room, and hold what is delivered.
 --
 --   planned-lines, planned-most, planned-place   the numbers of rows fit a word
 --   planned-some      there is a line

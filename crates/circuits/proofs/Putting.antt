@@ -1,4 +1,4 @@
--- Laws of the places from which faulty circuits' tables are put together, and of the tables put so far (specs/Known.antt).
+-- Laws of the places from which faulty circuits' tables are put together, and of the tables put so far (specs/Faulty.antt).
 --
 --   reach-fits, line-fits, difference-fits   the places of rows, and of a line's good row and difference, fit a word
 --   reach-below     the value's row stands behind those of the good circuit

@@ -8,8 +8,9 @@ use reference::{decide, Chosen, Fault, Gate, Job, Kind, Purpose, Refusal, Table,
 const MOST_LINES: usize = MOST_INPUTS + MOST_GATES;
 /// So many circuits stand side by side at most: the good one, and others in which a line is changed.
 const COLUMNS: usize = 22;
-/// A line's tables in all columns, line after line.
-type Rows = [u8; MOST_LINES * COLUMNS * 32];
+/// A line's tables in all columns, line after line: enough for every job, and for most of fewer inputs.
+const LARGE: usize = MOST_LINES * COLUMNS * 32;
+const SMALL: usize = 16384;
 /// A table for each line.
 type Lines = [[u8; 32]; MOST_LINES];
 /// The packed tables of all circuits, 32 bytes each.
@@ -200,7 +201,7 @@ fn asked(faults: &[Fault], readers: &[u8; MOST_LINES], lines: usize) -> [bool; M
 }
 
 /// The good circuit in column 0, and behind it a column for each stem, in which the stem is changed.
-fn side_by_side(job: &Job, stems: &[u8], rows: &mut Rows) {
+fn side_by_side(job: &Job, stems: &[u8], rows: &mut [u8]) {
     let inputs = usize::from(job.inputs);
     let bytes = (1usize << inputs).div_ceil(8);
     let size = (stems.len() + 1) * bytes;
@@ -228,7 +229,7 @@ fn side_by_side(job: &Job, stems: &[u8], rows: &mut Rows) {
 
 /// The differences of the asked lines: where the output changes with the line. Leaves the good circuit in column 0 of the
 /// rows, and gives their width.
-fn differences(job: &Job, faults: &[Fault], rows: &mut Rows, difference: &mut Lines) -> usize {
+fn differences(job: &Job, faults: &[Fault], rows: &mut [u8], difference: &mut Lines) -> usize {
     let (inputs, output) = (usize::from(job.inputs), usize::from(job.output));
     let lines = inputs + usize::from(job.gate_count);
     let bytes = (1usize << inputs).div_ceil(8);
@@ -275,7 +276,7 @@ fn differences(job: &Job, faults: &[Fault], rows: &mut Rows, difference: &mut Li
 }
 
 #[inline]
-fn row(rows: &Rows, at: usize, bytes: usize) -> [u8; 32] {
+fn row(rows: &[u8], at: usize, bytes: usize) -> [u8; 32] {
     let mut row = [0; 32];
     row[..bytes].copy_from_slice(&rows[at * bytes..][..bytes]);
     row
@@ -283,13 +284,22 @@ fn row(rows: &Rows, at: usize, bytes: usize) -> [u8; 32] {
 
 /// The tables of all circuits.
 fn all_tables(job: &Job, tables: &mut Tables) {
+    let lines = usize::from(job.inputs) + usize::from(job.gate_count);
+    if lines * COLUMNS * (1usize << job.inputs).div_ceil(8) <= SMALL {
+        all_tables_in(job, &mut [0; SMALL], tables);
+    } else {
+        all_tables_in(job, &mut [0; LARGE], tables);
+    }
+}
+
+/// The same, in rows that are there.
+fn all_tables_in(job: &Job, rows: &mut [u8], tables: &mut Tables) {
     let inputs = usize::from(job.inputs);
     let bytes = (1usize << inputs).div_ceil(8);
     let faults = &job.faults[..job.fault_count.into()];
-    let mut rows = [0; MOST_LINES * COLUMNS * 32];
     let mut difference = [[0; 32]; MOST_LINES];
-    let width = differences(job, faults, &mut rows, &mut difference);
-    let good = row(&rows, usize::from(job.output) * width, bytes);
+    let width = differences(job, faults, rows, &mut difference);
+    let good = row(rows, usize::from(job.output) * width, bytes);
     tables[0] = good;
     for (fault, table) in faults.iter().zip(&mut tables[1..]) {
         let (low, high) = lines_of(*fault);
