@@ -24,8 +24,7 @@ use Rattle.tables.specs.Operations.{tablesTo}
 use Rattle.tables.specs.declared.rows.Shape.{Shape}
 use Rattle.tables.proofs.Alone.{circuit-line}
 use Rattle.tables.proofs.Delivered.{tables-all}
-use Rattle.tables.proofs.Space.{times-some}
-use Rattle.differences.proofs.Space.{spacious-bytes, spacious-some, spacious-row}
+use Rattle.tables.proofs.Space.{times-some, roomy-bytes, roomy-row, roomy-some}
 use Rattle.circuits.proofs.Putting.{line-before}
 
 -- the good circuit is circuit 0
@@ -42,11 +41,11 @@ module _ (j : Job) (shape : Shape) (width place : ℕ) (rows out : List ℕ) (re
   spacious = ready .0
 
   bytes : shape .bytes ≡ tableBytes (j .inputs)
-  bytes = spacious-bytes j shape place rows spacious
+  bytes = roomy-bytes j shape (place + 2) rows spacious
 
   good-end : j .output * width * shape .bytes + shape .bytes ≤ length rows
   good-end =
-      spacious-row j shape place rows spacious (j .output * width)
+      roomy-row j shape (place + 2) rows spacious (j .output * width)
       (omega (arith, line-before j width place (j .output) (ready .1) (ready .4) (spacious .valid .output)))
 
   good-first : tableBytes (j .inputs) ≤ length out
@@ -58,10 +57,10 @@ module _ (j : Job) (shape : Shape) (width place : ℕ) (rows out : List ℕ) (re
   good-room = (omega (arith, bytes, good-first), good-end)
 
   pub good-fits : length rows < 2 ^ 64 → Fits w64 (j .output * width * shape .bytes)
-  good-fits short = record { fits = omega (arith, good-end, spacious-some j shape place rows spacious) }
+  good-fits short = record { fits = omega (arith, good-end, roomy-some j shape (place + 2) rows spacious) }
 
   pub good-row-fits : length rows < 2 ^ 64 → Fits w64 (j .output * width)
-  good-row-fits short = record { fits = times-some (j .output * width) (shape .bytes) (spacious-some j shape place rows spacious) (good-fits short .fits) }
+  good-row-fits short = record { fits = times-some (j .output * width) (shape .bytes) (roomy-some j shape (place + 2) rows spacious) (good-fits short .fits) }
 
   pub ready-kept : (mid : List ℕ) → length mid ≡ length out → Ready j shape width place rows (length mid)
   ready-kept mid same = subst (λ (k : ℕ). Ready j shape width place rows k) (sym same) ready

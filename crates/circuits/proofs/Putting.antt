@@ -44,8 +44,7 @@ use Rattle.tables.proofs.Faults.{given, given-table}
 use Rattle.tables.proofs.Held.{Puts, row-puts}
 use Rattle.tables.proofs.Shaped.{shaped-some}
 use Rattle.tables.proofs.Sizes.{byte-inputs}
-use Rattle.tables.proofs.Space.{fault-index, row-order}
-use Rattle.differences.proofs.Space.{spacious-kept, spacious-row}
+use Rattle.tables.proofs.Space.{fault-index, row-order, roomy-kept, roomy-row}
 
 module _ (x : Fault) (output width place : ℕ) (shape : Shape) (rows : List ℕ) (reach : Reaches x output width place shape rows) where
   row-end : (r : ℕ) → r ≤ place + 1 → r * shape .bytes + shape .bytes ≤ length rows
@@ -189,7 +188,7 @@ module _ (j : Job) (shape : Shape) (width place : ℕ) (start begun : List ℕ) 
         puts =
             row-puts j (place + 1) (fixedRow (shapeOf (j .inputs)) width (faultAt j i) rows) rows after
             (ap length value-table ∙ length-packed (2 ^ (j .inputs)) (λ m. given (faultAt j i) (valuesTo free j m (lines j))))
-            (subst (λ (k : ℕ). (place + 1) * k + k ≤ length rows) bytes (spacious-row j shape place rows (p .spacious) (place + 1) (omega arith)))
+            (subst (λ (k : ℕ). (place + 1) * k + k ≤ length rows) bytes (roomy-row j shape (place + 2) rows (p .spacious) (place + 1) (omega arith)))
             (put ∙ ap (λ (s : Shape). splice rows ((place + 1) * s .bytes) (fixedRow s width (faultAt j i) rows)) (p .spacious .shaped))
 
         good-after : Good j width after
@@ -213,7 +212,7 @@ module _ (j : Job) (shape : Shape) (width place : ℕ) (start begun : List ℕ) 
             let one : suc i ≡ i + 1 = omega arith in
             let w : ℕ = tableBytes (j .inputs) in
             record {
-              spacious = spacious-kept j shape place rows (p .spacious) after same;
+              spacious = roomy-kept j shape (place + 2) rows (p .spacious) after same;
               narrow = p .narrow;
               good = good-after;
               asked = asked-after;

@@ -46,8 +46,7 @@ use Rattle.differences.proofs.Deriving.{put-nothing, is-ones, is-none, 
 use Rattle.differences.proofs.Differences.{difference-bit, difference-output, difference-unread, difference-through}
 use Rattle.tables.proofs.Held.{Puts, row-puts, entry-table, line-read}
 use Rattle.differences.proofs.Sizes.{lines-listed, some-gates}
-use Rattle.tables.proofs.Space.{lines-most}
-use Rattle.differences.proofs.Space.{spacious-bytes, spacious-some, spacious-row}
+use Rattle.tables.proofs.Space.{lines-most, roomy-bytes, roomy-row, roomy-some}
 use Rattle.differences.proofs.Stemming.{row-far, line-near}
 use Rattle.tables.proofs.Values.{first-below, second-below}
 
@@ -113,7 +112,7 @@ module _ (j : Job) (shape : Shape) (w : Wiring) (width place : ℕ) (start : Lis
     put-puts =
         row-puts j (place - l) (differenceTable j l) rows after (length-packed (2 ^ (j .inputs)) (difference j l))
         (subst (λ (k : ℕ). (place - l) * tableBytes (j .inputs) + tableBytes (j .inputs) ≤ k) (sym (now .long))
-        (subst (λ (b : ℕ). (place - l) * b + b ≤ length start) (spacious-bytes j shape place start spacious) (spacious-row j shape place start spacious (place - l) (omega arith))))
+        (subst (λ (b : ℕ). (place - l) * b + b ≤ length start) (roomy-bytes j shape (place + 2) start spacious) (roomy-row j shape (place + 2) start spacious (place - l) (omega arith))))
         (subst (λ (s : Shape). after ≡ splice rows ((place - l) * s .bytes) (table s)) (spacious .shaped) put ∙ ap (splice rows ((place - l) * tableBytes (j .inputs))) right)
 
   -- the table that is 1 everywhere, and that which is 0
@@ -208,10 +207,10 @@ module _ (j : Job) (shape : Shape) (w : Wiring) (width place : ℕ) (start : Lis
     pub line-ways : Ways how (j .inputs + q) (gateAt j q) l width place shape rows
     line-ways =
         record {
-          some = spacious-some j shape place start spacious;
+          some = roomy-some j shape (place + 2) start spacious;
           room =
               subst (λ (k : ℕ). (place + 2) * shape .bytes ≤ k) (sym (now .long))
-              (subst (λ (b : ℕ). (place + 2) * b ≤ length start) (sym (spacious-bytes j shape place start spacious)) (spacious .room));
+              (subst (λ (b : ℕ). (place + 2) * b ≤ length start) (sym (roomy-bytes j shape (place + 2) start spacious)) (spacious .room));
           line-below = line-near j width place l narrow below;
           above-below = above-small;
           before = λ a b c. go a b c (getD (w .asked) l false) refl (eqb l (j .output)) refl;

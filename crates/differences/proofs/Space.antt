@@ -10,8 +10,7 @@
 --   input-shape      an input of the job is one of the shape
 --   row-inside       a row of a line's block lies within the rows, and so does the block (block-inside, block-room)
 --   block-space      there is room for the block, and its place fits a word (place-small)
---   spacious-kept, spacious-bytes, spacious-some   so for rows with differences behind the blocks
---   narrow-inside    the blocks lie within these
+--   narrow-inside    the blocks lie within rows with differences behind them
 use Prim.Native.Nat.{ℕ, _+_, _*_, _^_, _≤_, _<_}
 use native.Mathlib.Nat.{le-trans, mul-le-mul-right, suc-mul, add-mul}
 use native.Mathlib.Omega.{arith}
@@ -112,25 +111,6 @@ module _ (j : Job) (shape : Shape) (stems : List ℕ) (b : Batch) (rows : List �
     row-inside i less = le-trans (row-order (rowOf b l + i) (rowOf b l + b .width) (tableBytes (j .inputs)) (omega arith)) block-inside
 
 module _ (j : Job) (shape : Shape) (place : ℕ) (rows : List ℕ) (spacious : Spacious j shape place rows) where
-  pub spacious-kept : (after : List ℕ) → length after ≡ length rows → Spacious j shape place after
-  spacious-kept after e =
-      record {
-        valid = spacious .valid;
-        shaped = spacious .shaped;
-        room = subst (λ (k : ℕ). (place + 2) * tableBytes (j .inputs) ≤ k) (sym e) (spacious .room);
-      }
-
-  pub spacious-bytes : shape .bytes ≡ tableBytes (j .inputs)
-  spacious-bytes = ap (λ (s : Shape). s .bytes) (spacious .shaped)
-
-  pub spacious-some : 1 ≤ shape .bytes
-  spacious-some = subst (λ (k : ℕ). 1 ≤ k) (sym spacious-bytes) (bytes-some (j .inputs))
-
-  -- a row up to the one behind the differences
-  pub spacious-row : (r : ℕ) → r ≤ place + 1 → r * shape .bytes + shape .bytes ≤ length rows
-  spacious-row r h =
-      le-trans (row-order r (place + 2) (shape .bytes) (omega arith)) (subst (λ (k : ℕ). (place + 2) * k ≤ length rows) (sym spacious-bytes) (spacious .room))
-
   pub narrow-inside : (width : ℕ) → Narrow j width place → lines j * width * tableBytes (j .inputs) ≤ length rows
   narrow-inside width narrow =
       let e : lines j * width ≤ place + 2 = omega (arith, narrow) in le-trans (mul-le-mul-right (tableBytes (j .inputs)) e) (spacious .room)

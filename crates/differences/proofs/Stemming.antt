@@ -40,8 +40,8 @@ use Rattle.differences.specs.declared.columns.Batch.{Batch}
 use Rattle.tables.specs.declared.rows.Shape.{Shape}
 use Rattle.differences.proofs.Batching.{side-good, column-bits}
 use Rattle.tables.proofs.Held.{Puts, row-puts, line-read}
-use Rattle.tables.proofs.Space.{row-order}
-use Rattle.differences.proofs.Space.{row-behind, spacious-bytes, spacious-row, narrow-inside}
+use Rattle.tables.proofs.Space.{row-order, roomy-bytes, roomy-row}
+use Rattle.differences.proofs.Space.{row-behind, narrow-inside}
 
 pub rising-fewer : (j : Job) (stems : List ℕ) (count : ℕ) → Rising j stems count → (k : ℕ) → k ≤ count → Rising j stems k
 rising-fewer j stems count r k h =
@@ -99,12 +99,12 @@ module _ (j : Job) (shape : Shape) (stems : List ℕ) (place : ℕ) (b : Batch) 
     stem-index = omega (arith, now .some, rising .listed)
 
     bytes : shape .bytes ≡ tableBytes (j .inputs)
-    bytes = spacious-bytes j shape place start spacious
+    bytes = roomy-bytes j shape (place + 2) start spacious
 
     to-ends : (place - getD stems (b .first + i - 1) 0) * shape .bytes + shape .bytes ≤ length rows
     to-ends =
         subst (λ (k : ℕ). (place - getD stems (b .first + i - 1) 0) * shape .bytes + shape .bytes ≤ k) (sym (now .long))
-        (spacious-row j shape place start spacious (place - getD stems (b .first + i - 1) 0) (omega arith))
+        (roomy-row j shape (place + 2) start spacious (place - getD stems (b .first + i - 1) 0) (omega arith))
 
     -- the output's row in a column ends before the differences
     column-ends : (k : ℕ) → k < b .width → (rowOf b (j .output) + k) * shape .bytes + shape .bytes ≤ (place - getD stems (b .first + i - 1) 0) * shape .bytes

@@ -30,14 +30,12 @@ use Rattle.gates.specs.Form.{tableBytes, combined, slopeForm}
 use Rattle.gates.specs.Rows.{splice}
 use Rattle.gates.specs.declared.Form.{Form}
 use Rattle.tables.specs.Sizes.{shapeOf}
-use Rattle.tables.specs.Work.{rowAt}
+use Rattle.tables.specs.Work.{rowAt, Roomy}
 use Rattle.tables.specs.declared.rows.Shape.{Shape}
 use Rattle.differences.specs.Differences.{differenceTable}
 
-pub record Spacious (j : Job) (shape : Shape) (place : ℕ) (rows : List ℕ) : Type 0 where
-  pub valid : Valid j
-  pub shaped : shape ≡ shapeOf (j .inputs)
-  pub room : (place + 2) * tableBytes (j .inputs) ≤ length rows
+abbrev pub Spacious : Job → Shape → ℕ → List ℕ → Type 0
+Spacious j shape place rows = Roomy j shape (place + 2) rows
 
 abbrev pub Narrow : Job → ℕ → ℕ → Type 0
 Narrow j width place = lines j * width + lines j ≤ place + 1

@@ -1,8 +1,7 @@
 -- One circuit worked out by itself (specs/Single.antt).
 --
 --   length-part      a part that ends within the bytes is as long as it says
---   spare-kept       rows of the same length still have a row for each line and one more
---   spare-row        each of these rows lies within the rows, and its place fits a word (spare-fits, read-fits)
+--   spare-row        the rows of the lines, and one more, lie within the rows, and its place fits a word (spare-fits, read-fits)
 --   spare-input      an input of the job is one of the shape
 --   spare-space      there is room for a table in a row
 --   spare-below, spare-fixed, spare-copy   what a gate's table, a fault's table and a copy of that ask for
@@ -60,35 +59,18 @@ use Rattle.tables.proofs.Faults.{fixedBy-loose, fixedBy-bit, fixes-low,
 use Rattle.tables.proofs.Held.{Bits, Puts, row-puts, input-table, gate-table}
 use Rattle.tables.proofs.Shaped.{gate-spliced}
 use Rattle.tables.proofs.Sizes.{byte-inputs, circuit-fits}
-use Rattle.tables.proofs.Space.{lines-most, tableBytes-most, bytes-some, row-order}
+use Rattle.tables.proofs.Space.{lines-most, tableBytes-most, row-order, roomy-kept, roomy-some, roomy-row, table-row}
 use Rattle.tables.proofs.Values.{line-own, first-below, second-below}
 
 length-part : (at count : ℕ) (rows : List ℕ) → at + count ≤ length rows → length (part at count rows) ≡ count
 length-part at count rows h = length-take-le count (drop at rows) (omega (arith, length-drop at rows))
 
 module _ (j : Job) (shape : Shape) (rows : List ℕ) (spare : Spare j shape rows) where
-  pub spare-kept : (after : List ℕ) → length after ≡ length rows → Spare j shape after
-  spare-kept after e =
-      record {
-        valid = spare .valid;
-        shaped = spare .shaped;
-        room = subst (λ (k : ℕ). (lines j + 1) * tableBytes (j .inputs) ≤ k) (sym e) (spare .room);
-      }
-
-  pub spare-bytes : shape .bytes ≡ tableBytes (j .inputs)
-  spare-bytes = ap (λ (s : Shape). s .bytes) (spare .shaped)
-
-  spare-some : 1 ≤ shape .bytes
-  spare-some = subst (λ (k : ℕ). 1 ≤ k) (sym spare-bytes) (bytes-some (j .inputs))
-
-  table-row : (r : ℕ) → r ≤ lines j → r * tableBytes (j .inputs) + tableBytes (j .inputs) ≤ length rows
-  table-row r h = le-trans (row-order r (lines j + 1) (tableBytes (j .inputs)) (omega arith)) (spare .room)
-
   pub spare-row : (r : ℕ) → r ≤ lines j → r * shape .bytes + shape .bytes ≤ length rows
-  spare-row r h = subst (λ (k : ℕ). r * k + k ≤ length rows) (sym spare-bytes) (table-row r h)
+  spare-row r h = roomy-row j shape (lines j + 1) rows spare r (omega arith)
 
   pub spare-fits : length rows < 2 ^ 64 → (r : ℕ) → r ≤ lines j → Fits w64 (r * shape .bytes)
-  spare-fits short r h = record { fits = omega (arith, spare-row r h, spare-some) }
+  spare-fits short r h = record { fits = omega (arith, spare-row r h, roomy-some j shape (lines j + 1) rows spare) }
 
   -- so for a row that is read, by another name of its line
   pub read-fits : length rows < 2 ^ 64 → {a k : ℕ} → a ≡ k → {l : ℕ} → k < l → l ≤ lines j → Fits w64 (a * shape .bytes)
@@ -136,7 +118,7 @@ placed-none shape rows = record { long = refl; row = λ l h. absurd (omega arith
 
 module _ (j : Job) (shape : Shape) (start : List ℕ) (spare : Spare j shape start) (line : ℕ) (rows : List ℕ) (placed : Placed shape start line rows) where
   pub placed-spare : Spare j shape rows
-  placed-spare = spare-kept j shape start spare rows (placed .long)
+  placed-spare = roomy-kept j shape (lines j + 1) start spare rows (placed .long)
 
   table-placed : (l : ℕ) → l < line → rowAt j l rows ≡ packed (2 ^ (j .inputs)) (λ m. inputValue m l)
   table-placed l h =
@@ -159,7 +141,7 @@ module _ (j : Job) (shape : Shape) (start : List ℕ) (spare : Spare j shape sta
       puts : Puts j line (packed (2 ^ (j .inputs)) (λ m. inputValue m line)) rows after
       puts =
           row-puts j line (packed (2 ^ (j .inputs)) (λ m. inputValue m line)) rows after (length-packed (2 ^ (j .inputs)) (λ m. inputValue m line))
-          (table-row j shape rows placed-spare line (omega arith))
+          (table-row j shape (lines j + 1) rows placed-spare line (omega arith))
           (subst (λ (s : Shape). after ≡ splice rows (line * s .bytes) (packed (2 ^ (s .inputs)) (λ m. inputValue m line))) (spare .shaped) put)
 
       go : (l : ℕ) → l < line + 1 → Dec (l ≡ line) → rowAt j l after ≡ packed (2 ^ (j .inputs)) (λ m. inputValue m l)
@@ -181,7 +163,7 @@ carrying-none j from to rows h = record { long = refl; late = omega arith; withi
 module _ (j : Job) (shape : Shape) (from to : ℕ) (start : List ℕ) (spare : Spare j shape start) (gates : j .inputs ≤ from) (inside : to ≤ lines j)
     (line : ℕ) (rows : List ℕ) (carrying : Carrying j from to start line rows) where
   pub carrying-spare : Spare j shape rows
-  carrying-spare = spare-kept j shape start spare rows (carrying .long)
+  carrying-spare = roomy-kept j shape (lines j + 1) start spare rows (carrying .long)
 
   pub carrying-all : to ≤ line → Carries j from to start rows
   carrying-all h = subst (λ (k : ℕ). Carries j from k start rows) (le-antisymm (carrying .within) h) (carrying .carries)
@@ -220,7 +202,7 @@ module _ (j : Job) (shape : Shape) (from to : ℕ) (start : List ℕ) (spare : S
       puts : Puts j line table rows after
       unfolding table stepped
       puts =
-          row-puts j line table rows after (length-packed (2 ^ (j .inputs)) _) (table-row j shape rows carrying-spare line (omega arith))
+          row-puts j line table rows after (length-packed (2 ^ (j .inputs)) _) (table-row j shape (lines j + 1) rows carrying-spare line (omega arith))
           (gate-spliced shape (a * shape .bytes) (b * shape .bytes) (line * shape .bytes) rows
           (spare-below j shape rows carrying-spare a b line (omega (arith, first, carrying-first)) (omega (arith, second, carrying-second)) (omega arith))
           (gateKind (gateAt j (line - j .inputs))) form (kind-lt (gateAt j (line - j .inputs))) formed put
@@ -261,14 +243,14 @@ module _ (j : Job) (shape : Shape) (x : Fault) (rows : List ℕ) (spare : Spare 
     (put-first : mid ≡ splice value (a * shape .bytes) (part (lines j * shape .bytes) (shape .bytes) value))
     (put-second : after ≡ splice mid (b * shape .bytes) (part (lines j * shape .bytes) (shape .bytes) mid)) where
   spare-value : Spare j shape value
-  spare-value = spare-kept j shape rows spare value long
+  spare-value = roomy-kept j shape (lines j + 1) rows spare value long
 
   spare-mid : Spare j shape mid
-  spare-mid = spare-kept j shape value spare-value mid longer
+  spare-mid = roomy-kept j shape (lines j + 1) value spare-value mid longer
 
   value-puts : Puts j (lines j) (fixedRow (shapeOf (j .inputs)) 1 x rows) rows value
   value-puts =
-      row-puts j (lines j) (fixedRow (shapeOf (j .inputs)) 1 x rows) rows value (fixed-long (j .inputs) 1 x rows) (table-row j shape rows spare (lines j) (omega arith))
+      row-puts j (lines j) (fixedRow (shapeOf (j .inputs)) 1 x rows) rows value (fixed-long (j .inputs) 1 x rows) (table-row j shape (lines j + 1) rows spare (lines j) (omega arith))
       (put ∙ ap (λ (s : Shape). splice rows (lines j * s .bytes) (fixedRow s 1 x rows)) (spare .shaped))
 
   -- a copy of the fault's row
@@ -276,8 +258,8 @@ module _ (j : Job) (shape : Shape) (x : Fault) (rows : List ℕ) (spare : Spare 
       → to ≡ splice from (k * shape .bytes) (part (lines j * shape .bytes) (shape .bytes) from) → Puts j l (rowAt j (lines j) from) from to
   copied from to room k l e h is =
       row-puts j l (rowAt j (lines j) from) from to
-      (length-part (lines j * tableBytes (j .inputs)) (tableBytes (j .inputs)) from (table-row j shape from room (lines j) (omega arith)))
-      (table-row j shape from room l (omega arith))
+      (length-part (lines j * tableBytes (j .inputs)) (tableBytes (j .inputs)) from (table-row j shape (lines j + 1) from room (lines j) (omega arith)))
+      (table-row j shape (lines j + 1) from room l (omega arith))
       (is ∙ (λ i. splice from (e i * spare .shaped i .bytes) (part (lines j * spare .shaped i .bytes) (spare .shaped i .bytes) from)))
 
   first-puts : Puts j (faultA x) (rowAt j (lines j) value) value mid

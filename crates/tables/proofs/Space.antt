@@ -9,9 +9,15 @@
 --   bytes-some       each has one
 --   row-order        a row before another ends before it
 --   times-some       a factor of a product that fits a word fits one
+--   roomy-kept       rows of the same length are as many
+--   roomy-bytes, roomy-some   the shape has the table's bytes, one or more
+--   roomy-row        each of so many rows lies within the bytes (table-row)
 use Prim.Native.Nat.{ℕ, _+_, _*_, _^_, _≤_, _<_}
 use native.Mathlib.Nat.{le-trans, mul-le-mul-left, mul-le-mul-right, suc-mul, mul-one}
 use native.Mathlib.Omega.{arith}
+use mathlib.Core.Path.{_≡_, sym, ap, subst}
+use mathlib.Core.List.{List}
+use lib.ListN.{length}
 use lib.Pow.{pow-mono, pow-pos}
 use Rattle.job.specs.Check.{Valid}
 use Rattle.job.specs.Layout.{maxInputs, maxGates, maxFaults}
@@ -19,7 +25,8 @@ use Rattle.job.specs.Record.{lines}
 use Rattle.job.specs.declared.Job.{Job}
 use Rattle.gates.specs.Form.{tableBytes}
 use Rattle.tables.specs.Lines.{maxLines}
-use Rattle.tables.specs.Work.{maxTableBytes}
+use Rattle.tables.specs.Work.{maxTableBytes, Roomy}
+use Rattle.tables.specs.declared.rows.Shape.{Shape}
 use Rattle.tables.proofs.Sizes.{table-fits}
 
 pub gate-index : {q count : ℕ} → q < count → count ≤ maxGates → q < maxGates
@@ -52,3 +59,24 @@ row-order r s w h = omega (arith, mul-le-mul-right w h, suc-mul r w)
 
 pub times-some : (row bytes : ℕ) → 1 ≤ bytes → row * bytes < 2 ^ 64 → row < 2 ^ 64
 times-some row bytes some h = omega (arith, mul-le-mul-left row some, mul-one row)
+
+module _ (j : Job) (shape : Shape) (count : ℕ) (rows : List ℕ) (roomy : Roomy j shape count rows) where
+  pub roomy-kept : (after : List ℕ) → length after ≡ length rows → Roomy j shape count after
+  roomy-kept after e =
+      record {
+        valid = roomy .valid;
+        shaped = roomy .shaped;
+        room = subst (λ (k : ℕ). count * tableBytes (j .inputs) ≤ k) (sym e) (roomy .room);
+      }
+
+  pub roomy-bytes : shape .bytes ≡ tableBytes (j .inputs)
+  roomy-bytes = ap (λ (s : Shape). s .bytes) (roomy .shaped)
+
+  pub roomy-some : 1 ≤ shape .bytes
+  roomy-some = subst (λ (k : ℕ). 1 ≤ k) (sym roomy-bytes) (bytes-some (j .inputs))
+
+  pub table-row : (r : ℕ) → r < count → r * tableBytes (j .inputs) + tableBytes (j .inputs) ≤ length rows
+  table-row r h = le-trans (row-order r count (tableBytes (j .inputs)) h) (roomy .room)
+
+  pub roomy-row : (r : ℕ) → r < count → r * shape .bytes + shape .bytes ≤ length rows
+  roomy-row r h = subst (λ (k : ℕ). r * k + k ≤ length rows) (sym roomy-bytes) (table-row r h)

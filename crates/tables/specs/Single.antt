@@ -21,13 +21,11 @@ use Rattle.gates.specs.Form.{tableBytes}
 use Rattle.gates.specs.Values.{inputValue}
 use Rattle.tables.specs.Circuit.{Fixing}
 use Rattle.tables.specs.Sizes.{shapeOf, fixedRow}
-use Rattle.tables.specs.Work.{lineTable, rowAt, Loose}
+use Rattle.tables.specs.Work.{lineTable, rowAt, Loose, Roomy}
 use Rattle.tables.specs.declared.rows.Shape.{Shape}
 
-pub record Spare (j : Job) (shape : Shape) (rows : List ℕ) : Type 0 where
-  pub valid : Valid j
-  pub shaped : shape ≡ shapeOf (j .inputs)
-  pub room : (lines j + 1) * tableBytes (j .inputs) ≤ length rows
+abbrev pub Spare : Job → Shape → List ℕ → Type 0
+Spare j shape rows = Roomy j shape (lines j + 1) rows
 
 abbrev pub Worked : (ℕ → Fixing) → Job → ℕ → List ℕ → Type 0
 Worked fix j to rows = (l : ℕ) → l < to → rowAt j l rows ≡ lineTable fix j l

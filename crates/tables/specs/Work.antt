@@ -6,12 +6,14 @@
 --   rowAt        the bytes of a row
 --   Good         the good circuit's tables stand in rows that are so many apart
 --   Loose        a fixing leaves a line as it is
+--   Roomy        a valid job, its shape, and so many rows
 --   Fixes        the lines that a fault fixes can be fixed: they are lines of the circuit, those of a bridge in order
 use Prim.Native.Nat.{ℕ, _+_, _*_, _^_, _≤_, _<_}
 use mathlib.Core.Path.{_≡_}
 use mathlib.Core.List.{List}
-use lib.ListN.{getD}
+use lib.ListN.{length, getD}
 use Rattle.bits.specs.Packed.{packed}
+use Rattle.job.specs.Check.{Valid}
 use Rattle.job.specs.Layout.{maxInputs, maxGates}
 use Rattle.job.specs.Record.{faultA, faultB, lines}
 use Rattle.job.specs.declared.Fault.{Fault}
@@ -19,7 +21,8 @@ use Rattle.job.specs.declared.Job.{Job}
 use Rattle.gates.specs.Form.{tableBytes}
 use Rattle.gates.specs.Rows.{part}
 use Rattle.tables.specs.Circuit.{Fixing, free, valuesTo, fixedBy, fixingOf, circuitTable}
-use Rattle.tables.specs.Sizes.{block}
+use Rattle.tables.specs.Sizes.{shapeOf, block}
+use Rattle.tables.specs.declared.rows.Shape.{Shape}
 
 -- the bytes of the largest table
 unfoldable pub maxTableBytes : ℕ
@@ -50,6 +53,12 @@ faultFix j x m = fixedBy x (valuesTo free j m (lines j))
 
 abbrev pub Loose : (ℕ → Fixing) → ℕ → Type 0
 Loose fix l = (m v : ℕ) → fix m l v ≡ v
+
+-- so many rows of tables of a valid job's shape
+pub record Roomy (j : Job) (shape : Shape) (count : ℕ) (rows : List ℕ) : Type 0 where
+  pub valid : Valid j
+  pub shaped : shape ≡ shapeOf (j .inputs)
+  pub room : count * tableBytes (j .inputs) ≤ length rows
 
 pub record Fixes (j : Job) (x : Fault) : Type 0 where
   pub low : faultA x ≤ faultB x

@@ -1,10 +1,11 @@
 -- `differences::batches` meets its contract: the first batch, and those behind it.
+use Prim.Native.Nat.{_+_}
 use native.Mathlib.Omega.{arith}
 use mathlib.Core.Path.{_∙_}
-use Rattle.differences.proofs.Space.{spacious-kept}
 use Rattle.differences.proofs.Stemming.{rising-fewer}
 use Rattle.differences.proofs.batches.Statement.{statement}
 use Rattle.differences.proofs.batches.Tie as tie
+use Rattle.tables.proofs.Space.{roomy-kept}
 
 work-batch-requires : tie.Need-work-batch-requires
 work-batch-requires c κs =
@@ -20,7 +21,7 @@ work-batch-requires c κs =
 more-batches-requires : tie.Need-more-batches-requires
 more-batches-requires c κs =
     let a = c .before .before .before .before .before .before .before .args in (
-      spacious-kept (a .job) (a .shape) (a .place) (a .rows .now) (c .before .before .before .before .before .before .before .pre .0) (c .before .before .before .work-batch .last .0) (c .before .before .before .work-batch .kept .0),
+      roomy-kept (a .job) (a .shape) (a .place + 2) (a .rows .now) (c .before .before .before .before .before .before .before .pre .0) (c .before .before .before .work-batch .last .0) (c .before .before .before .work-batch .kept .0),
       c .before .before .before .before .before .before .before .pre .1,
       c .before .before .before .before .before .before .before .pre .2,
       c .before .before .before .before .before .before .before .pre .3,

@@ -1,10 +1,10 @@
 -- `differences::more_batches` meets its contract: each turn works out one batch more.
-use Prim.Native.Nat.{_-_}
+use Prim.Native.Nat.{_+_, _-_}
 use native.Mathlib.Omega.{arith}
-use Rattle.differences.proofs.Space.{spacious-kept}
 use Rattle.differences.proofs.Stemming.{Batches, batches-first, full, batches-wider, batches-next, batches-end, rising-fewer, narrow-fewer}
 use Rattle.differences.proofs.more_batches.Statement.{statement}
 use Rattle.differences.proofs.more_batches.Tie as tie
+use Rattle.tables.proofs.Space.{roomy-kept}
 
 abbrev Inv-loop : tie.InvT-loop
 Inv-loop rows₀ job forms stems count most place shape first₀ width₀ rows first width = Batches job stems count most place rows₀ first width rows
@@ -37,7 +37,7 @@ work-batch-requires : tie.Need-work-batch-requires Inv-loop μ-loop
 work-batch-requires c κs =
     let a = c .before .before .before .before .before .before .args in
     let wider = batches-wider (a .job) (a .stems .now) (a .count) (a .most) (a .place) (a .rows .now) (c .before .before .before .loop .first) (c .before .before .before .loop .width) (c .before .before .before .loop .rows) (c .before .before .before .loop .inv) (c .before .before .loop-test .taken) (c .before .before .before .before .before .before .pre .6) (c .before .least .result) (c .before .least .ensures) (c .before .before .before .before .before .before .pre .4) in (
-      spacious-kept (a .job) (a .shape) (a .place) (a .rows .now) (c .before .before .before .before .before .before .pre .0) (c .before .before .before .loop .rows) (c .before .before .before .loop .inv .long),
+      roomy-kept (a .job) (a .shape) (a .place + 2) (a .rows .now) (c .before .before .before .before .before .before .pre .0) (c .before .before .before .loop .rows) (c .before .before .before .loop .inv .long),
       narrow-fewer (a .job) (a .place) (c .before .before .before .before .before .before .pre .1) (wider .2),
       c .before .before .before .before .before .before .pre .2,
       rising-fewer (a .job) (a .stems .now) (a .count) (c .before .before .before .before .before .before .pre .3) _ (omega (arith, wider .1)),

@@ -1,12 +1,11 @@
 -- `differences::stem_differences` meets its contract: each turn puts the difference of one stem.
-use Prim.Native.Nat.{_-_}
+use Prim.Native.Nat.{_+_, _-_}
 use native.Mathlib.Omega.{arith}
 use borrow.Author.Count.{falls}
 use mir.Facts.{fits-widen}
 use mir.Syntax.{w8}
 use Rattle.job.specs.Layout.{maxInputs, maxGates}
-use Rattle.tables.proofs.Space.{lines-most}
-use Rattle.differences.proofs.Space.{spacious-some}
+use Rattle.tables.proofs.Space.{lines-most, roomy-some}
 use Rattle.differences.proofs.Stemming.{Stemming, stemming-start, stemming-next, stemming-end, stem-below, stem-near, stem-index, good-small, to-small, offset-small, column-small, index-small}
 use Rattle.differences.proofs.stem_differences.Statement.{statement}
 use Rattle.differences.proofs.stem_differences.Tie as tie
@@ -27,7 +26,7 @@ cast-block-place c = omega (arith, lines-most (c .before .before .before .before
 block-place-requires : tie.Need-block-place-requires Inv-loop μ-loop
 block-place-requires c κs =
     let a = c .before .before .before .before .before .args in (
-      spacious-some (a .job) (a .shape) (a .place) (a .rows .now) (c .before .before .before .before .before .pre .0),
+      roomy-some (a .job) (a .shape) (a .place + 2) (a .rows .now) (c .before .before .before .before .before .pre .0),
       good-small (a .job) (a .shape) (a .stems .now) (a .place) (a .batch) (a .rows .now) (c .before .before .before .before .before .pre .0) (c .before .before .before .before .before .pre .1) (c .before .before .before .before .before .pre .3) (c .before .before .before .before .before .pre .4) (c .before .before .loop .i) (c .before .before .loop .rows) (c .before .before .loop .inv) (c .before .loop-test .taken) (c .before .before .before .before .before .good .0 .0),
     )
 

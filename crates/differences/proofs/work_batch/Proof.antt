@@ -1,11 +1,12 @@
 -- `differences::work_batch` meets its contract: the circuits side by side, then where their outputs are not the good one's.
+use Prim.Native.Nat.{_+_}
 use native.Mathlib.Omega.{arith}
 use mathlib.Core.Path.{refl, _∙_}
 use Rattle.differences.proofs.Batching.{side-good}
-use Rattle.differences.proofs.Space.{spacious-kept}
 use Rattle.differences.proofs.Stemming.{batch-sound, differed-behind}
 use Rattle.differences.proofs.work_batch.Statement.{statement}
 use Rattle.differences.proofs.work_batch.Tie as tie
+use Rattle.tables.proofs.Space.{roomy-kept}
 
 work-out-requires : tie.Need-work-out-requires
 work-out-requires c κs =
@@ -18,7 +19,7 @@ element-copy-out-xor c = omega arith
 stem-differences-requires : tie.Need-stem-differences-requires
 stem-differences-requires c κs =
     let a = c .before .before .before .before .before .before .before .before .args in (
-      spacious-kept (a .job) (a .shape) (a .place) (a .rows .now) (c .before .before .before .before .before .before .before .before .pre .0) (c .before .before .before .before .work-out .last .0) (c .before .before .before .before .work-out .kept .0),
+      roomy-kept (a .job) (a .shape) (a .place + 2) (a .rows .now) (c .before .before .before .before .before .before .before .before .pre .0) (c .before .before .before .before .work-out .last .0) (c .before .before .before .before .work-out .kept .0),
       c .before .before .before .before .before .before .before .before .pre .1,
       c .before .before .before .before .before .before .before .before .pre .2 .form 4 (omega arith),
       c .before .before .before .before .before .before .before .before .pre .3,

@@ -1,12 +1,14 @@
 -- `tables::single::work_circuit` meets its contract: the good circuit by its gates, a faulty one by the good lines up to the fault's, what the fault gives them, and
 -- the gates from there on.
+use Prim.Native.Nat.{_+_}
 use native.Mathlib.Nat.{le-refl}
 use native.Mathlib.Omega.{arith}
 use mathlib.Core.Path.{_∙_}
 use denote.Ref.{now}
+use Rattle.job.specs.Record.{lines}
 use Rattle.job.specs.Layout.{maxInputs, maxGates, maxFaults}
-use Rattle.tables.proofs.Alone.{spare-kept, inputs-before, good-done, fault-number, low-line, high-line, begun-inputs, begun-lines, faulty-done}
-use Rattle.tables.proofs.Space.{lines-most, line-index, fault-index}
+use Rattle.tables.proofs.Alone.{inputs-before, good-done, fault-number, low-line, high-line, begun-inputs, begun-lines, faulty-done}
+use Rattle.tables.proofs.Space.{lines-most, line-index, fault-index, roomy-kept}
 use Rattle.tables.proofs.single.work_circuit.Statement.{statement}
 use Rattle.tables.proofs.single.work_circuit.Tie as tie
 
@@ -29,7 +31,7 @@ input-rows-requires : tie.Need-input-rows-requires
 input-rows-requires c κs = c .before .before .before .pre .0
 
 gate-rows-requires : tie.Need-gate-rows-requires
-gate-rows-requires c κs = let a = c .before .before .before .before .before .before .before .before .args in (spare-kept (a .t2) (a .shape) (now (a .rows)) (c .before .before .before .before .before .before .before .before .pre .0) (c .before .before .before .before .input-rows .last .0) (c .before .before .before .before .input-rows .kept .0), c .before .before .before .before .before .before .forms-of .ensures, le-refl _, inputs-before (a .t2), le-refl _)
+gate-rows-requires c κs = let a = c .before .before .before .before .before .before .before .before .args in (roomy-kept (a .t2) (a .shape) (lines (a .t2) + 1) (now (a .rows)) (c .before .before .before .before .before .before .before .before .pre .0) (c .before .before .before .before .input-rows .last .0) (c .before .before .before .before .input-rows .kept .0), c .before .before .before .before .before .before .forms-of .ensures, le-refl _, inputs-before (a .t2), le-refl _)
 
 same-length : tie.Need-same-length
 same-length c = c .before .before .gate-rows .kept .0 ∙ c .before .before .before .before .before .before .before .input-rows .kept .0
@@ -52,13 +54,13 @@ start-of-requires : tie.Need-start-of-requires
 start-of-requires c κs = let a = c .before .before .before .before .before .before .before .before .args in line-index (a .t2) (c .before .before .before .before .before .before .before .before .pre .0 .valid) (high-line (a .t2) (c .before .before .before .before .before .before .before .before .pre .0 .valid) (a .circuit) (c .before .before .before .before .before .before .before .before .pre .1) (c .before .if1 .left))
 
 gate-rows-requires-2 : tie.Need-gate-rows-requires-2
-gate-rows-requires-2 c κs = let a = c .before .before .before .before .before .before .before .before .before .before .args in (spare-kept (a .t2) (a .shape) (now (a .rows)) (c .before .before .before .before .before .before .before .before .before .before .pre .0) (c .before .before .before .before .before .before .input-rows .last .0) (c .before .before .before .before .before .before .input-rows .kept .0), c .before .before .before .before .before .before .before .before .forms-of .ensures, le-refl _, begun-inputs (a .t2) (c .before .before .before .before .before .before .before .before .before .before .pre .0 .valid) (a .circuit) (c .before .before .before .before .before .before .before .before .before .before .pre .1) (c .before .before .before .if1 .left) (c .before .start-of .ensures), begun-lines (a .t2) (c .before .before .before .before .before .before .before .before .before .before .pre .0 .valid) (a .circuit) (c .before .before .before .before .before .before .before .before .before .before .pre .1) (c .before .before .before .if1 .left) (c .before .start-of .ensures))
+gate-rows-requires-2 c κs = let a = c .before .before .before .before .before .before .before .before .before .before .args in (roomy-kept (a .t2) (a .shape) (lines (a .t2) + 1) (now (a .rows)) (c .before .before .before .before .before .before .before .before .before .before .pre .0) (c .before .before .before .before .before .before .input-rows .last .0) (c .before .before .before .before .before .before .input-rows .kept .0), c .before .before .before .before .before .before .before .before .forms-of .ensures, le-refl _, begun-inputs (a .t2) (c .before .before .before .before .before .before .before .before .before .before .pre .0 .valid) (a .circuit) (c .before .before .before .before .before .before .before .before .before .before .pre .1) (c .before .before .before .if1 .left) (c .before .start-of .ensures), begun-lines (a .t2) (c .before .before .before .before .before .before .before .before .before .before .pre .0 .valid) (a .circuit) (c .before .before .before .before .before .before .before .before .before .before .pre .1) (c .before .before .before .if1 .left) (c .before .start-of .ensures))
 
 fix-rows-requires : tie.Need-fix-rows-requires
-fix-rows-requires c κs = let a = c .before .before .before .before .before .before .before .before .before .before .before .before .before .before .args in (spare-kept (a .t2) (a .shape) (now (a .rows)) (c .before .before .before .before .before .before .before .before .before .before .before .before .before .before .pre .0) (c .before .before .before .gate-rows2 .last .0) (c .before .before .before .gate-rows2 .kept .0 ∙ c .before .before .before .before .before .before .before .before .before .before .input-rows .kept .0), low-line (a .t2) (c .before .before .before .before .before .before .before .before .before .before .before .before .before .before .pre .0 .valid) (a .circuit) (c .before .before .before .before .before .before .before .before .before .before .before .before .before .before .pre .1) (c .before .before .before .before .before .before .before .if1 .left), high-line (a .t2) (c .before .before .before .before .before .before .before .before .before .before .before .before .before .before .pre .0 .valid) (a .circuit) (c .before .before .before .before .before .before .before .before .before .before .before .before .before .before .pre .1) (c .before .before .before .before .before .before .before .if1 .left))
+fix-rows-requires c κs = let a = c .before .before .before .before .before .before .before .before .before .before .before .before .before .before .args in (roomy-kept (a .t2) (a .shape) (lines (a .t2) + 1) (now (a .rows)) (c .before .before .before .before .before .before .before .before .before .before .before .before .before .before .pre .0) (c .before .before .before .gate-rows2 .last .0) (c .before .before .before .gate-rows2 .kept .0 ∙ c .before .before .before .before .before .before .before .before .before .before .input-rows .kept .0), low-line (a .t2) (c .before .before .before .before .before .before .before .before .before .before .before .before .before .before .pre .0 .valid) (a .circuit) (c .before .before .before .before .before .before .before .before .before .before .before .before .before .before .pre .1) (c .before .before .before .before .before .before .before .if1 .left), high-line (a .t2) (c .before .before .before .before .before .before .before .before .before .before .before .before .before .before .pre .0 .valid) (a .circuit) (c .before .before .before .before .before .before .before .before .before .before .before .before .before .before .pre .1) (c .before .before .before .before .before .before .before .if1 .left))
 
 gate-rows-requires-3 : tie.Need-gate-rows-requires-3
-gate-rows-requires-3 c κs = let a = c .before .before .before .before .before .before .before .before .before .before .before .before .before .before .before .before .before .before .args in (spare-kept (a .t2) (a .shape) (now (a .rows)) (c .before .before .before .before .before .before .before .before .before .before .before .before .before .before .before .before .before .before .pre .0) (c .before .before .before .fix-rows .last .0) (c .before .before .before .fix-rows .kept .0 ∙ c .before .before .before .before .before .before .before .gate-rows2 .kept .0 ∙ c .before .before .before .before .before .before .before .before .before .before .before .before .before .before .input-rows .kept .0), c .before .before .before .before .before .before .before .before .before .before .before .before .before .before .before .before .forms-of .ensures, begun-inputs (a .t2) (c .before .before .before .before .before .before .before .before .before .before .before .before .before .before .before .before .before .before .pre .0 .valid) (a .circuit) (c .before .before .before .before .before .before .before .before .before .before .before .before .before .before .before .before .before .before .pre .1) (c .before .before .before .before .before .before .before .before .before .before .before .if1 .left) (c .before .before .before .before .before .before .before .before .before .start-of .ensures), begun-lines (a .t2) (c .before .before .before .before .before .before .before .before .before .before .before .before .before .before .before .before .before .before .pre .0 .valid) (a .circuit) (c .before .before .before .before .before .before .before .before .before .before .before .before .before .before .before .before .before .before .pre .1) (c .before .before .before .before .before .before .before .before .before .before .before .if1 .left) (c .before .before .before .before .before .before .before .before .before .start-of .ensures), le-refl _)
+gate-rows-requires-3 c κs = let a = c .before .before .before .before .before .before .before .before .before .before .before .before .before .before .before .before .before .before .args in (roomy-kept (a .t2) (a .shape) (lines (a .t2) + 1) (now (a .rows)) (c .before .before .before .before .before .before .before .before .before .before .before .before .before .before .before .before .before .before .pre .0) (c .before .before .before .fix-rows .last .0) (c .before .before .before .fix-rows .kept .0 ∙ c .before .before .before .before .before .before .before .gate-rows2 .kept .0 ∙ c .before .before .before .before .before .before .before .before .before .before .before .before .before .before .input-rows .kept .0), c .before .before .before .before .before .before .before .before .before .before .before .before .before .before .before .before .forms-of .ensures, begun-inputs (a .t2) (c .before .before .before .before .before .before .before .before .before .before .before .before .before .before .before .before .before .before .pre .0 .valid) (a .circuit) (c .before .before .before .before .before .before .before .before .before .before .before .before .before .before .before .before .before .before .pre .1) (c .before .before .before .before .before .before .before .before .before .before .before .if1 .left) (c .before .before .before .before .before .before .before .before .before .start-of .ensures), begun-lines (a .t2) (c .before .before .before .before .before .before .before .before .before .before .before .before .before .before .before .before .before .before .pre .0 .valid) (a .circuit) (c .before .before .before .before .before .before .before .before .before .before .before .before .before .before .before .before .before .before .pre .1) (c .before .before .before .before .before .before .before .before .before .before .before .if1 .left) (c .before .before .before .before .before .before .before .before .before .start-of .ensures), le-refl _)
 
 same-length-2 : tie.Need-same-length-2
 same-length-2 c = c .before .before .gate-rows3 .kept .0 ∙ c .before .before .before .before .before .before .fix-rows .kept .0 ∙ c .before .before .before .before .before .before .before .before .before .before .gate-rows2 .kept .0 ∙ c .before .before .before .before .before .before .before .before .before .before .before .before .before .before .before .before .before .input-rows .kept .0
