@@ -9,6 +9,7 @@ pub mod Chaining
 pub mod Walking
 pub mod Strays
 pub mod Relabelling
+pub mod Rising
 pub mod Dissolving
 pub mod OneMark
 pub mod Parting

@@ -7,10 +7,12 @@
 --   ready-kept       where they have one mark, those that keep their labels' numbers keep their labels: so they are parted
 --   refined-open, refined-flags   refined classes can be settled
 --   refined-parted   refined and settled, they are parted
+--   relisted-parted  so where the marks may rise
 --   start-open, start-marked, start-flags, start-started   the start: all rows in one class, settled
 use Prim.Native.Nat.{ℕ, zero, suc, _≤_, _<_}
 use native.Mathlib.Omega.{arith}
-use mathlib.Core.Path.{_≡_, refl, sym, ap, _∙_}
+use mathlib.Core.Logic.{⊎-elim}
+use mathlib.Core.Path.{_≡_, refl, sym, ap, subst, _∙_}
 use mathlib.Core.Bool.{Bool, true, false, not, cond, _&&_}
 use mathlib.Core.List.{List, [], _∷_}
 use borrow.Author.Tests.{eqb-true, eq-eqb, ne-eqb, not-false}
@@ -20,11 +22,12 @@ use lib.Seq.{getD-take, getD-set-same, getD-set-other}
 use Rattle.bits.proofs.Tests.{clash}
 use Rattle.method.proofs.Pairs.{by-test}
 use Rattle.classes.specs.Matrix.{cell, maxRows}
-use Rattle.classes.specs.Labels.{Holds, Low, Own, valueIn, strayBy, otherMark, someOf, Covers, OpenFit, OpenSettle, Flags, Settles, parted, Flagged, settledBy, keptBy, Ready, Refined, Parted, Started}
+use Rattle.classes.specs.Labels.{Holds, Low, Own, valueIn, strayBy, otherMark, someOf, Covers, OpenFit, OpenSettle, Flags, Settles, parted, Flagged, settledBy, keptBy, Ready, Refined, Parted, Started, Relists}
 use Rattle.bits.proofs.Passing.{passing-few}
 use Rattle.classes.proofs.Listed.{passing-all, some-same, some-none}
 use Rattle.classes.proofs.Cells.{passing-fit}
 use Rattle.classes.proofs.Relabelling.{listing, refined-covers}
+use Rattle.classes.proofs.Rising.{risen-settled}
 use Rattle.classes.proofs.Dissolving.{settles-parted, settled-classed, settled-settled}
 use Rattle.classes.proofs.OneMark.{kept-classed, kept-settled}
 
@@ -103,6 +106,19 @@ module _ {work : List ℕ} {width rows : ℕ} {marks L list : List ℕ} (ready :
               (λ a b h l n. refined .labels-by .equal a b h l);
           settled = settled-settled rows marks R list labels pending count (refined .labels-by .low) (refined .labels-by .own) covers d;
         }
+
+    pub relisted-parted : length R ≡ maxRows → {labels pending : List ℕ} {count : ℕ} → Relists marks mixed R list labels pending count
+        → Parted work width rows marks entry L labels pending count
+    relisted-parted e {labels} {pending} {count} =
+        ⊎-elim
+        (λ (rise, same, s).
+        subst (λ (l : List ℕ). Parted work width rows marks entry L l pending count) (sym same)
+        (record {
+          classed =
+              record { low = refined .labels-by .low; own = refined .labels-by .own; told = λ a b h l n. refined .labels-by .equal a b h l };
+          settled = risen-settled rows marks R list pending count rise (ready .fit .marked) (refined .labels-by .low) covers s;
+        }))
+        (λ s. refined-parted e s)
 
 module _ (rows : ℕ) (marks L of : List ℕ) (some : 1 ≤ rows) (most : rows ≤ maxRows) (one : Holds maxRows (λ c. 0) L) (sized : length L ≡ maxRows)
     (long : length of ≡ maxRows) (every : Holds maxRows (λ c. c) of) where

@@ -22,7 +22,9 @@
 --   settledOf, settledBy   the label that a row has when the other classes are dissolved, by a test and by numbers
 --   keptBy         the label that a row has when it keeps its own only where that has its value
 --   relabelled     a row's new label, by a rule
+--   keptLabel      a row keeps its label
 --   OpenSettle, Flags, Settles   what relabelling the pending rows asks for, and does
+--   Rise, Relists  marks that rise from row to row, and what relisting the pending rows does by the marks
 --   Fit            there are so many rows of so many numbers, and a mark for each
 --   Settled        the pending rows are listed, and all classes that are left hold two marks
 --   Ready, Refined, Parts   what parting classes by an entry asks for, what refining does, and what parting does
@@ -218,6 +220,10 @@ settledBy mixed label c = c - getD mixed label 0 * (c - label)
 abbrev pub keptBy : (ℕ → ℕ) → ℕ → ℕ → ℕ
 keptBy value label c = cond (eqb (value c) (value label)) label c
 
+-- a row keeps its label
+abbrev pub keptLabel : ℕ → ℕ → ℕ
+keptLabel label c = label
+
 abbrev pub relabelled : (ℕ → ℕ → ℕ) → List ℕ → ℕ → ℕ
 relabelled rule labels c = rule (getD labels c 0) c
 
@@ -239,6 +245,15 @@ pub record Settles (rule : ℕ → ℕ → ℕ) (old list labels pending : List 
   pub listed : take count pending ≡ filtered (λ c. not (eqb (relabelled rule old c) c)) list
   pub done : (i : ℕ) → i < length list → getD labels (getD list i 0) 0 ≡ relabelled rule old (getD list i 0)
   pub kept : (c : ℕ) → ((i : ℕ) → i < length list → getD list i 0 ≡ c → ⊥) → getD labels c 0 ≡ getD old c 0
+
+-- marks that rise from row to row: every two rows have different marks
+abbrev pub Rise : List ℕ → Type 0
+Rise marks = (a b : ℕ) → a < b → b < length marks → getD marks a 0 < getD marks b 0
+
+-- the classes of one mark are dissolved; where the marks rise there are none
+abbrev pub Relists : List ℕ → List ℕ → List ℕ → List ℕ → List ℕ → List ℕ → ℕ → Type 0
+Relists marks mixed old list labels pending count =
+    (Rise marks × (labels ≡ old) × Settles keptLabel old list old pending count) ⊎ Settles (settledBy mixed) old list labels pending count
 
 -- ---- parting
 

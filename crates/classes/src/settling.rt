@@ -1,11 +1,11 @@
 // Settling: classes whose rows have one mark are dissolved, and the pending rows are listed.
 ghost use Prim.Native.Nat.{ℕ, _≤_, _<_};
 ghost use mathlib.Core.Path.{_≡_};
-ghost use mathlib.Core.Bool.{not, cond};
-ghost use lib.Dec.{eqb};
+ghost use mathlib.Core.Bool.{true, not, cond};
+ghost use lib.Dec.{eqb, ltb};
 ghost use lib.ListN.{length, take, getD};
 ghost use Rattle.classes.specs.Matrix.{cell, maxRows};
-ghost use Rattle.classes.specs.Labels.{Holds, someOf, otherMark, OpenFit, OpenSettle, Flags, settledBy, keptBy, Settles, Started, SomeReady, Parts};
+ghost use Rattle.classes.specs.Labels.{Holds, someOf, otherMark, OpenFit, OpenSettle, Flags, settledBy, keptBy, Settles, Started, SomeReady, Parts, keptLabel, Rise, Relists};
 use crate::MAX_ROWS;
 
 // One for numbers that differ: rows are listed without a branch.
@@ -37,6 +37,63 @@ fn settle(labels: &mut [u16], pending: &mut [u16], count: usize, mixed: &[u16]) 
     left
 }
 
+// One if a mark is not below the next, or one before was not.
+fn falls(before: u8, a: u8, b: u8) -> u8
+    ensures { λ r. ⌜ r ≡ cond (ltb a b) before 1 ⌝ }
+{
+    if a < b {
+        return before;
+    }
+    1
+}
+
+// Whether each mark is below the next, so that every two rows have different marks. All are compared, without a branch, many at a time.
+fn marks_rise(marks: &[u8]) -> bool
+    ensures { λ r. ⌜ (r ≡ true → Rise (now (marks .entry))) ⌝ }
+{
+    let mut fallen = 0;
+    let mut i = 1;
+    while i < marks.len() {
+        fallen = falls(fallen, marks[i - 1], marks[i]);
+        i += 1;
+    }
+    fallen == 0
+}
+
+// The pending rows that are not their own labels are listed anew. Gives their number.
+fn list_pending(labels: &[u16], pending: &mut [u16], count: usize) -> usize
+    requires { ⌜ (count ≤ length (now pending)) × OpenSettle (now labels) (take count (now pending)) ⌝ }
+    ensures { λ r. ⌜ Settles keptLabel (now (labels .entry)) (take count (now (pending .entry))) (now (labels .entry)) (now (pending .exit)) r ⌝ }
+{
+    let mut left = 0;
+    let mut i = 0;
+    while i < count {
+        let c = pending[i];
+        let label = labels[c as usize];
+        pending[left] = c;
+        left += differs(label, c);
+        i += 1;
+    }
+    left
+}
+
+// Where every two rows have different marks no class is dissolved: every class of two rows holds two marks.
+fn relist(
+    marks: &[u8],
+    labels: &mut [u16],
+    pending: &mut [u16],
+    count: usize,
+    mixed: &[u16],
+) -> usize
+    requires { ⌜ (count ≤ length (now pending)) × OpenSettle (now labels) (take count (now pending)) × Flags (now mixed) ⌝ }
+    ensures { λ r. ⌜ Relists (now (marks .entry)) (now (mixed .entry)) (now (labels .entry)) (take count (now (pending .entry))) (now (labels .exit)) (now (pending .exit)) r ⌝ }
+{
+    if marks_rise(marks) {
+        return list_pending(labels, pending, count);
+    }
+    settle(labels, pending, count, mixed)
+}
+
 // The classes by one entry more, whatever marks the pending rows have.
 fn refine_and_settle(
     work: &[u16],
@@ -62,7 +119,7 @@ fn refine_and_settle(
         &mut next,
         &mut mixed,
     );
-    settle(labels, pending, count, &mixed)
+    relist(marks, labels, pending, count, &mixed)
 }
 
 // A row whose number is a, its label's being b, keeps its label or becomes its own: relabelled without a branch.
