@@ -12,20 +12,12 @@
 --   need-few          the room that a job needs, in the table's bytes
 --   all-wired         the wiring of all faults is that of a valid job's
 --   planned           all that working the tables out asks for, from the wiring of all faults
-use native.Mathlib.Nat.{zero-add}
-use mathlib.Core.Logic.{⊎-elim}
-use mathlib.Core.Path.{ap, _∙_}
-use mathlib.Core.Bool.{true}
-use Rattle.wiring.specs.Wiring.{isAsked, Wires, Wired}
-use Rattle.wiring.proofs.Asking.{asked-low, asked-high}
-use Rattle.wiring.proofs.Whole.{wires-valid}
-use Rattle.differences.specs.Known.{Least}
-use Rattle.differences.proofs.Charting.{asked-at, charted}
-use Rattle.circuits.proofs.Sizes.{some-columns}
 use Prim.Native.Nat.{ℕ, _+_, _-_, _*_, _^_, _≤_, _<_, zero-le}
-use native.Mathlib.Nat.{lt-of-le-of-lt, mul-le-mul, mul-le-mul-left, mul-le-mul-right, mul-add, mul-one, one-mul}
+use native.Mathlib.Nat.{zero-add, lt-of-le-of-lt, mul-le-mul, mul-le-mul-left, mul-le-mul-right, mul-add, mul-one, one-mul}
 use native.Mathlib.Omega.{arith}
-use mathlib.Core.Path.{_≡_, refl, sym, subst}
+use mathlib.Core.Logic.{⊎-elim}
+use mathlib.Core.Path.{ap, _∙_, _≡_, refl, sym, subst}
+use mathlib.Core.Bool.{true}
 use mathlib.Core.List.{List}
 use lib.ListN.{length}
 use mir.Syntax.{w64}
@@ -34,20 +26,24 @@ use Rattle.job.specs.Check.{Valid}
 use Rattle.job.specs.Layout.{maxInputs, maxGates}
 use Rattle.job.specs.Record.{faultA, faultB, faultAt, lines}
 use Rattle.job.specs.declared.Job.{Job}
+use Rattle.wiring.specs.Wiring.{isAsked, Wires, Wired}
+use Rattle.wiring.proofs.Asking.{asked-low, asked-high}
+use Rattle.wiring.proofs.Whole.{wires-valid}
 use Rattle.wiring.specs.declared.Wiring.{Wiring}
 use Rattle.gates.specs.Form.{tableBytes}
-use Rattle.differences.specs.Known.{Spacious, Narrow, Rising, Known, isMarked}
-use Rattle.circuits.specs.Faulty.{Asked}
-use Rattle.circuits.specs.Planned.{Planned, maxColumns, largeBytes}
 use Rattle.tables.specs.Lines.{Formed}
 use Rattle.tables.specs.Work.{Good}
 use Rattle.tables.specs.Sizes.{shapeOf}
 use Rattle.tables.specs.declared.rows.Forms.{Forms}
 use Rattle.tables.specs.declared.rows.Shape.{Shape}
 use Rattle.tables.proofs.Delivered.{fixes}
-use Rattle.circuits.proofs.Delivery.{Ready}
-use Rattle.circuits.proofs.Sizes.{large-fits}
 use Rattle.tables.proofs.Space.{lines-most, tableBytes-most, bytes-some, times-some}
+use Rattle.differences.specs.Known.{Least, Spacious, Narrow, Rising, Known, isMarked}
+use Rattle.differences.proofs.Charting.{asked-at, charted}
+use Rattle.circuits.proofs.Sizes.{some-columns, large-fits}
+use Rattle.circuits.specs.Faulty.{Asked}
+use Rattle.circuits.specs.Planned.{Planned, maxColumns, largeBytes}
+use Rattle.circuits.proofs.Delivery.{Ready}
 
 module _ (j : Job) (shape : Shape) (w : Wiring) (most size : ℕ) (plan : Planned j shape w most size) (rows : List ℕ)
     (room : (lines j * (most + 1) + 1) * tableBytes (j .inputs) ≤ length rows) where

@@ -16,23 +16,22 @@ use native.Mathlib.Nat.{le-trans, mul-le-mul-right, suc-mul, add-mul}
 use native.Mathlib.Omega.{arith}
 use mathlib.Core.Path.{_≡_, sym, ap, subst, _∙_}
 use mathlib.Core.List.{List}
+use mathlib.Core.Bool.{cond}
 use lib.ListN.{length}
+use Rattle.bits.specs.Packed.{tabulate}
 use Rattle.job.specs.Record.{lines}
 use Rattle.job.specs.declared.Job.{Job}
-use Rattle.gates.specs.Form.{tableBytes}
-use Rattle.tables.specs.Sizes.{shapeOf, Space}
-use Rattle.differences.specs.Side.{rowOf, Sound}
-use Rattle.differences.specs.Known.{Spacious, Narrow}
-use Rattle.differences.specs.declared.columns.Batch.{Batch}
-use Rattle.tables.specs.declared.rows.Shape.{Shape}
-use Rattle.tables.proofs.Sizes.{byte-inputs}
-use Rattle.tables.proofs.Space.{bytes-some, row-order}
-use Rattle.bits.specs.Packed.{tabulate}
-use Rattle.gates.specs.Form.{combined}
+use Rattle.gates.specs.Form.{tableBytes, combined}
 use Rattle.gates.specs.Rows.{splice, stepFits}
 use Rattle.gates.specs.declared.Form.{Form}
 use Rattle.gates.proofs.Fitting.{fitted, step-fits}
-use mathlib.Core.Bool.{cond}
+use Rattle.tables.specs.Sizes.{shapeOf, Space}
+use Rattle.tables.specs.declared.rows.Shape.{Shape}
+use Rattle.tables.proofs.Sizes.{byte-inputs}
+use Rattle.tables.proofs.Space.{bytes-some, row-order}
+use Rattle.differences.specs.Side.{rowOf, Sound}
+use Rattle.differences.specs.Known.{Spacious, Narrow}
+use Rattle.differences.specs.declared.columns.Batch.{Batch}
 
 -- a line's block ends before those of later lines
 pub block-before : (b : Batch) (k l bytes : ℕ) → k < l → rowOf b k * bytes + b .width * bytes ≤ rowOf b l * bytes

@@ -1,15 +1,14 @@
 // The entries at which the output changes with a line. Those of a line that is read more than once come from the circuit in which the line is changed, those of
 // a line that one gate reads once from the gate's own. The difference of line l is row place - l.
-ghost use mathlib.Core.Path.{_≡_};
 ghost use Prim.Native.Nat.{_+_, _-_, _*_, _≤_, _<_};
+ghost use mathlib.Core.Path.{_≡_};
 ghost use Rattle.job.specs.Record.{lines};
 ghost use Rattle.job.specs.Wiring.{otherLine};
 ghost use Rattle.gates.specs.Form.{kindForm};
-ghost use Rattle.differences.specs.Known.{Spacious, Narrow, Rising, Charted, isMarked, Known, numberOf, way, Ways, putDifference};
 ghost use Rattle.tables.specs.Lines.{Formed};
 ghost use Rattle.tables.specs.Work.{Good};
+ghost use Rattle.differences.specs.Known.{Spacious, Narrow, Rising, Charted, isMarked, Known, numberOf, way, Ways, putDifference, Least};
 ghost use Rattle.differences.specs.Side.{Side, Differed};
-ghost use Rattle.differences.specs.Known.{Least};
 use columns::Batch;
 use gates::Form;
 use job::Gate;
