@@ -9,15 +9,11 @@ use native.Mathlib.Nat.{lt-of-le-of-lt}
 use native.Mathlib.Omega.{arith}
 use mathlib.Core.Path.{_≡_, refl, sym, _∙_}
 use mathlib.Core.Bool.{false}
-use mathlib.Core.Logic.{⊎-elim}
 use lib.ListN.{getD}
 use mir.Syntax.{w64}
 use mir.Val.{Fits}
 use Rattle.job.specs.Check.{Valid}
-use Rattle.job.specs.Record.{gateA, gateB, gateAt, lines}
-use Rattle.job.specs.Wiring.{Once}
-use Rattle.job.specs.declared.Gate.{Gate}
-use Rattle.job.specs.declared.Gate.the-variants.{Unary, Binary}
+use Rattle.job.specs.Record.{gateAt, lines}
 use Rattle.job.specs.declared.Job.{Job}
 use Rattle.wiring.specs.Wiring.{several, lineCount, reader, isAsked, Wires}
 use Rattle.wiring.specs.declared.Wiring.{Wiring}
@@ -25,14 +21,10 @@ use Rattle.wiring.proofs.Asking.{asked-through}
 use Rattle.wiring.proofs.Listed.{StemsAt, array-stems, stem-below, stem-several, stem-inner, stems-ascend, stem-listed, stems-few}
 use Rattle.wiring.proofs.Noting.{one-reads, reader-owned}
 use Rattle.differences.specs.Known.{Charted}
+use Rattle.differences.proofs.Differences.{once-below}
 use Rattle.differences.proofs.Sizes.{lines-listed, line-count-fits}
 use Rattle.tables.proofs.Space.{lines-most}
 use Rattle.tables.proofs.Values.{first-below, second-below}
-
--- a gate that reads a line reads it as line a or as line b
-once-below : (g : Gate) (l own : ℕ) → Once g l → gateA g < own → gateB g < own → l < own
-once-below (Unary k a) l own once ha hb = omega (arith, once)
-once-below (Binary k a b) l own once ha hb = ⊎-elim (λ p. omega (arith, p .0)) (λ p. omega (arith, p .1)) once
 
 pub reader-above : (j : Job) → Valid j → (l : ℕ) → reader j l < several → (l < j .inputs + reader j l) × (j .inputs + reader j l < lines j)
 reader-above j valid l one =

@@ -1,5 +1,6 @@
 -- Laws of the entries at which the output changes with a line (specs/Differences.antt).
 --
+--   once-below           a line that a gate reads once is below the gate's own
 --   changed-loose        the change of a line leaves the others
 --   changed-bits         the change of a line keeps bits
 --   changed-before       a line below the changed one has its good value
@@ -163,7 +164,7 @@ module _ (l : ℕ) (before after : ℕ → ℕ) (low : before l < 2) (turned : a
       ∙ slope-second k (before a) (before l) (other .1) low
       ∙ ap (λ (t : Bool). slope (binaryNumber k) (before (cond t b a))) (sym (ne-eqb a l first))
 
-once-below : (g : Gate) (l r : ℕ) → Once g l → gateA g < r → gateB g < r → l < r
+pub once-below : (g : Gate) (l r : ℕ) → Once g l → gateA g < r → gateB g < r → l < r
 once-below (Unary k a) l r once first second = subst (λ (c : ℕ). c < r) once first
 once-below (Binary k a b) l r (inl (is, other)) first second = subst (λ (c : ℕ). c < r) is first
 once-below (Binary k a b) l r (inr (other, is)) first second = subst (λ (c : ℕ). c < r) is second
