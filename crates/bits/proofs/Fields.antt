@@ -6,7 +6,8 @@
 --   fieldAt-cut     where a field has no room, it is cut
 --   fieldAt-value   where it has room, its value stands there
 --   fieldAt-late, fieldAt-short, fieldAt-window   the same for the tests and the arithmetic of the code
---   room-near       where four bytes are left, a field has room
+--   window-early    where the cursor's byte has `margin` more behind it, both bytes of a field are there
+--   room-near       where they are, the field has room
 --   shift-exact     a one shifted within a word is a power of two
 --   spare-none, spare-more, spare-last   which bits are spare bits alone, for the tests and the arithmetic of the code
 --   field-found     what a field that was read says of the string
@@ -27,7 +28,7 @@ use lib.Seq.{drop-drop, length-take-le}
 use Rattle.bits.specs.Answer.{unless}
 use Rattle.bits.specs.Answer.Answer.{refused}
 use Rattle.bits.specs.Bits.{bitsOf, stringOf, valueOf, valueFrom}
-use Rattle.bits.specs.Field.{place, from, past, maxWidth, isWidth, fieldAt, spareOnly, windowAt}
+use Rattle.bits.specs.Field.{place, from, past, margin, maxWidth, isWidth, fieldAt, spareOnly, windowAt}
 use Rattle.bits.specs.Parser.{parsed, field}
 use Rattle.bits.specs.declared.Cursor.{Cursor}
 use Rattle.bits.specs.declared.Field.the-variants.{Value, Cut}
@@ -72,7 +73,7 @@ fieldAt-value s c w p q h =
 pub shift-exact : (n : ℕ) → n < 64 → 1 * 2 ^ n % 2 ^ 64 ≡ 2 ^ n
 shift-exact n h = shl-exact 1 n 64 (lit< tt) (omega arith) ∙ one-mul (2 ^ n)
 
--- The code's tests and arithmetic: the byte and the bit at which a field starts, and the number of four bytes.
+-- The code's tests and arithmetic: the byte and the bit at which a field starts, and the number of two bytes.
 module _ (s : List ℕ) (c : Cursor) (w : ℕ) where
   abbrev atByte : ℕ
   atByte = c .byte + c .bit / 8
@@ -86,11 +87,14 @@ module _ (s : List ℕ) (c : Cursor) (w : ℕ) where
   pub fieldAt-short : length s < atByte + (toBit + 7) / 8 → fieldAt s c w ≡ Cut
   fieldAt-short h = fieldAt-cut s c w (λ p q. rw length-from (omega arith))
 
-  pub room-near : w ≤ maxWidth → atByte + 3 < length s → atByte + (toBit + 7) / 8 ≤ length s
+  pub window-early : {early : ℕ} → c .bit < 256 → early ≡ length s - margin → c .byte < early → atByte + 1 < length s
+  window-early b e h = omega arith
+
+  pub room-near : w ≤ maxWidth → atByte + 1 < length s → atByte + (toBit + 7) / 8 ≤ length s
   room-near q h = omega arith
 
   pub fieldAt-window : {v word : ℕ} → Bytes s → 1 ≤ w → w ≤ maxWidth → atByte + (toBit + 7) / 8 ≤ length s
-      → word ≡ windowAt s atByte → v ≡ word / 2 ^ (32 - toBit) % 2 ^ w
+      → word ≡ windowAt s atByte → v ≡ word / 2 ^ (16 - toBit) % 2 ^ w
       → Value v (record { byte = atByte + toBit / 8; bit = toBit % 8 }) ≡ fieldAt s c w
   unfolding from
   fieldAt-window bytes p q h f e =
@@ -101,7 +105,7 @@ module _ (s : List ℕ) (c : Cursor) (w : ℕ) where
       let inside : atByte * 8 + c .bit % 8 + w ≤ length s * 8 = omega arith in
       ap₂ Value
       (e
-      ∙ ap (λ (x : ℕ). x / 2 ^ (32 - toBit) % 2 ^ w) f
+      ∙ ap (λ (x : ℕ). x / 2 ^ (16 - toBit) % 2 ^ w) f
       ∙ sym (valueOf-window s atByte (c .bit % 8) w bytes inside (omega arith))
       ∙ ap (λ (k : ℕ). valueOf (take w (drop k (stringOf s)))) (sym start))
       (λ t. record { byte = d t; bit = r t })

@@ -1,4 +1,4 @@
--- The numbers below a bound that pass a test, listed in order (specs/Passing.antt).
+-- Numbers that pass a test, listed in order (specs/Passing.antt).
 --
 --   place            a place in a list with at most one number behind it
 --   left-at          what stands before is not changed by what stands behind
@@ -6,16 +6,21 @@
 --   passing-same     tests that agree below the bound list the same numbers
 --   Listing          places of numbers that pass: each passes, each that passes has a place, a later place has a greater number
 --   passing-listing  the numbers that pass are so listed
+--   filtered-next    those of a list that pass: one number more
+--   filtered-passing those of the numbers that pass another test
+--   take-more        a number put behind others, and counted if it passes
+--   at-most          at most one is counted
 use Prim.Native.Nat.{ℕ, zero, suc, _+_, _≤_, _<_}
 use native.Mathlib.Nat.{not-suc-le-zero, le-of-suc-le-suc, eq-or-lt-of-le}
+use native.Mathlib.Numerals.{add-one}
 use native.Mathlib.Omega.{arith}
 use mathlib.Core.Path.{_≡_, refl, sym, ap, ap₂, _∙_}
-use mathlib.Core.Bool.{Bool, true, false, cond}
+use mathlib.Core.Bool.{Bool, true, false, cond, _&&_}
 use mathlib.Core.Logic.{_⊎_, inl, inr, ⊎-elim}
-use mathlib.Core.List.{List, [], _∷_, _++_}
-use lib.ListN.{length, getD, length-append}
-use lib.Seq.{getD-append-seam}
-use Rattle.bits.specs.Passing.{passing}
+use mathlib.Core.List.{List, [], _∷_, _++_, append-nil, append-assoc}
+use lib.ListN.{length, getD, length-append, take, set}
+use lib.Seq.{getD-append-seam, take-suc, take-suc-set, take-set-le}
+use Rattle.bits.specs.Passing.{passing, filtered}
 use Rattle.bits.proofs.Tests.{clash}
 
 Place : List ℕ → Bool → ℕ → ℕ → Type 0
@@ -122,3 +127,44 @@ passing-listing test (suc n) =
       has = step-has test n (passing test n) w;
       ascends = step-ascends test n (passing test n) w;
     }
+
+-- ---- numbers of a list
+
+module _ (test : ℕ → Bool) where
+  filtered-append : (l m : List ℕ) → filtered test (l ++ m) ≡ filtered test l ++ filtered test m
+  unfolding filtered
+  filtered-append [] m = refl
+  filtered-append (c ∷ l) m =
+      ap (λ (r : List ℕ). cond (test c) (c ∷ []) [] ++ r) (filtered-append l m)
+      ∙ sym (append-assoc (cond (test c) (c ∷ []) []) (filtered test l) (filtered test m))
+
+  pub filtered-next : (l : List ℕ) (i : ℕ) → i < length l
+      → filtered test (take (suc i) l) ≡ filtered test (take i l) ++ cond (test (getD l i 0)) (getD l i 0 ∷ []) []
+  unfolding filtered
+  filtered-next l i h =
+      ap (filtered test) (take-suc l i 0 h) ∙ filtered-append (take i l) (getD l i 0 ∷ [])
+      ∙ ap (λ (r : List ℕ). filtered test (take i l) ++ r) (append-nil (cond (test (getD l i 0)) (getD l i 0 ∷ []) []))
+
+  filtered-last : (u : Bool) (n : ℕ) → filtered test (cond u (n ∷ []) []) ≡ cond (u && test n) (n ∷ []) []
+  unfolding filtered
+  filtered-last true n = append-nil (cond (test n) (n ∷ []) [])
+  filtered-last false n = refl
+
+  pub filtered-passing : (p : ℕ → Bool) (n : ℕ) → filtered test (passing p n) ≡ passing (λ c. p c && test c) n
+  unfolding passing filtered
+  filtered-passing p zero = refl
+  filtered-passing p (suc n) =
+      filtered-append (passing p n) (cond (p n) (n ∷ []) [])
+      ∙ ap₂ (λ (x y : List ℕ). x ++ y) (filtered-passing p n) (filtered-last (p n) n)
+
+-- ---- one number more
+
+pub take-more : (t : Bool) (of : List ℕ) (count c : ℕ) → count < length of → take (count + cond t 1 0) (set of count c) ≡ take count of ++ cond t (c ∷ []) []
+take-more true of count c h = rw add-one (take-suc-set of count c h)
+take-more false of count c h =
+    let e : count + 0 ≡ count = omega arith in
+    ap (λ (k : ℕ). take k (set of count c)) e ∙ take-set-le count of count c (omega arith) ∙ sym (append-nil (take count of))
+
+pub at-most : (t : Bool) → cond t 1 0 ≤ 1
+at-most true = omega arith
+at-most false = omega arith

@@ -21,7 +21,7 @@ from s c = drop (place c) (stringOf s)
 abbrev pub past : Cursor → ℕ → Cursor
 past c w = record { byte = (place c + w) / 8; bit = (place c + w) % 8 }
 
--- no field of the layout is wider than a byte; from any bit on, four bytes hold it
+-- no field of the layout is wider than a byte; from any bit of a byte on, two bytes hold it
 abbrev pub maxWidth : ℕ
 maxWidth = 8
 
@@ -35,6 +35,10 @@ fieldAt s c w = cond (isWidth w && leb w (length (from s c))) (Value (valueOf (t
 unfoldable pub spareOnly : List ℕ → Bool
 spareOnly bits = ltb (length bits) 8 && eqb (valueOf bits) 0
 
--- the number that four bytes from byte i on make; those past the end are 0
+-- the number that two bytes from byte i on make; those past the end are 0
 unfoldable pub windowAt : List ℕ → ℕ → ℕ
-windowAt s i = ((getD s i 0 * 256 + getD s (i + 1) 0) * 256 + getD s (i + 2) 0) * 256 + getD s (i + 3) 0
+windowAt s i = getD s i 0 * 256 + getD s (i + 1) 0
+
+-- a cursor's bits are fewer than 256, so that the two bytes of a field are at most so many after the cursor's byte
+abbrev pub margin : ℕ
+margin = 32

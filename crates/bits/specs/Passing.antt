@@ -1,4 +1,7 @@
--- The numbers below a bound that pass a test, in order.
+-- Numbers that pass a test, in order.
+--
+--   passing    those below a bound
+--   filtered   those of a list
 use Prim.Native.Nat.{ℕ, zero, suc}
 use mathlib.Core.Bool.{Bool, cond}
 use mathlib.Core.List.{List, [], _∷_, _++_}
@@ -6,3 +9,7 @@ use mathlib.Core.List.{List, [], _∷_, _++_}
 unfoldable pub passing : (ℕ → Bool) → ℕ → List ℕ
 passing test zero = []
 passing test (suc n) = passing test n ++ cond (test n) (n ∷ []) []
+
+unfoldable pub filtered : (ℕ → Bool) → List ℕ → List ℕ
+filtered test [] = []
+filtered test (c ∷ more) = cond (test c) (c ∷ []) [] ++ filtered test more

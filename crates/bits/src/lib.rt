@@ -3,7 +3,7 @@ ghost use mathlib.Core.Path.{_≡_};
 ghost use Prim.Native.Nat.{_+_, _-_, _/_, _%_, _^_, _≤_, _<_};
 ghost use lib.ListN.{getD, length};
 ghost use Rattle.bits.specs.Answer.{number};
-ghost use Rattle.bits.specs.Field.{fieldAt, from, maxWidth, spareOnly, windowAt};
+ghost use Rattle.bits.specs.Field.{fieldAt, from, margin, maxWidth, spareOnly, windowAt};
 
 // The causes for which an operation refuses, in the order of their numbers in document 01, 1 to 18.
 pub enum Refusal {
@@ -80,36 +80,49 @@ fn byte_or_zero(s: &[u8], at: usize) -> usize
     if at < s.len() { s[at] as usize } else { 0 }
 }
 
-// The number that the four bytes from a place on make.
-fn four_bytes(s: &[u8], at: usize) -> usize
-    requires { ⌜ at + 3 < length (now s) ⌝ }
+// The number that the two bytes from a place on make.
+fn two_bytes(s: &[u8], at: usize) -> usize
+    requires { ⌜ at + 1 < length (now s) ⌝ }
     ensures { λ r. ⌜ r ≡ windowAt (now (s .entry)) at ⌝ }
 {
-    ((s[at] as usize * 256 + s[at + 1] as usize) * 256 + s[at + 2] as usize) * 256
-        + s[at + 3] as usize
+    s[at] as usize * 256 + s[at + 1] as usize
 }
 
-// The same where fewer are left: those past the end count as 0.
+// The same at the end of the slice: a byte past it counts as 0.
 fn last_bytes(s: &[u8], at: usize) -> usize
-    requires { ⌜ (at < length (now s)) × (length (now s) ≤ at + 3) ⌝ }
+    requires { ⌜ at < length (now s) ⌝ }
     ensures { λ r. ⌜ r ≡ windowAt (now (s .entry)) at ⌝ }
 {
-    ((byte_or_zero(s, at) * 256 + byte_or_zero(s, at + 1)) * 256 + byte_or_zero(s, at + 2)) * 256
+    byte_or_zero(s, at) * 256 + byte_or_zero(s, at + 1)
 }
 
-// Of the number of four bytes, the `width` bits that end before bit `end`.
+// Of the number of two bytes, the `width` bits that end before bit `end`.
 fn bits_before(word: usize, end: usize, width: usize) -> usize
-    requires { ⌜ (width ≤ end) × (end ≤ 32) × (width ≤ maxWidth) ⌝ }
-    ensures { λ r. ⌜ r ≡ word / 2 ^ (32 - end) % 2 ^ width ⌝ }
+    requires { ⌜ (width ≤ end) × (end ≤ 16) ⌝ }
+    ensures { λ r. ⌜ r ≡ word / 2 ^ (16 - end) % 2 ^ width ⌝ }
 {
-    (word >> (32 - end)) % (1 << width)
+    (word >> (16 - end)) % (1 << width)
 }
 
-// No field of the layout is wider than a byte; from any bit on, four bytes hold it.
+// No field of the layout is wider than a byte; from any bit of a byte on, two bytes hold it.
 const MAX_WIDTH: usize = 8;
 
-// The field of `width` bits at a place. A width outside 1 to MAX_WIDTH is no field of the layout, and is answered as cut.
-pub fn read_field(s: &[u8], c: Cursor, width: usize) -> Field
+// A cursor's bits are a u8, at most 31 whole bytes, so the two bytes of a field are at most 32 after the cursor's byte.
+const MARGIN: usize = 32;
+
+// How many bytes have MARGIN more behind them: a field whose cursor is at one of these is not cut.
+fn early_bytes(length: usize) -> usize
+    ensures { λ r. ⌜ r ≡ length - margin ⌝ }
+{
+    if length < MARGIN {
+        return 0;
+    }
+    length - MARGIN
+}
+
+// The field at a place among the last bytes or past them, where it may be cut.
+fn late_field(s: &[u8], c: Cursor, width: usize) -> Field
+    requires { ⌜ (1 ≤ width) × (width ≤ maxWidth) ⌝ }
     ensures { λ r. ⌜ r ≡ fieldAt (now (s .entry)) c width ⌝ }
 {
     let byte = c.byte;
@@ -117,11 +130,33 @@ pub fn read_field(s: &[u8], c: Cursor, width: usize) -> Field
     if s.len() <= byte {
         return Field::Cut;
     }
+    let at = byte + bit / 8;
+    let end = bit % 8 + width;
+    if s.len() < at + (end + 7) / 8 {
+        return Field::Cut;
+    }
+    let next = Cursor {
+        byte: at + end / 8,
+        bit: (end % 8) as u8,
+    };
+    Field::Value(bits_before(last_bytes(s, at), end, width), next)
+}
+
+// The field of `width` bits at a place. A width outside 1 to MAX_WIDTH is no field of the layout, and is answered as cut.
+pub fn read_field(s: &[u8], c: Cursor, width: usize) -> Field
+    ensures { λ r. ⌜ r ≡ fieldAt (now (s .entry)) c width ⌝ }
+{
     if width < 1 {
         return Field::Cut;
     }
     if MAX_WIDTH < width {
         return Field::Cut;
+    }
+    let byte = c.byte;
+    let bit = c.bit as usize;
+    // One test decides for most fields that both bytes are there.
+    if early_bytes(s.len()) <= byte {
+        return late_field(s, c, width);
     }
     let at = byte + bit / 8;
     let end = bit % 8 + width;
@@ -129,14 +164,7 @@ pub fn read_field(s: &[u8], c: Cursor, width: usize) -> Field
         byte: at + end / 8,
         bit: (end % 8) as u8,
     };
-    // Where four bytes are left, no field is cut: one test, and the bytes come in one load.
-    if at + 3 < s.len() {
-        return Field::Value(bits_before(four_bytes(s, at), end, width), next);
-    }
-    if s.len() < at + (end + 7) / 8 {
-        return Field::Cut;
-    }
-    Field::Value(bits_before(last_bytes(s, at), end, width), next)
+    Field::Value(bits_before(two_bytes(s, at), end, width), next)
 }
 
 // Whether from a place on there are only spare bits: less than a byte, no bit of it 1.

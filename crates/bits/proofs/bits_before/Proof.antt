@@ -18,12 +18,12 @@ shl-result : tie.Need-shl-result
 shl-result c = search needs
 
 rem-result : tie.Need-rem-result
-rem-result c = rw (shift-exact (c .args .width) (omega (arith, c .pre .2))) (pow-pos (c .args .width))
+rem-result c = rw (shift-exact (c .args .width) (omega (arith, c .pre .0, c .pre .1))) (pow-pos (c .args .width))
 
 returns : tie.Need-returns
 returns c =
     let a = c .args in
-    ap (λ (k : ℕ). a .word / 2 ^ (32 - a .end) % k) (shift-exact (a .width) (omega (arith, c .pre .2)))
+    ap (λ (k : ℕ). a .word / 2 ^ (16 - a .end) % k) (shift-exact (a .width) (omega (arith, c .pre .0, c .pre .1)))
 
 pub bits-before-spec : {M : Type 1} → statement M
 bits-before-spec = tie.close (tie.spec sub-result shr-result shl-result rem-result returns)
