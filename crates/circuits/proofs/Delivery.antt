@@ -2,20 +2,22 @@
 --
 --   Ready            what delivering asks for
 --   good-fits, good-row-fits   the place of the good output, and its row, fit a word
---   good-room        the good output lies within the rows, and there is room for it
+--   good-put         the good output's row is put at the start
 --   ready-kept       so with lent bytes of the same length
 --   delivered        the good circuit's table, and then those of the faulty circuits
 use Prim.Native.Nat.{ℕ, _+_, _*_, _^_, _≤_, _<_}
 use native.Mathlib.Nat.{mul-le-mul-right, one-mul}
 use native.Mathlib.Omega.{arith}
 use mathlib.Core.Path.{_≡_, sym, ap, subst, _∙_}
+use mathlib.Core.Bool.{cond}
 use mathlib.Core.List.{List}
 use lib.ListN.{length}
 use mir.Syntax.{w64}
 use mir.Val.{Fits}
 use Rattle.job.specs.declared.Job.{Job}
 use Rattle.gates.specs.Form.{tableBytes}
-use Rattle.gates.specs.Rows.{part, splice}
+use Rattle.gates.specs.Rows.{part, splice, copyFits}
+use Rattle.gates.proofs.Fitting.{fitted, copy-fits}
 use Rattle.tables.specs.Circuit.{fixingOf, circuitTable}
 use Rattle.differences.specs.Known.{Spacious, Narrow}
 use Rattle.circuits.specs.Faulty.{Asked}
@@ -53,8 +55,13 @@ module _ (j : Job) (shape : Shape) (width place : ℕ) (rows out : List ℕ) (re
       let some : 1 ≤ j .«fault_count» + 1 = omega arith in
       omega (arith, mul-le-mul-right (tableBytes (j .inputs)) some, one-mul (tableBytes (j .inputs)), ready .5)
 
-  pub good-room : (0 + shape .bytes ≤ length out) × (j .output * width * shape .bytes + shape .bytes ≤ length rows)
-  good-room = (omega (arith, bytes, good-first), good-end)
+  good-put : {mid : List ℕ}
+      → mid ≡ cond (copyFits 0 (j .output * width * shape .bytes) (shape .bytes) (length out) (length rows))
+      (splice out 0 (part (j .output * width * shape .bytes) (shape .bytes) rows)) out
+      → mid ≡ splice out 0 (part (j .output * width * shape .bytes) (shape .bytes) rows)
+  good-put =
+      fitted _ out
+      (copy-fits 0 (j .output * width * shape .bytes) (shape .bytes) (length out) (length rows) (omega (arith, bytes, good-first)) good-end)
 
   pub good-fits : length rows < 2 ^ 64 → Fits w64 (j .output * width * shape .bytes)
   good-fits short = record { fits = omega (arith, good-end, roomy-some j shape (place + 2) rows spacious) }
@@ -65,11 +72,13 @@ module _ (j : Job) (shape : Shape) (width place : ℕ) (rows out : List ℕ) (re
   pub ready-kept : (mid : List ℕ) → length mid ≡ length out → Ready j shape width place rows (length mid)
   ready-kept mid same = subst (λ (k : ℕ). Ready j shape width place rows k) (sym same) ready
 
-  pub delivered : {mid after : List ℕ} → mid ≡ splice out 0 (part (j .output * width * shape .bytes) (shape .bytes) rows)
+  pub delivered : {mid after : List ℕ}
+      → mid ≡ cond (copyFits 0 (j .output * width * shape .bytes) (shape .bytes) (length out) (length rows))
+      (splice out 0 (part (j .output * width * shape .bytes) (shape .bytes) rows)) out
       → after ≡ splice mid (tableBytes (j .inputs)) (tablesFrom j 1 (j .«fault_count»)) → after ≡ splice out 0 (tablesTo j (j .«fault_count» + 1))
   delivered first-put then-put =
       then-put
-      ∙ ap (λ (l : List ℕ). splice l (tableBytes (j .inputs)) (tablesFrom j 1 (j .«fault_count»))) first-put
+      ∙ ap (λ (l : List ℕ). splice l (tableBytes (j .inputs)) (tablesFrom j 1 (j .«fault_count»))) (good-put first-put)
       ∙ ap (λ (l : List ℕ). splice (splice out 0 l) (tableBytes (j .inputs)) (tablesFrom j 1 (j .«fault_count»)))
       (ap (λ (b : ℕ). part (j .output * width * b) b rows) bytes ∙ ready .2 .line (j .output) (spacious .valid .output) ∙ good-circuit j)
       ∙ tables-all j out (j .«fault_count») good-first

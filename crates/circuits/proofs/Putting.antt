@@ -1,7 +1,7 @@
 -- Laws of the places from which faulty circuits' tables are put together, and of the tables put so far (specs/Faulty.antt).
 --
 --   reach-fits, line-fits, difference-fits   the places of rows, and of a line's good row and difference, fit a word
---   reach-below     the value's row stands behind those of the good circuit
+--   reach-fixed     what is put in the value's row, which stands behind those of the good circuit (reach-below)
 --   reach-within    the places of a fault's tables end within the rows
 --   put-changed     the table put together is that of the fault's lines
 --   line-before     a line's good row stands before the differences
@@ -18,6 +18,7 @@ use Prim.Native.Nat.{ℕ, suc, zero-le, _+_, _-_, _*_, _^_, _≤_, _<_}
 use native.Mathlib.Nat.{le-trans, le-antisymm, mul-le-mul-right, suc-mul}
 use native.Mathlib.Omega.{arith}
 use mathlib.Core.Path.{_≡_, refl, sym, ap, subst, _∙_}
+use mathlib.Core.Bool.{cond}
 use mathlib.Core.List.{List}
 use lib.ListN.{length}
 use mir.Syntax.{w64}
@@ -34,7 +35,7 @@ use Rattle.tables.specs.Circuit.{free, valuesTo, circuitTable}
 use Rattle.differences.specs.Known.{Spacious, Narrow}
 use Rattle.circuits.specs.Faulty.{Reaches, Within, Asked, changedByte, placesOf}
 use Rattle.tables.specs.Work.{Good, Fixes, tablesFrom}
-use Rattle.tables.specs.Sizes.{shapeOf, Below, block, fixedRow}
+use Rattle.tables.specs.Sizes.{shapeOf, block, fixedRow, fixFits, fixedByte}
 use Rattle.tables.specs.declared.rows.Shape.{Shape}
 use Rattle.gates.proofs.Splice.{length-splice}
 use Rattle.tables.proofs.Blocks.{length-block, splice-none, splice-append}
@@ -42,21 +43,27 @@ use Rattle.circuits.proofs.Changing.{changed-table}
 use Rattle.tables.proofs.Delivered.{length-table, fixes}
 use Rattle.tables.proofs.Faults.{given, given-table}
 use Rattle.tables.proofs.Held.{Puts, row-puts}
-use Rattle.tables.proofs.Shaped.{shaped-some}
-use Rattle.tables.proofs.Sizes.{byte-inputs}
+use Rattle.tables.proofs.Shaped.{Below, fixed-spliced, shaped-some}
 use Rattle.tables.proofs.Space.{fault-index, row-order, roomy-kept, roomy-row}
 
 module _ (x : Fault) (output width place : ℕ) (shape : Shape) (rows : List ℕ) (reach : Reaches x output width place shape rows) where
   row-end : (r : ℕ) → r ≤ place + 1 → r * shape .bytes + shape .bytes ≤ length rows
   row-end r h = le-trans (row-order r (place + 2) (shape .bytes) (omega arith)) (reach .room)
 
-  pub reach-below : Below shape (faultA x * width * shape .bytes) (faultB x * width * shape .bytes) ((place + 1) * shape .bytes) rows
+  reach-below : Below shape (faultA x * width * shape .bytes) (faultB x * width * shape .bytes) ((place + 1) * shape .bytes) rows
   reach-below =
       record {
-        at = record { shaped = reach .shaped; few = reach .few; room = row-end (place + 1) (omega arith) };
+        at = record { shaped = reach .shaped; room = row-end (place + 1) (omega arith) };
         first = row-order (faultA x * width) (place + 1) (shape .bytes) (omega (arith, reach .low));
         second = row-order (faultB x * width) (place + 1) (shape .bytes) (omega (arith, reach .high));
       }
+
+  pub reach-fixed : {low high : ℕ} → low ≡ faultA x → high ≡ faultB x → {after : List ℕ}
+      → after ≡ cond (fixFits x (low * width * shape .bytes) (high * width * shape .bytes) ((place + 1) * shape .bytes) (shape .bytes) (length rows))
+      (splice rows ((place + 1) * shape .bytes) (tabulate (shape .bytes) (fixedByte x (low * width * shape .bytes) (high * width * shape .bytes) (shape .keep) rows))) rows
+      → after ≡ splice rows ((place + 1) * shape .bytes) (fixedRow shape width x rows)
+  reach-fixed first second =
+      fixed-spliced shape width ((place + 1) * shape .bytes) rows x reach-below (ap (λ (l : ℕ). l * width * shape .bytes) first) (ap (λ (l : ℕ). l * width * shape .bytes) second)
 
   pub reach-within : (low high size : ℕ) → low ≡ faultA x → high ≡ faultB x → size ≡ length rows
       → Within (placesOf output low high width place (shape .bytes)) (shape .bytes) size
@@ -97,7 +104,6 @@ fault-reaches j shape width place rows spacious narrow some i h =
     let inside : faultA (faultAt j i) < lines j = omega (arith, fixes j i (spacious .valid) h .low, fixes j i (spacious .valid) h .high) in
     record {
       shaped = spacious .shaped ∙ ap (λ (s : Shape). shapeOf (s .inputs)) (sym (spacious .shaped));
-      few = omega (arith, ap (λ (s : Shape). s .inputs) (spacious .shaped), spacious .valid .few, byte-inputs);
       room = subst (λ (s : Shape). (place + 2) * s .bytes ≤ length rows) (sym (spacious .shaped)) (spacious .room);
       good = line-before j width place (j .output) narrow some (spacious .valid .output);
       low = line-before j width place (faultA (faultAt j i)) narrow some inside;

@@ -54,7 +54,6 @@ Asked j place rows =
 -- what putting one faulty circuit's table asks for
 pub record Reaches (x : Fault) (output width place : ℕ) (shape : Shape) (rows : List ℕ) : Type 0 where
   pub shaped : shape ≡ shapeOf (shape .inputs)
-  pub few : shape .inputs < 64
   pub room : (place + 2) * shape .bytes ≤ length rows
   pub good : output * width < place
   pub low : faultA x * width < place

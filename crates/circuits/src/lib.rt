@@ -107,7 +107,6 @@ fn put_fault(
 {
     let bytes = shape.bytes;
     let value = (place + 1) * bytes;
-    tables::rows::fix_row(rows, value, fault, width, shape);
     let low = fault.first();
     let high = fault.second();
     let at = Places {
@@ -118,6 +117,7 @@ fn put_fault(
         high: high * width * bytes,
         high_difference: (place - high) * bytes,
     };
+    tables::rows::fix_row(rows, value, fault, at.low, at.high, shape);
     put_changed(out, to, rows, at, bytes);
 }
 
@@ -146,7 +146,7 @@ fn deliver(out: &mut [u8], rows: &mut [u8], job: Job, width: usize, place: usize
 {
     let bytes = shape.bytes;
     let good = job.output as usize * width * bytes;
-    tables::rows::copy(out, 0, rows, good, bytes);
+    gates::copy(out, 0, rows, good, bytes);
     put_faults(out, rows, job, width, place, shape);
 }
 

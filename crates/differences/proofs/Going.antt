@@ -14,21 +14,20 @@ use mathlib.Core.List.{List}
 use borrow.Author.Tests.{eqb-true, ltb-true}
 use lib.Dec.{ltb, eqb}
 use lib.ListN.{length, getD}
-use Rattle.bits.specs.Packed.{tabulate, packed}
+use Rattle.bits.specs.Packed.{tabulate}
 use Rattle.bits.proofs.Tests.{and-l, and-r}
 use Rattle.job.specs.Record.{gateKind, gateA, gateB, gateAt, lines}
 use Rattle.job.specs.declared.Job.{Job}
 use Rattle.gates.specs.Form.{combined, kindForm}
 use Rattle.gates.specs.Rows.{splice}
-use Rattle.gates.specs.Values.{inputValue}
 use Rattle.gates.specs.declared.Form.{Form}
 use Rattle.differences.specs.Side.{rowOf, Sound, Side, Made, Behind, Reached, isNext}
-use Rattle.tables.specs.Sizes.{block}
+use Rattle.tables.specs.Sizes.{inputFits, inputByte}
 use Rattle.differences.specs.declared.columns.Batch.{Batch}
 use Rattle.tables.specs.declared.rows.Shape.{Shape}
 use Rattle.differences.proofs.Batching.{side-none, behind-same, behind-then, made-input, behind-input, made-gate, behind-gate}
 use Rattle.differences.proofs.Changes.{stem-line, reached-past, reached-next, side-past, side-changed, behind-changed}
-use Rattle.differences.proofs.Space.{sound-kept, block-room}
+use Rattle.differences.proofs.Space.{sound-kept, block-room, block-input}
 
 pub record Going (j : Job) (stems : List ℕ) (b : Batch) (start : List ℕ) (line next : ℕ) (rows : List ℕ) : Type 0 where
   pub long : length rows ≡ length start
@@ -117,10 +116,12 @@ module _ (j : Job) (shape : Shape) (stems : List ℕ) (b : Batch) (start : List 
   module _ (not : Form) (formed : not ≡ kindForm 6 (shape .keep)) (to : ℕ) (at : to ≡ rowOf b l * shape .bytes) (mid after : List ℕ)
       (long : length mid ≡ length rows) (kept : length after ≡ length mid) (r : ℕ) (is : r ≡ cond (isNext b next (getD stems next 0) l) (next + 1) next)
       (e : after ≡ cond (isNext b next (getD stems next 0) l) (splice mid (to + (next - b .first + 1) * shape .bytes) (tabulate (shape .bytes) (combined not to to mid))) mid) where
-    pub going-input : l < j .inputs → mid ≡ splice rows to (block (b .width) (λ i. packed (2 ^ (shape .inputs)) (λ m. inputValue m l)))
+    pub going-input : l < j .inputs
+        → mid ≡ cond (inputFits l to (b .width * shape .bytes) (length rows)) (splice rows to (tabulate (b .width * shape .bytes) (inputByte l (shape .keep)))) rows
         → Going j stems b start (l + 1) r after
     unfolding put
-    going-input h step =
+    going-input h filled =
+        let step = block-input j shape stems b rows going-sound l h at filled in
         going-changed (omega arith) mid long (made-input j shape stems b l rows mid going-sound h to at step (going .side))
         (behind-input j shape stems b l rows mid going-sound h to at step) not formed to at after kept r is e
 

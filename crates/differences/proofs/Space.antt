@@ -7,28 +7,32 @@
 --   gate-stepped     the gate step over blocks finds its places
 --   shape-bytes      the shape has the table's bytes, one or more (shape-some)
 --   sound-kept       rows of the same length stay sound
---   input-shape      an input of the job is one of the shape
 --   row-inside       a row of a line's block lies within the rows, and so does the block (block-inside, block-room)
---   block-space      there is room for the block, and its place fits a word (place-small)
+--   place-small      the block's place fits a word, and so do its bytes (width-fits)
+--   block-input      the tables of an input, put in its block (block-space)
 --   narrow-inside    the blocks lie within rows with differences behind them
 use Prim.Native.Nat.{ℕ, _+_, _*_, _^_, _≤_, _<_}
 use native.Mathlib.Nat.{le-trans, mul-le-mul-right, suc-mul, add-mul}
 use native.Mathlib.Omega.{arith}
-use mathlib.Core.Path.{_≡_, sym, ap, subst, _∙_}
+use mathlib.Core.Path.{_≡_, refl, sym, ap, subst, _∙_}
 use mathlib.Core.List.{List}
 use mathlib.Core.Bool.{cond}
 use lib.ListN.{length}
-use Rattle.bits.specs.Packed.{tabulate}
+use mir.Syntax.{w64}
+use mir.Val.{Fits}
+use Rattle.bits.specs.Packed.{tabulate, packed}
 use Rattle.job.specs.Record.{lines}
 use Rattle.job.specs.declared.Job.{Job}
 use Rattle.gates.specs.Form.{tableBytes, combined}
 use Rattle.gates.specs.Rows.{splice, stepFits}
+use Rattle.gates.specs.Values.{inputValue}
 use Rattle.gates.specs.declared.Form.{Form}
 use Rattle.gates.proofs.Fitting.{fitted, step-fits}
-use Rattle.tables.specs.Sizes.{shapeOf, Space}
+use Rattle.tables.specs.Sizes.{shapeOf, block, inputFits, inputByte}
 use Rattle.tables.specs.declared.rows.Shape.{Shape}
+use Rattle.tables.proofs.Shaped.{Space, input-block}
 use Rattle.tables.proofs.Sizes.{byte-inputs}
-use Rattle.tables.proofs.Space.{bytes-some, row-order}
+use Rattle.tables.proofs.Space.{input-line, bytes-some, row-order}
 use Rattle.differences.specs.Side.{rowOf, Sound}
 use Rattle.differences.specs.Known.{Spacious, Narrow}
 use Rattle.differences.specs.declared.columns.Batch.{Batch}
@@ -85,9 +89,6 @@ module _ (j : Job) (shape : Shape) (stems : List ℕ) (b : Batch) (rows : List �
   shaped : shape ≡ shapeOf (shape .inputs)
   shaped = sound .shaped ∙ ap (λ (s : Shape). shapeOf (s .inputs)) (sym (sound .shaped))
 
-  pub input-shape : {l : ℕ} → l < j .inputs → l < shape .inputs
-  input-shape h = omega (arith, ap (λ (s : Shape). s .inputs) (sound .shaped))
-
   module _ (l : ℕ) (h : l < lines j) where
     pub block-inside : (rowOf b l + b .width) * tableBytes (j .inputs) ≤ length rows
     block-inside =
@@ -99,15 +100,24 @@ module _ (j : Job) (shape : Shape) (stems : List ℕ) (b : Batch) (rows : List �
         subst (λ (w : ℕ). rowOf b l * w + b .width * w ≤ length rows) (sym shape-bytes)
         (omega (arith, add-mul (rowOf b l) (b .width) (tableBytes (j .inputs)), block-inside))
 
-    pub block-space : {to : ℕ} → to ≡ rowOf b l * shape .bytes → Space shape to (b .width) rows
+    block-space : {to : ℕ} → to ≡ rowOf b l * shape .bytes → Space shape to (b .width) rows
     block-space e =
         record { shaped = shaped; few = few; room = subst (λ (k : ℕ). k + b .width * shape .bytes ≤ length rows) (sym e) block-room }
 
     pub place-small : length rows < 2 ^ 64 → rowOf b l * shape .bytes < 2 ^ 64
     place-small short = omega (arith, block-room)
 
+    pub width-fits : length rows < 2 ^ 64 → Fits w64 (b .width * shape .bytes)
+    width-fits short = record { fits = omega (arith, block-room) }
+
     pub row-inside : (i : ℕ) → i < b .width → (rowOf b l + i) * tableBytes (j .inputs) + tableBytes (j .inputs) ≤ length rows
     row-inside i less = le-trans (row-order (rowOf b l + i) (rowOf b l + b .width) (tableBytes (j .inputs)) (omega arith)) block-inside
+
+  pub block-input : (l : ℕ) → l < j .inputs → {to : ℕ} → to ≡ rowOf b l * shape .bytes → {after : List ℕ}
+      → after ≡ cond (inputFits l to (b .width * shape .bytes) (length rows)) (splice rows to (tabulate (b .width * shape .bytes) (inputByte l (shape .keep)))) rows
+      → after ≡ splice rows to (block (b .width) (λ i. packed (2 ^ (shape .inputs)) (λ m. inputValue m l)))
+  block-input l h {to} at =
+      input-block shape to (b .width) rows (block-space l (input-line j h) at) l (omega (arith, ap (λ (s : Shape). s .inputs) (sound .shaped))) refl
 
 module _ (j : Job) (shape : Shape) (place : ℕ) (rows : List ℕ) (spacious : Spacious j shape place rows) where
   pub narrow-inside : (width : ℕ) → Narrow j width place → lines j * width * tableBytes (j .inputs) ≤ length rows

@@ -68,7 +68,7 @@ fn input_blocks(
     let mut line = 0;
     while line < job.inputs as usize {
         let to = block_place(batch, line, bytes);
-        tables::rows::input_block(rows, line, to, width, shape);
+        tables::rows::input_block(rows, line, to, width * bytes, shape.keep);
         let stem = stems[next] as usize;
         next = change_line(rows, to, line, stem, next, batch, not, bytes);
         line += 1;

@@ -9,7 +9,8 @@
 --   step-outside, first-late, step-second   the gate step's test, by its parts
 --   step-fits               it passes where the table ends within the rows, and two others before it
 --   no-room, too-high, bit-inside           the test of bytes that alternate, by its parts
---   alternate-fits          it passes where there is room, and a byte has the bit
+--   copy-outside, copy-second               the test of a copy, by its parts
+--   copy-fits               it passes where there is room for what is copied, and it ends within the rows
 use Prim.Native.Nat.{ℕ, _+_, _-_, _≤_, _<_}
 use native.Mathlib.Omega.{arith}
 use mathlib.Core.Path.{_≡_, sym, ap, _∙_}
@@ -19,7 +20,7 @@ use mathlib.Core.Logic.{⊎-elim}
 use borrow.Author.Tests.{leb-true, le-leb, lt-leb, lt-ltb, le-ltb, not-true, not-false}
 use lib.Dec.{leb, ltb}
 use Rattle.bits.proofs.Below.{lt-or-ge}
-use Rattle.gates.specs.Rows.{hasRoom, stepFits, alternateFits}
+use Rattle.gates.specs.Rows.{hasRoom, stepFits, alternateFits, copyFits}
 
 module _ (length at count : ℕ) where
   pub room-short : length < count → false ≡ hasRoom length at count
@@ -80,5 +81,12 @@ module _ (to count bit length : ℕ) where
   pub bit-inside : hasRoom length to count ≡ true → bit < 8 → alternateFits to count bit length ≡ true
   bit-inside room h = and-then room (lt-ltb bit 8 h)
 
-  pub alternate-fits : to + count ≤ length → bit < 8 → alternateFits to count bit length ≡ true
-  alternate-fits h = bit-inside (room-fits length to count h)
+module _ (to at count length rows : ℕ) where
+  pub copy-outside : hasRoom length to count ≡ false → copyFits to at count length rows ≡ false
+  copy-outside e = ap (λ (t : Bool). t && hasRoom rows at count) e
+
+  pub copy-second : {v : Bool} → hasRoom length to count ≡ true → hasRoom rows at count ≡ v → copyFits to at count length rows ≡ v
+  copy-second room e = and-then room e
+
+  pub copy-fits : to + count ≤ length → at + count ≤ rows → copyFits to at count length rows ≡ true
+  copy-fits h k = copy-second (room-fits length to count h) (room-fits rows at count k)

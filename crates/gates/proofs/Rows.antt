@@ -1,20 +1,30 @@
 -- Laws of rows of bytes in one list (specs/Rows.antt).
 --
+--   tabulate-part      bytes copied one by one are a part of the rows
 --   part-same          the part that a splice put in is what was put in
 --   part-before        a part that ends before a splice is as it was
 --   part-behind        a part that starts behind a splice is as it was
 --   row-apart          of two different rows one ends before the other starts
 --   part-other         another row than the one that is put in is as it was
-use Prim.Native.Nat.{ℕ, _+_, _-_, _*_, _≤_, _<_}
+use Prim.Native.Nat.{ℕ, zero, suc, _+_, _-_, _*_, _≤_, _<_}
 use native.Mathlib.Nat.{mul-le-mul-right, suc-mul}
 use native.Mathlib.Omega.{arith}
 use native.Mathlib.Decide.{decLt}
-use mathlib.Core.Path.{_≡_, sym, ap, _∙_}
+use mathlib.Core.Path.{_≡_, refl, sym, ap, ap₂, _∙_}
 use mathlib.Core.Logic.{_⊎_, inl, inr}
-use mathlib.Core.List.{List, _++_}
-use lib.ListN.{length, take, drop, length-append, length-drop, take-append-drop}
-use lib.Seq.{length-take-le, take-append-le, drop-append-le, drop-at, drop-append-add}
+use mathlib.Core.List.{List, [], _∷_, _++_}
+use lib.ListN.{length, getD, take, drop, length-append, length-drop, take-append-drop}
+use lib.Seq.{take-suc, getD-drop, length-take-le, take-append-le, drop-append-le, drop-at, drop-append-add}
+use Rattle.bits.specs.Packed.{tabulate}
 use Rattle.gates.specs.Rows.{part, splice}
+
+pub tabulate-part : (rows : List ℕ) (at count : ℕ) → at + count ≤ length rows → tabulate count (λ i. getD rows (at + i) 0) ≡ part at count rows
+unfolding tabulate
+tabulate-part rows at zero h = refl
+tabulate-part rows at (suc n) h =
+    let l : n < length rows - at = omega arith in
+    ap₂ (λ (a : List ℕ) (x : ℕ). a ++ (x ∷ [])) (tabulate-part rows at n (omega arith)) (sym (getD-drop at rows n 0))
+    ∙ sym (take-suc (drop at rows) n 0 (rw length-drop l))
 
 -- a part that lies in the first of two lists
 part-front : (at w : ℕ) (xs ys : List ℕ) → at + w ≤ length xs → part at w (xs ++ ys) ≡ part at w xs

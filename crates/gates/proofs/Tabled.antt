@@ -7,7 +7,6 @@
 --   gate-packed          the bytes of the gate step are that table
 --   slope-packed         so for the table where a gate's answer changes with one of its lines
 --   level-packed         the mask in every byte, or 0, is the table of a level
---   patternOf            an input's entries within a byte, for the first three inputs
 --   pattern-rest         the pattern of a line that is neither 0 nor 1
 --   pattern-packed       the masked pattern in every byte is the table of one of the first three inputs
 --   alternate-low        the bit of a place within a byte
@@ -31,7 +30,7 @@ use Rattle.bits.proofs.Digits.{digit-lt, digit-above, digit-and}
 use Rattle.bits.proofs.Packed.{Bytes, length-tabulate, tabulate-at, tabulate-past, packed-unique}
 use Rattle.job.specs.Record.{levelNumber}
 use Rattle.gates.specs.Answers.{answers, answer}
-use Rattle.gates.specs.Form.{tableBytes, keepOf, combined, kindForm, slopeForm, alternating}
+use Rattle.gates.specs.Form.{tableBytes, keepOf, combined, kindForm, slopeForm, patternOf, alternating}
 use Rattle.gates.specs.Rows.{part}
 use Rattle.gates.specs.Values.{inputValue}
 use Rattle.gates.proofs.Kept.{keep-lt, keep-digit, keep-full, full-digit}
@@ -87,10 +86,6 @@ level-packed n true = row-packed n (λ m. 1) (λ i. keepOf n) (λ i. keep-lt n) 
 level-packed n false =
     row-packed n (λ m. 0) (λ i. 0) (λ i. omega arith)
     (λ m l. ap (λ (x : ℕ). x % 2) (zero-div (2 ^ (7 - m % 8))) ∙ sym (mul-zero (bitFor m (keepOf n))))
-
--- 01010101, 00110011 and 00001111
-abbrev pub patternOf : ℕ → ℕ
-patternOf line = getD (85 ∷ 51 ∷ []) line 15
 
 pub pattern-rest : (line : ℕ) → (line ≡ 0 → ⊥) → (line ≡ 1 → ⊥) → patternOf line ≡ 15
 pattern-rest line h0 h1 = List·getD-eq-default (85 ∷ 51 ∷ []) 15 {n = line} (omega arith)

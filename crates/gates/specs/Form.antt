@@ -9,6 +9,7 @@
 --   formOf        the polynomial of a row of four answers, over the bits of a mask
 --   kindForm      the polynomial of a kind of gate
 --   slopeForm     the polynomial that is 1 where x is 1 and a gate's answer changes with one of its lines, y being the value of the other
+--   patternOf     every byte of the table of one of the first three inputs, spare bits not yet cut off
 --   alternating   byte i of the table of an input from the fourth on: eight copies of a bit of i
 use Prim.Native.Nat.{ℕ, _+_, _*_, _/_, _%_, _^_}
 use mathlib.Core.Bool.{cond}
@@ -40,6 +41,10 @@ step f x y = bitXor (bitXor (bitXor (f .constant) (bitAnd (f .first) x)) (bitAnd
 
 abbrev pub combined : Form → ℕ → ℕ → List ℕ → ℕ → ℕ
 combined f x y rows i = step f (getD rows (x + i) 0) (getD rows (y + i) 0)
+
+-- 01010101, 00110011 and 00001111
+abbrev pub patternOf : ℕ → ℕ
+patternOf line = getD (85 ∷ 51 ∷ []) line 15
 
 abbrev pub alternating : ℕ → ℕ → ℕ
 alternating bit i = 255 * (i / 2 ^ bit % 2)

@@ -5,6 +5,7 @@
 --   hasRoom         so many bytes from a place on end within a length
 --   stepFits        a table of so many bytes at a place ends within a length, and two others end before it
 --   alternateFits   so many bytes from a place on end within a length, and a byte has the bit
+--   copyFits        so many bytes from a place on end within a length, and so do those that they are copied from
 use Prim.Native.Nat.{ℕ, _+_}
 use mathlib.Core.Bool.{Bool, _&&_}
 use mathlib.Core.List.{List, _++_}
@@ -25,3 +26,6 @@ stepFits x y to count length = hasRoom length to count && (hasRoom to x count &&
 
 abbrev pub alternateFits : ℕ → ℕ → ℕ → ℕ → Bool
 alternateFits to count bit length = hasRoom length to count && ltb bit 8
+
+abbrev pub copyFits : ℕ → ℕ → ℕ → ℕ → ℕ → Bool
+copyFits to at count length rows = hasRoom length to count && hasRoom rows at count

@@ -1,4 +1,4 @@
-// Bytes of packed tables: the gate step, and bytes that are filled. Each function makes sure by itself that what it reads and writes lies where it
+// Bytes of packed tables: the gate step, and bytes that are filled or copied. Each function makes sure by itself that what it reads and writes lies where it
 // should, and else does nothing.
 ghost use mathlib.Core.Path.{_≡_};
 ghost use mathlib.Core.Bool.{cond};
@@ -7,7 +7,7 @@ ghost use lib.ListN.{length};
 ghost use Rattle.bits.specs.Packed.{tabulate};
 ghost use Rattle.job.specs.Record.{gateKind};
 ghost use Rattle.gates.specs.Form.{alternating, combined, kindForm, placesOf, tableBytesOf};
-ghost use Rattle.gates.specs.Rows.{splice, hasRoom, stepFits, alternateFits};
+ghost use Rattle.gates.specs.Rows.{part, splice, hasRoom, stepFits, alternateFits, copyFits};
 use job::Gate;
 
 // "The answers of the eight kinds on 00, 01, 10 and 11 stand in a table": AND, OR, NAND, NOR, XOR, XNOR, NOT and BUF.
@@ -155,6 +155,30 @@ fn alternate_bytes(rows: &mut [u8], to: usize, count: usize, bit: usize)
     while i < count {
         let low = (i % 256) as u8;
         rows[to + i] = 255 * ((low >> bit) % 2);
+        i += 1;
+    }
+}
+
+// Copies `count` bytes at `at` of the rows to `to`, if they end within both.
+pub fn copy(out: &mut [u8], to: usize, rows: &[u8], at: usize, count: usize)
+    ensures { λ r. ⌜ now (out .exit) ≡ cond (copyFits to at count (length (now (out .entry))) (length (now (rows .entry)))) (splice (now (out .entry)) to (part at count (now (rows .entry)))) (now (out .entry)) ⌝ }
+{
+    if !has_room(out.len(), to, count) {
+        return;
+    }
+    if !has_room(rows.len(), at, count) {
+        return;
+    }
+    copy_bytes(out, to, rows, at, count);
+}
+
+fn copy_bytes(out: &mut [u8], to: usize, rows: &[u8], at: usize, count: usize)
+    requires { ⌜ (to + count ≤ length (now out)) × (at + count ≤ length (now rows)) ⌝ }
+    ensures { λ r. ⌜ now (out .exit) ≡ splice (now (out .entry)) to (part at count (now (rows .entry))) ⌝ }
+{
+    let mut i = 0;
+    while i < count {
+        out[to + i] = rows[at + i];
         i += 1;
     }
 }

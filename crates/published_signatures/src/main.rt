@@ -3,6 +3,9 @@
 // Standard input has a line for each task. `i KIND K HH HH ..` and `d KIND K HH HH ..` give a kind of spectrum, `rm` or `mrm`, a
 // polarity and the bytes of a job: its isolating or detecting signature is written. `l KIND K /I I ../R R ../HH HH ..` gives
 // indices and readings too: the circuits that agree are written. A line that begins with `#` names the next tasks, and is written as it is.
+ghost use Prim.Native.Nat.{_≤_};
+ghost use lib.ListN.{length};
+ghost use Rattle.io.specs.Counts.{Counts as Within};
 use choosing::Purpose;
 use choosing::Verdict;
 use libc::STDIN_FILENO;
@@ -89,6 +92,15 @@ fn list_pair(word: &[u8], a: usize, b: usize) {
     io::write_all(STDOUT_FILENO, b"\n");
 }
 
+// The numbers from a place on, up to the next `/`.
+fn read_part(line: &[u8], from: usize, numbers: &mut [u16]) -> usize
+    requires { ⌜ from ≤ length (now line) ⌝ }
+    ensures { λ r. ⌜ Within r (now (numbers .exit)) ⌝ }
+{
+    let end = words::place_of(line, from, b'/');
+    words::read_numbers(&line[from..end], 0, numbers)
+}
+
 // The circuits that agree with the readings that the line gives.
 fn list_location(line: &[u8]) {
     let kind_at = words::next_word(line, 0);
@@ -96,13 +108,11 @@ fn list_location(line: &[u8]) {
     let indices_at = words::after(line, 0, b'/');
     let readings_at = words::after(line, indices_at, b'/');
     let job_at = words::after(line, readings_at, b'/');
-    let indices_end = words::place_of(line, indices_at, b'/');
-    let readings_end = words::place_of(line, readings_at, b'/');
     let mut indices = [0u16; MAX_PLACES];
     let mut readings = [0u16; MAX_PLACES];
     let mut job = [0u8; MAX_JOB_BYTES];
-    let listed = words::read_numbers(&line[indices_at..indices_end], 0, &mut indices);
-    let read = words::read_numbers(&line[readings_at..readings_end], 0, &mut readings);
+    let listed = read_part(line, indices_at, &mut indices);
+    let read = read_part(line, readings_at, &mut readings);
     let bytes = words::read_hex(&line[job_at..], &mut job);
     list_located(
         &job[..bytes],

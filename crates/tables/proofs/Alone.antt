@@ -2,8 +2,7 @@
 --
 --   length-part      a part that ends within the bytes is as long as it says
 --   spare-row        the rows of the lines, and one more, lie within the rows, and its place fits a word (spare-fits, read-fits)
---   spare-input      an input of the job is one of the shape
---   spare-space      there is room for a table in a row
+--   spare-input      the table of an input, put in its row
 --   spare-below, spare-fixed, spare-copy   what a gate's table, a fault's table and a copy of that ask for
 --   Placed           the tables of the first inputs stand in their rows
 --   placed-none, placed-more, placed-all        no input yet, one more, all
@@ -18,7 +17,7 @@
 --   good-done        the good circuit's table
 --   faulty-done      a faulty circuit's table
 --   circuit-spare    the rows of one circuit are enough for every job
---   output-fits, output-room, output-put   the output's row is put at the start
+--   output-fits, output-put   the output's row is put at the start
 use Prim.Native.Nat.{ℕ, suc, _+_, _-_, _*_, _^_, _≤_, _<_}
 use native.Mathlib.Nat.{le-trans, le-antisymm, mul-le-mul, mul-one, one-mul}
 use native.Mathlib.Omega.{arith}
@@ -43,21 +42,22 @@ use Rattle.job.specs.declared.Fault.the-variants.{Stuck, Bridge}
 use Rattle.job.specs.declared.Job.{Job}
 use Rattle.gates.specs.Answers.{answer}
 use Rattle.gates.specs.Form.{tableBytes, combined, kindForm}
-use Rattle.gates.specs.Rows.{part, splice, stepFits}
+use Rattle.gates.specs.Rows.{part, splice, stepFits, copyFits}
 use Rattle.gates.specs.Values.{inputValue}
 use Rattle.gates.specs.declared.Form.{Form}
 use Rattle.gates.proofs.Answers.{kind-lt}
+use Rattle.gates.proofs.Fitting.{fitted, copy-fits}
 use Rattle.tables.specs.Circuit.{Fixing, free, valuesTo, fixingOf, circuitEntry, circuitTable}
 use Rattle.tables.specs.Lines.{isFixed}
 use Rattle.tables.specs.Single.{Spare, Worked, Inputs, Carries, Gives, startOf}
-use Rattle.tables.specs.Sizes.{shapeOf, Space, Below, block, fixedRow}
+use Rattle.tables.specs.Sizes.{shapeOf, block, inputFits, inputByte, fixedRow, fixFits, fixedByte}
 use Rattle.tables.specs.Work.{circuitBytes, lineValue, lineTable, rowAt, goodFix, faultFix, Loose, Fixes}
 use Rattle.tables.specs.declared.rows.Shape.{Shape}
 use Rattle.tables.proofs.Delivered.{fixes, fault-lines}
 use Rattle.tables.proofs.Agreeing.{loose-before}
 use Rattle.tables.proofs.Faults.{fixedBy-loose, fixedBy-bit, fixes-low, fixes-high, given, fixed-value, given-table}
 use Rattle.tables.proofs.Held.{Bits, Puts, row-puts, input-table, gate-table}
-use Rattle.tables.proofs.Shaped.{gate-spliced}
+use Rattle.tables.proofs.Shaped.{Below, input-block, gate-spliced, fixed-spliced}
 use Rattle.tables.proofs.Sizes.{byte-inputs, circuit-fits}
 use Rattle.tables.proofs.Space.{lines-most, tableBytes-most, row-order, roomy-kept, roomy-some, roomy-row, table-row}
 use Rattle.tables.proofs.Values.{line-own, first-below, second-below}
@@ -76,22 +76,24 @@ module _ (j : Job) (shape : Shape) (rows : List ℕ) (spare : Spare j shape rows
   pub read-fits : length rows < 2 ^ 64 → {a k : ℕ} → a ≡ k → {l : ℕ} → k < l → l ≤ lines j → Fits w64 (a * shape .bytes)
   read-fits short {a} e less h = spare-fits short a (omega arith)
 
-  pub spare-input : {l : ℕ} → l < j .inputs → l < shape .inputs
-  spare-input h = omega (arith, ap (λ (s : Shape). s .inputs) (spare .shaped))
-
   shaped : shape ≡ shapeOf (shape .inputs)
   shaped = spare .shaped ∙ ap (λ (s : Shape). shapeOf (s .inputs)) (sym (spare .shaped))
 
   few : shape .inputs ≤ 11
   few = omega (arith, ap (λ (s : Shape). s .inputs) (spare .shaped), spare .valid .few, byte-inputs)
 
-  pub spare-space : (l : ℕ) → l ≤ lines j → Space shape (l * shape .bytes) 1 rows
-  spare-space l h = record { shaped = shaped; few = few; room = omega (arith, spare-row l h, one-mul (shape .bytes)) }
+  spare-input : (l : ℕ) → l < j .inputs → {after : List ℕ}
+      → after ≡ cond (inputFits l (l * shape .bytes) (shape .bytes) (length rows)) (splice rows (l * shape .bytes) (tabulate (shape .bytes) (inputByte l (shape .keep)))) rows
+      → after ≡ splice rows (l * shape .bytes) (block 1 (λ i. packed (2 ^ (shape .inputs)) (λ m. inputValue m l)))
+  spare-input l h =
+      input-block shape (l * shape .bytes) 1 rows
+      (record { shaped = shaped; few = few; room = omega (arith, spare-row l (omega arith), one-mul (shape .bytes)) })
+      l (omega (arith, ap (λ (s : Shape). s .inputs) (spare .shaped))) (sym (one-mul (shape .bytes)))
 
   pub spare-below : (a b l : ℕ) → a < l → b < l → l ≤ lines j → Below shape (a * shape .bytes) (b * shape .bytes) (l * shape .bytes) rows
   spare-below a b l first second h =
       record {
-        at = record { shaped = shaped; few = omega (arith, few); room = spare-row l h };
+        at = record { shaped = shaped; room = spare-row l h };
         first = row-order a l (shape .bytes) first;
         second = row-order b l (shape .bytes) second;
       }
@@ -102,7 +104,7 @@ module _ (j : Job) (shape : Shape) (rows : List ℕ) (spare : Spare j shape rows
   spare-copy after e {a} is h =
       (subst (λ (k : ℕ). lines j * shape .bytes + shape .bytes ≤ k) (sym e) (spare-row (lines j) (omega arith)), row-order a (lines j) (shape .bytes) (omega arith))
 
-  pub spare-fixed : (a b : ℕ) → a < lines j → b < lines j → Below shape (a * 1 * shape .bytes) (b * 1 * shape .bytes) (lines j * shape .bytes) rows
+  spare-fixed : (a b : ℕ) → a < lines j → b < lines j → Below shape (a * 1 * shape .bytes) (b * 1 * shape .bytes) (lines j * shape .bytes) rows
   spare-fixed a b first second =
       subst (λ (k : ℕ). Below shape (k * shape .bytes) (b * 1 * shape .bytes) (lines j * shape .bytes) rows) (sym (mul-one a))
       (subst (λ (k : ℕ). Below shape (a * shape .bytes) (k * shape .bytes) (lines j * shape .bytes) rows) (sym (mul-one b))
@@ -117,7 +119,7 @@ pub placed-none : (shape : Shape) (rows : List ℕ) → Placed shape rows 0 rows
 placed-none shape rows = record { long = refl; row = λ l h. absurd (omega arith) }
 
 module _ (j : Job) (shape : Shape) (start : List ℕ) (spare : Spare j shape start) (line : ℕ) (rows : List ℕ) (placed : Placed shape start line rows) where
-  pub placed-spare : Spare j shape rows
+  placed-spare : Spare j shape rows
   placed-spare = roomy-kept j shape (lines j + 1) start spare rows (placed .long)
 
   table-placed : (l : ℕ) → l < line → rowAt j l rows ≡ packed (2 ^ (j .inputs)) (λ m. inputValue m l)
@@ -128,7 +130,8 @@ module _ (j : Job) (shape : Shape) (start : List ℕ) (spare : Spare j shape sta
   placed-all e l h = table-placed l (omega arith)
 
   pub placed-more : line < j .inputs → (after : List ℕ) → length after ≡ length rows
-      → after ≡ splice rows (line * shape .bytes) (block 1 (λ i. packed (2 ^ (shape .inputs)) (λ m. inputValue m line))) → Placed shape start (line + 1) after
+      → after ≡ cond (inputFits line (line * shape .bytes) (shape .bytes) (length rows))
+      (splice rows (line * shape .bytes) (tabulate (shape .bytes) (inputByte line (shape .keep)))) rows → Placed shape start (line + 1) after
   unfolding block
   placed-more h after long put =
       record {
@@ -142,7 +145,8 @@ module _ (j : Job) (shape : Shape) (start : List ℕ) (spare : Spare j shape sta
       puts =
           row-puts j line (packed (2 ^ (j .inputs)) (λ m. inputValue m line)) rows after (length-packed (2 ^ (j .inputs)) (λ m. inputValue m line))
           (table-row j shape (lines j + 1) rows placed-spare line (omega arith))
-          (subst (λ (s : Shape). after ≡ splice rows (line * s .bytes) (packed (2 ^ (s .inputs)) (λ m. inputValue m line))) (spare .shaped) put)
+          (subst (λ (s : Shape). after ≡ splice rows (line * s .bytes) (packed (2 ^ (s .inputs)) (λ m. inputValue m line))) (spare .shaped)
+          (spare-input j shape rows placed-spare line h put))
 
       go : (l : ℕ) → l < line + 1 → Dec (l ≡ line) → rowAt j l after ≡ packed (2 ^ (j .inputs)) (λ m. inputValue m l)
       go l less (yes e) = subst (λ (k : ℕ). rowAt j k after ≡ packed (2 ^ (j .inputs)) (λ m. inputValue m k)) (sym e) (puts .row)
@@ -239,7 +243,8 @@ fixed-long n width (Bridge a b is-and) rows = length-packed (2 ^ n) _
 
 module _ (j : Job) (shape : Shape) (x : Fault) (rows : List ℕ) (spare : Spare j shape rows) (low : faultA x < lines j) (high : faultB x < lines j)
     (a b : ℕ) (first : a ≡ faultA x) (second : b ≡ faultB x) (value mid after : List ℕ) (long : length value ≡ length rows) (longer : length mid ≡ length value)
-    (put : value ≡ splice rows (lines j * shape .bytes) (fixedRow shape 1 x rows))
+    (put : value ≡ cond (fixFits x (a * shape .bytes) (b * shape .bytes) (lines j * shape .bytes) (shape .bytes) (length rows))
+    (splice rows (lines j * shape .bytes) (tabulate (shape .bytes) (fixedByte x (a * shape .bytes) (b * shape .bytes) (shape .keep) rows))) rows)
     (put-first : mid ≡ splice value (a * shape .bytes) (part (lines j * shape .bytes) (shape .bytes) value))
     (put-second : after ≡ splice mid (b * shape .bytes) (part (lines j * shape .bytes) (shape .bytes) mid)) where
   spare-value : Spare j shape value
@@ -248,10 +253,15 @@ module _ (j : Job) (shape : Shape) (x : Fault) (rows : List ℕ) (spare : Spare 
   spare-mid : Spare j shape mid
   spare-mid = roomy-kept j shape (lines j + 1) value spare-value mid longer
 
+  -- the places of the fault's rows, which are one apart
+  place : {k l : ℕ} → k ≡ l → k * shape .bytes ≡ l * 1 * shape .bytes
+  place {k} {l} e = ap (λ (n : ℕ). n * shape .bytes) (e ∙ sym (mul-one l))
+
   value-puts : Puts j (lines j) (fixedRow (shapeOf (j .inputs)) 1 x rows) rows value
   value-puts =
       row-puts j (lines j) (fixedRow (shapeOf (j .inputs)) 1 x rows) rows value (fixed-long (j .inputs) 1 x rows) (table-row j shape (lines j + 1) rows spare (lines j) (omega arith))
-      (put ∙ ap (λ (s : Shape). splice rows (lines j * s .bytes) (fixedRow s 1 x rows)) (spare .shaped))
+      (fixed-spliced shape 1 (lines j * shape .bytes) rows x (spare-fixed j shape rows spare (faultA x) (faultB x) low high) (place first) (place second) put
+      ∙ ap (λ (s : Shape). splice rows (lines j * s .bytes) (fixedRow s 1 x rows)) (spare .shaped))
 
   -- a copy of the fault's row
   copied : (from to : List ℕ) → Spare j shape from → (k l : ℕ) → k ≡ l → l < lines j
@@ -447,13 +457,11 @@ module _ (j : Job) (shape : Shape) (valid : Valid j) (is : shape ≡ shapeOf (j 
   pub output-fits : Fits w64 (j .output * shape .bytes)
   output-fits = record { fits = omega (arith, output-end, circuit-fits) }
 
-  pub output-room : (out rows : List ℕ) → tableBytes (j .inputs) ≤ length out → length rows ≡ circuitBytes
-      → (0 + shape .bytes ≤ length out) × (j .output * shape .bytes + shape .bytes ≤ length rows)
-  output-room out rows room e = (
-    omega (arith, ap (λ (s : Shape). s .bytes) is),
-    subst (λ (k : ℕ). j .output * shape .bytes + shape .bytes ≤ k) (sym e) output-end,
-  )
-
-  pub output-put : (out rows table : List ℕ) → rowAt j (j .output) rows ≡ table → {after : List ℕ}
-      → after ≡ splice out 0 (part (j .output * shape .bytes) (shape .bytes) rows) → after ≡ splice out 0 table
-  output-put out rows table held e = e ∙ ap (splice out 0) (ap (λ (s : Shape). part (j .output * s .bytes) (s .bytes) rows) is ∙ held)
+  pub output-put : (out rows table : List ℕ) → tableBytes (j .inputs) ≤ length out → length rows ≡ circuitBytes → rowAt j (j .output) rows ≡ table → {after : List ℕ}
+      → after ≡ cond (copyFits 0 (j .output * shape .bytes) (shape .bytes) (length out) (length rows)) (splice out 0 (part (j .output * shape .bytes) (shape .bytes) rows)) out
+      → after ≡ splice out 0 table
+  output-put out rows table room long held e =
+      fitted _ out
+      (copy-fits 0 (j .output * shape .bytes) (shape .bytes) (length out) (length rows) (omega (arith, ap (λ (s : Shape). s .bytes) is))
+      (subst (λ (k : ℕ). j .output * shape .bytes + shape .bytes ≤ k) (sym long) output-end)) e
+      ∙ ap (splice out 0) (ap (λ (s : Shape). part (j .output * s .bytes) (s .bytes) rows) is ∙ held)

@@ -1,6 +1,5 @@
 -- Laws of tables side by side (specs/Sizes.antt).
 --
---   tabulate-part    bytes copied one by one are a part of the rows
 --   block-ext        blocks of equal tables are equal
 --   block-append     a block behind a block
 --   length-block     a block has as many bytes as its tables together
@@ -9,27 +8,19 @@
 --   splice-append    new bytes put behind new bytes
 --   block-row        where a block is put, each of its rows holds its table
 --   block-kept       every other row is as it was
-use Prim.Native.Nat.{ℕ, zero, suc, _+_, _-_, _*_, _≤_, _<_}
+use Prim.Native.Nat.{ℕ, zero, suc, _+_, _*_, _≤_, _<_}
 use native.Mathlib.Omega.{arith}
 use native.Mathlib.Nat.{add-zero, add-assoc, add-mul, suc-mul, zero-mul, not-suc-le-zero, le-of-suc-le-suc, eq-or-lt-of-le}
 use mathlib.Core.Path.{_≡_, refl, sym, ap, ap₂, _∙_}
 use mathlib.Core.List.{List, [], _∷_, _++_, append-assoc, append-nil}
 use mathlib.Core.Logic.{⊎-elim}
-use lib.ListN.{length, getD, take, drop, length-append, length-take, length-drop, take-append-drop}
-use lib.Seq.{take-suc, getD-drop, take-at, drop-drop, drop-append-add}
+use lib.ListN.{length, take, drop, length-append, length-take, take-append-drop}
+use lib.Seq.{take-at, drop-drop, drop-append-add}
 use Rattle.bits.specs.Packed.{tabulate}
 use Rattle.gates.specs.Rows.{part, splice}
 use Rattle.gates.proofs.Rows.{part-same, part-other}
 use Rattle.gates.proofs.Splice.{length-splice}
 use Rattle.tables.specs.Sizes.{block}
-
-pub tabulate-part : (rows : List ℕ) (at count : ℕ) → at + count ≤ length rows → tabulate count (λ i. getD rows (at + i) 0) ≡ part at count rows
-unfolding tabulate
-tabulate-part rows at zero h = refl
-tabulate-part rows at (suc n) h =
-    let l : n < length rows - at = omega arith in
-    ap₂ (λ (a : List ℕ) (x : ℕ). a ++ (x ∷ [])) (tabulate-part rows at n (omega arith)) (sym (getD-drop at rows n 0))
-    ∙ sym (take-suc (drop at rows) n 0 (rw length-drop l))
 
 tabulate-append : (a b : ℕ) (g : ℕ → ℕ) → tabulate (a + b) g ≡ tabulate a g ++ tabulate b (λ t. g (a + t))
 unfolding tabulate

@@ -1,15 +1,12 @@
-// The size of a packed table, the polynomials of gates cut to it, and rows: of levels and inputs, and of what a fault gives its lines.
+// The size of a packed table, the polynomials of gates cut to it, and rows: of inputs, and of what a fault gives its lines.
 ghost use mathlib.Core.Path.{_≡_};
 ghost use mathlib.Core.Bool.{cond};
-ghost use Prim.Native.Nat.{_+_, _*_, _^_, _≤_, _<_};
 ghost use lib.ListN.{length};
-ghost use Rattle.bits.specs.Packed.{packed};
-ghost use Rattle.job.specs.Record.{levelNumber, faultA, faultB};
+ghost use Rattle.bits.specs.Packed.{tabulate};
 ghost use Rattle.gates.specs.Form.{kindForm};
-ghost use Rattle.gates.specs.Rows.{part, splice};
-ghost use Rattle.gates.specs.Values.{inputValue};
+ghost use Rattle.gates.specs.Rows.{splice};
 ghost use Rattle.tables.specs.Lines.{Formed};
-ghost use Rattle.tables.specs.Sizes.{shapeOf, Room, Space, Below, block, fixedRow};
+ghost use Rattle.tables.specs.Sizes.{shapeWithin, inputFits, inputByte, fixFits, fixedByte};
 use gates::Form;
 use job::BinaryKind;
 use job::Fault;
@@ -24,9 +21,9 @@ pub struct Shape {
     pub keep: u8,
 }
 
+// The shape of the tables of so many inputs; no bytes where no word holds the number of entries.
 pub fn shape_of(inputs: usize) -> Shape
-    requires { ⌜ inputs < 64 ⌝ }
-    ensures { λ r. ⌜ r ≡ shapeOf inputs ⌝ }
+    ensures { λ r. ⌜ r ≡ shapeWithin inputs ⌝ }
 {
     let keep = match inputs {
         0 => 128,
@@ -36,7 +33,7 @@ pub fn shape_of(inputs: usize) -> Shape
     };
     Shape {
         inputs,
-        bytes: ((1 << inputs) + 7) / 8,
+        bytes: gates::table_bytes(inputs),
         keep,
     }
 }
@@ -66,32 +63,20 @@ pub fn forms_of(keep: u8) -> Forms
     forms
 }
 
-// The table that is one level everywhere.
-fn level_row(rows: &mut [u8], level: bool, to: usize, shape: Shape)
-    requires { ⌜ Room shape to (now rows) ⌝ }
-    ensures { λ r. ⌜ now (rows .exit) ≡ splice (now (rows .entry)) to (packed (2 ^ (shape .inputs)) (λ m. levelNumber level)) ⌝ }
+// Bytes of an input's tables, side by side, if they end within the rows and the input is one of the first eleven: within a byte x1 is 01010101, x2 00110011
+// and x3 00001111; a further input is the same over whole bytes, and a table has as many bytes as make it start anew.
+pub fn input_block(rows: &mut [u8], line: usize, to: usize, count: usize, keep: u8)
+    ensures { λ r. ⌜ now (rows .exit) ≡ cond (inputFits line to count (length (now (rows .entry)))) (splice (now (rows .entry)) to (tabulate count (inputByte line keep))) (now (rows .entry)) ⌝ }
 {
-    let byte = if level { shape.keep } else { 0 };
-    gates::fill(rows, to, shape.bytes, byte);
-}
-
-// The tables of an input, for `count` circuits side by side: within a byte x1 is 01010101, x2 00110011 and x3 00001111; a further input is the same over
-// whole bytes, and a table has as many bytes as make it start anew.
-pub fn input_block(rows: &mut [u8], line: usize, to: usize, count: usize, shape: Shape)
-    requires { ⌜ Space shape to count (now rows) × (line < shape .inputs) ⌝ }
-    ensures { λ r. ⌜ now (rows .exit) ≡ splice (now (rows .entry)) to (block count (λ i. packed (2 ^ (shape .inputs)) (λ m. inputValue m line))) ⌝ }
-{
-    let bytes = count * shape.bytes;
-    let keep = shape.keep;
     if line < 3 {
         let pattern = match line {
             0 => 85,
             1 => 51,
             _ => 15,
         };
-        gates::fill(rows, to, bytes, pattern & keep);
+        gates::fill(rows, to, count, pattern & keep);
     } else {
-        gates::alternate(rows, to, bytes, line - 3);
+        gates::alternate(rows, to, count, line - 3);
     }
 }
 
@@ -106,33 +91,19 @@ fn bridge_form(is_and: bool, keep: u8) -> Form
     }
 }
 
-// The table that a fault gives its lines: a level, or the bridge of the good circuit's two tables.
-pub fn fix_row(rows: &mut [u8], to: usize, fault: Fault, width: usize, shape: Shape)
-    requires { ⌜ Below shape (faultA fault * width * shape .bytes) (faultB fault * width * shape .bytes) to (now rows) ⌝ }
-    ensures { λ r. ⌜ now (rows .exit) ≡ splice (now (rows .entry)) to (fixedRow shape width fault (now (rows .entry))) ⌝ }
+// The table that a fault gives its lines, if it ends within the rows: a level, or the bridge of the good circuit's tables of the two lines, if these, at x and y,
+// end before it.
+pub fn fix_row(rows: &mut [u8], to: usize, fault: Fault, x: usize, y: usize, shape: Shape)
+    ensures { λ r. ⌜ now (rows .exit) ≡ cond (fixFits fault x y to (shape .bytes) (length (now (rows .entry)))) (splice (now (rows .entry)) to (tabulate (shape .bytes) (fixedByte fault x y (shape .keep) (now (rows .entry))))) (now (rows .entry)) ⌝ }
 {
-    let bytes = shape.bytes;
     match fault {
         Fault::Stuck(_, level) => {
-            level_row(rows, level, to, shape);
+            let byte = if level { shape.keep } else { 0 };
+            gates::fill(rows, to, shape.bytes, byte);
         }
-        Fault::Bridge(low, high, is_and) => {
-            let x = low as usize * width * bytes;
-            let y = high as usize * width * bytes;
+        Fault::Bridge(_, _, is_and) => {
             let form = bridge_form(is_and, shape.keep);
-            gates::combine(rows, x, y, to, bytes, form);
+            gates::combine(rows, x, y, to, shape.bytes, form);
         }
-    }
-}
-
-// Copies `count` bytes of the rows.
-pub fn copy(out: &mut [u8], to: usize, rows: &[u8], at: usize, count: usize)
-    requires { ⌜ (to + count ≤ length (now out)) × (at + count ≤ length (now rows)) ⌝ }
-    ensures { λ r. ⌜ now (out .exit) ≡ splice (now (out .entry)) to (part at count (now (rows .entry))) ⌝ }
-{
-    let mut i = 0;
-    while i < count {
-        out[to + i] = rows[at + i];
-        i += 1;
     }
 }

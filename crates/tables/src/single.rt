@@ -31,7 +31,7 @@ fn input_rows(rows: &mut [u8], job: Job, shape: Shape)
     let bytes = shape.bytes;
     let mut line = 0;
     while line < inputs {
-        crate::rows::input_block(rows, line, line * bytes, 1, shape);
+        crate::rows::input_block(rows, line, line * bytes, bytes, shape.keep);
         line += 1;
     }
 }
@@ -75,11 +75,11 @@ fn fix_rows(rows: &mut [u8], job: Job, fault: Fault, shape: Shape)
 {
     let bytes = shape.bytes;
     let value = (job.inputs as usize + job.gate_count as usize) * bytes;
-    let low = fault.first();
-    let high = fault.second();
-    crate::rows::fix_row(rows, value, fault, 1, shape);
-    copy_row(rows, value, low * bytes, bytes);
-    copy_row(rows, value, high * bytes, bytes);
+    let low = fault.first() * bytes;
+    let high = fault.second() * bytes;
+    crate::rows::fix_row(rows, value, fault, low, high, shape);
+    copy_row(rows, value, low, bytes);
+    copy_row(rows, value, high, bytes);
 }
 
 // The line from which on a fault's circuit differs from the good one in more than the fault's own lines.
@@ -122,7 +122,7 @@ pub(crate) fn put_circuit(out: &mut [u8], job: Job, circuit: usize, shape: Shape
 {
     let mut rows = [0u8; CIRCUIT_BYTES];
     work_circuit(&mut rows, job, circuit, shape);
-    crate::rows::copy(
+    gates::copy(
         out,
         0,
         &rows,

@@ -1,4 +1,5 @@
-// Lines of words: reading numbers and bytes from them, and writing them to standard output. The test programs share it.
+// Lines of words: reading numbers and bytes from them, and writing them to standard output. A place behind a line's end counts as its end. The test programs
+// share it.
 ghost use Prim.Native.Nat.{_+_, _<_, _≤_};
 ghost use lib.ListN.{length};
 ghost use Rattle.io.specs.Counts.{Counts as Within};
@@ -9,8 +10,7 @@ const MAX_NUMBER: usize = 65535;
 
 // The first place of a character, from `from` on, or the text's end where there is none.
 pub fn place_of(text: &[u8], from: usize, character: u8) -> usize
-    requires { ⌜ from ≤ length (now text) ⌝ }
-    ensures { λ r. ⌜ (from ≤ r) × (r ≤ length (now (text .entry))) ⌝ }
+    ensures { λ r. ⌜ (r ≤ length (now (text .entry))) × (from ≤ length (now (text .entry)) → from ≤ r) ⌝ }
 {
     let mut i = from;
     while i < text.len() {
@@ -19,12 +19,11 @@ pub fn place_of(text: &[u8], from: usize, character: u8) -> usize
         }
         i += 1;
     }
-    i
+    text.len()
 }
 
 // The place behind the first such character, from a place on; the line's end where there is none.
 pub fn after(line: &[u8], from: usize, character: u8) -> usize
-    requires { ⌜ from ≤ length (now line) ⌝ }
     ensures { λ r. ⌜ r ≤ length (now (line .entry)) ⌝ }
 {
     let end = place_of(line, from, character);
@@ -33,7 +32,6 @@ pub fn after(line: &[u8], from: usize, character: u8) -> usize
 
 // Where the word begins that follows the one at a place; the line's end where there is none.
 pub fn next_word(line: &[u8], from: usize) -> usize
-    requires { ⌜ from ≤ length (now line) ⌝ }
     ensures { λ r. ⌜ r ≤ length (now (line .entry)) ⌝ }
 {
     after(line, from, b' ')
@@ -41,7 +39,6 @@ pub fn next_word(line: &[u8], from: usize) -> usize
 
 // The decimal number at a place, up to the word's end; at most 65535.
 pub fn number_at(line: &[u8], from: usize) -> usize
-    requires { ⌜ from ≤ length (now line) ⌝ }
     ensures { λ r. ⌜ r ≤ 65535 ⌝ }
 {
     let end = place_of(line, from, b' ');
@@ -56,13 +53,12 @@ pub fn number_at(line: &[u8], from: usize) -> usize
 
 // Puts the numbers from a place on at the start of `numbers`, as far as they fit, and answers how many there are.
 pub fn read_numbers(line: &[u8], from: usize, numbers: &mut [u16]) -> usize
-    requires { ⌜ from ≤ length (now line) ⌝ }
     ensures { λ r. ⌜ Within r (now (numbers .exit)) ⌝ }
 {
     let mut at = from;
     let mut count = 0;
     while count < numbers.len() {
-        if at == line.len() {
+        if line.len() <= at {
             return count;
         }
         numbers[count] = number_at(line, at) as u16;

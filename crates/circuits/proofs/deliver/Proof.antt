@@ -2,7 +2,7 @@
 use borrow.Author.Needs.{needs}
 use mathlib.Core.Path.{_∙_}
 use denote.Ref.{now}
-use Rattle.circuits.proofs.Delivery.{good-fits, good-row-fits, good-room, ready-kept, delivered}
+use Rattle.circuits.proofs.Delivery.{good-fits, good-row-fits, ready-kept, delivered}
 use Rattle.circuits.proofs.deliver.Statement.{statement}
 use Rattle.circuits.proofs.deliver.Tie as tie
 
@@ -16,7 +16,7 @@ mul-good-2 : tie.Need-mul-good-2
 mul-good-2 c = let a = c .before .before .before .args in good-fits (a .job) (a .shape) (a .width) (a .place) (now (a .rows)) (now (a .out)) (c .before .before .before .pre) (c .before .before .before .good .1 .0 .0)
 
 copy-requires : tie.Need-copy-requires
-copy-requires c κs = let a = c .before .before .before .before .before .args in good-room (a .job) (a .shape) (a .width) (a .place) (now (a .rows)) (now (a .out)) (c .before .before .before .before .before .pre)
+copy-requires c κs = tt
 
 put-faults-requires : tie.Need-put-faults-requires
 put-faults-requires c κs = let a = c .before .before .before .before .before .before .before .before .before .before .args in ready-kept (a .job) (a .shape) (a .width) (a .place) (now (a .rows)) (now (a .out)) (c .before .before .before .before .before .before .before .before .before .before .pre) (c .before .before .before .before .copy .last .0) (c .before .before .before .before .copy .kept .0)

@@ -4,7 +4,7 @@ use native.Mathlib.Omega.{arith}
 use mathlib.Core.Path.{refl}
 use denote.Ref.{now}
 use Rattle.tables.proofs.Shaped.{factor-fits}
-use Rattle.circuits.proofs.Putting.{reach-fits, line-fits, difference-fits, reach-below, reach-within, put-changed}
+use Rattle.circuits.proofs.Putting.{reach-fits, line-fits, difference-fits, reach-fixed, reach-within, put-changed}
 use Rattle.circuits.proofs.put_fault.Statement.{statement}
 use Rattle.circuits.proofs.put_fault.Tie as tie
 
@@ -14,9 +14,6 @@ add-value c = let a = c .before .before .args in factor-fits (a .shape) (c .befo
 mul-value : tie.Need-mul-value
 mul-value c = let a = c .before .before .args in reach-fits (a .fault) (a .output) (a .width) (a .place) (a .shape) (now (a .rows)) (c .before .before .pre .0) (c .before .before .good .1 .1 .0 .0) (a .place + 1) (omega arith)
 
-fix-row-requires : tie.Need-fix-row-requires
-fix-row-requires c κs = let a = c .before .before .before .args in reach-below (a .fault) (a .output) (a .width) (a .place) (a .shape) (now (a .rows)) (c .before .before .before .pre .0)
-
 first-requires : tie.Need-first-requires
 first-requires c κs = tt
 
@@ -24,46 +21,53 @@ second-requires : tie.Need-second-requires
 second-requires c κs = tt
 
 mul-t14 : tie.Need-mul-t14
-mul-t14 c = let a = c .before .before .before .before .before .before .before .before .args in factor-fits (a .shape) (c .before .before .before .before .before .before .before .before .pre .0 .shaped) (line-fits (a .fault) (a .output) (a .width) (a .place) (a .shape) (now (a .rows)) (c .before .before .before .before .before .before .before .before .pre .0) (c .before .before .before .before .before .before .before .before .good .1 .1 .0 .0) refl (c .before .before .before .before .before .before .before .before .pre .0 .good))
+mul-t14 c = let a = c .before .before .before .before .args in factor-fits (a .shape) (c .before .before .before .before .pre .0 .shaped) (line-fits (a .fault) (a .output) (a .width) (a .place) (a .shape) (now (a .rows)) (c .before .before .before .before .pre .0) (c .before .before .before .before .good .1 .1 .0 .0) refl (c .before .before .before .before .pre .0 .good))
 
-mul-t18 : tie.Need-mul-t18
-mul-t18 c = let a = c .before .before .before .before .before .before .before .before .args in line-fits (a .fault) (a .output) (a .width) (a .place) (a .shape) (now (a .rows)) (c .before .before .before .before .before .before .before .before .pre .0) (c .before .before .before .before .before .before .before .before .good .1 .1 .0 .0) refl (c .before .before .before .before .before .before .before .before .pre .0 .good)
+mul-t15 : tie.Need-mul-t15
+mul-t15 c = let a = c .before .before .before .before .args in line-fits (a .fault) (a .output) (a .width) (a .place) (a .shape) (now (a .rows)) (c .before .before .before .before .pre .0) (c .before .before .before .before .good .1 .1 .0 .0) refl (c .before .before .before .before .pre .0 .good)
+
+mul-t16 : tie.Need-mul-t16
+mul-t16 c = let a = c .before .before .before .before .args in factor-fits (a .shape) (c .before .before .before .before .pre .0 .shaped) (line-fits (a .fault) (a .output) (a .width) (a .place) (a .shape) (now (a .rows)) (c .before .before .before .before .pre .0) (c .before .before .before .before .good .1 .1 .0 .0) (c .before .first .ensures) (c .before .before .before .before .pre .0 .low))
+
+mul-t17 : tie.Need-mul-t17
+mul-t17 c = let a = c .before .before .before .before .args in line-fits (a .fault) (a .output) (a .width) (a .place) (a .shape) (now (a .rows)) (c .before .before .before .before .pre .0) (c .before .before .before .before .good .1 .1 .0 .0) (c .before .first .ensures) (c .before .before .before .before .pre .0 .low)
+
+sub-t18 : tie.Need-sub-t18
+sub-t18 c = rw (c .before .first .ensures) (c .before .before .before .before .pre .0 .low-line)
 
 mul-t19 : tie.Need-mul-t19
-mul-t19 c = let a = c .before .before .before .before .before .before .before .before .args in factor-fits (a .shape) (c .before .before .before .before .before .before .before .before .pre .0 .shaped) (line-fits (a .fault) (a .output) (a .width) (a .place) (a .shape) (now (a .rows)) (c .before .before .before .before .before .before .before .before .pre .0) (c .before .before .before .before .before .before .before .before .good .1 .1 .0 .0) (c .before .first .ensures) (c .before .before .before .before .before .before .before .before .pre .0 .low))
+mul-t19 c = let a = c .before .before .before .before .args in difference-fits (a .fault) (a .output) (a .width) (a .place) (a .shape) (now (a .rows)) (c .before .before .before .before .pre .0) (c .before .before .before .before .good .1 .1 .0 .0) (c .before .first .result)
 
 mul-t20 : tie.Need-mul-t20
-mul-t20 c = let a = c .before .before .before .before .before .before .before .before .args in line-fits (a .fault) (a .output) (a .width) (a .place) (a .shape) (now (a .rows)) (c .before .before .before .before .before .before .before .before .pre .0) (c .before .before .before .before .before .before .before .before .good .1 .1 .0 .0) (c .before .first .ensures) (c .before .before .before .before .before .before .before .before .pre .0 .low)
+mul-t20 c = let a = c .before .before .before .before .args in factor-fits (a .shape) (c .before .before .before .before .pre .0 .shaped) (line-fits (a .fault) (a .output) (a .width) (a .place) (a .shape) (now (a .rows)) (c .before .before .before .before .pre .0) (c .before .before .before .before .good .1 .1 .0 .0) (c .second .ensures) (c .before .before .before .before .pre .0 .high))
 
-sub-t21 : tie.Need-sub-t21
-sub-t21 c = rw (c .before .first .ensures) (c .before .before .before .before .before .before .before .before .pre .0 .low-line)
+mul-t21 : tie.Need-mul-t21
+mul-t21 c = let a = c .before .before .before .before .args in line-fits (a .fault) (a .output) (a .width) (a .place) (a .shape) (now (a .rows)) (c .before .before .before .before .pre .0) (c .before .before .before .before .good .1 .1 .0 .0) (c .second .ensures) (c .before .before .before .before .pre .0 .high)
 
-mul-t22 : tie.Need-mul-t22
-mul-t22 c = let a = c .before .before .before .before .before .before .before .before .args in difference-fits (a .fault) (a .output) (a .width) (a .place) (a .shape) (now (a .rows)) (c .before .before .before .before .before .before .before .before .pre .0) (c .before .before .before .before .before .before .before .before .good .1 .1 .0 .0) (c .before .first .result)
+sub-t22 : tie.Need-sub-t22
+sub-t22 c = rw (c .second .ensures) (c .before .before .before .before .pre .0 .high-line)
 
 mul-t23 : tie.Need-mul-t23
-mul-t23 c = let a = c .before .before .before .before .before .before .before .before .args in factor-fits (a .shape) (c .before .before .before .before .before .before .before .before .pre .0 .shaped) (line-fits (a .fault) (a .output) (a .width) (a .place) (a .shape) (now (a .rows)) (c .before .before .before .before .before .before .before .before .pre .0) (c .before .before .before .before .before .before .before .before .good .1 .1 .0 .0) (c .second .ensures) (c .before .before .before .before .before .before .before .before .pre .0 .high))
+mul-t23 c = let a = c .before .before .before .before .args in difference-fits (a .fault) (a .output) (a .width) (a .place) (a .shape) (now (a .rows)) (c .before .before .before .before .pre .0) (c .before .before .before .before .good .1 .1 .0 .0) (c .second .result)
 
-mul-t24 : tie.Need-mul-t24
-mul-t24 c = let a = c .before .before .before .before .before .before .before .before .args in line-fits (a .fault) (a .output) (a .width) (a .place) (a .shape) (now (a .rows)) (c .before .before .before .before .before .before .before .before .pre .0) (c .before .before .before .before .before .before .before .before .good .1 .1 .0 .0) (c .second .ensures) (c .before .before .before .before .before .before .before .before .pre .0 .high)
-
-sub-t25 : tie.Need-sub-t25
-sub-t25 c = rw (c .second .ensures) (c .before .before .before .before .before .before .before .before .pre .0 .high-line)
-
-mul-t26 : tie.Need-mul-t26
-mul-t26 c = let a = c .before .before .before .before .before .before .before .before .args in difference-fits (a .fault) (a .output) (a .width) (a .place) (a .shape) (now (a .rows)) (c .before .before .before .before .before .before .before .before .pre .0) (c .before .before .before .before .before .before .before .before .good .1 .1 .0 .0) (c .second .result)
+fix-row-requires : tie.Need-fix-row-requires
+fix-row-requires c κs = tt
 
 put-changed-requires : tie.Need-put-changed-requires
-put-changed-requires c κs = let a = c .before .before .before .before .before .before .before .before .before .before .args in (c .before .before .before .before .before .before .before .before .before .before .pre .1, reach-within (a .fault) (a .output) (a .width) (a .place) (a .shape) (now (a .rows)) (c .before .before .before .before .before .before .before .before .before .before .pre .0) _ _ _ (c .before .before .before .first .ensures) (c .before .before .second .ensures) (c .before .before .before .before .before .before .fix-row .kept .0))
+put-changed-requires c κs = let a = c .before .before .before .before .before .before .before .before .before .before .args in (c .before .before .before .before .before .before .before .before .before .before .pre .1, reach-within (a .fault) (a .output) (a .width) (a .place) (a .shape) (now (a .rows)) (c .before .before .before .before .before .before .before .before .before .before .pre .0) _ _ _ (c .before .before .before .before .before .before .before .first .ensures) (c .before .before .before .before .before .before .second .ensures) (c .before .before .before .before .fix-row .kept .0))
 
 same-length : tie.Need-same-length
 same-length c = c .before .before .put-changed .kept .0
 
 same-length-2 : tie.Need-same-length-2
-same-length-2 c = c .before .before .before .before .before .before .before .before .before .fix-row .kept .0
+same-length-2 c = c .before .before .before .before .before .before .before .fix-row .kept .0
 
 returns : tie.Need-returns
-returns c = let a = c .before .before .before .before .before .before .before .before .before .before .before .before .before .args in (c .before .before .before .before .before .before .before .before .before .fix-row .ensures, put-changed (a .output) (a .width) (a .place) (a .shape .bytes) (c .before .before .before .before .before .before .before .before .before .fix-row .last .0) (now (a .out)) (a .to) (c .before .before .before .before .before .before .first .ensures) (c .before .before .before .before .before .second .ensures) (c .before .before .put-changed .ensures))
+returns c =
+    let a = c .before .before .before .before .before .before .before .before .before .before .before .before .before .args in (
+      reach-fixed (a .fault) (a .output) (a .width) (a .place) (a .shape) (now (a .rows)) (c .before .before .before .before .before .before .before .before .before .before .before .before .before .pre .0) (c .before .before .before .before .before .before .before .before .before .before .first .ensures) (c .before .before .before .before .before .before .before .before .before .second .ensures) (c .before .before .before .before .before .before .before .fix-row .ensures),
+      put-changed (a .output) (a .width) (a .place) (a .shape .bytes) (c .before .before .before .before .before .before .before .fix-row .last .0) (now (a .out)) (a .to) (c .before .before .before .before .before .before .before .before .before .before .first .ensures) (c .before .before .before .before .before .before .before .before .before .second .ensures) (c .before .before .put-changed .ensures),
+    )
 
 pub put-fault-spec : {M : Type 1} → statement M
 put-fault-spec =
@@ -71,19 +75,19 @@ put-fault-spec =
     (tie.spec
     add-value
     mul-value
-    fix-row-requires
     first-requires
     second-requires
     mul-t14
-    mul-t18
+    mul-t15
+    mul-t16
+    mul-t17
+    sub-t18
     mul-t19
     mul-t20
-    sub-t21
-    mul-t22
+    mul-t21
+    sub-t22
     mul-t23
-    mul-t24
-    sub-t25
-    mul-t26
+    fix-row-requires
     put-changed-requires
     same-length
     same-length-2

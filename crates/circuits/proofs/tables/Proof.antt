@@ -1,15 +1,16 @@
 -- `circuits::tables` meets its contract.
-use native.Mathlib.Omega.{arith}
 use Prim.Native.Nat.{ℕ, _+_, _*_, _≤_, _<_}
-use mathlib.Core.Path.{ap, subst}
+use mathlib.Core.Path.{_≡_, ap, subst, _∙_}
 use denote.Ref.{now}
 use lib.ListN.{length}
-use Rattle.job.specs.Layout.{maxInputs}
 use Rattle.reading.specs.Reading.{reading}
 use Rattle.reading.proofs.Telling.{told-refused, told-done, told-valid}
+use Rattle.gates.proofs.Sized.{inputs-few}
+use Rattle.tables.specs.Sizes.{shapeOf}
 use Rattle.tables.specs.declared.rows.Shape.{Shape}
 use Rattle.tables.proofs.Answering.{tables-unread, tables-memory, tables-done}
 use Rattle.tables.proofs.Delivered.{table-count-fits}
+use Rattle.tables.proofs.Shaped.{few-shape}
 use borrow.Author.Needs.{needs}
 use Rattle.circuits.proofs.tables.Statement.{statement}
 use Rattle.circuits.proofs.tables.Tie as tie
@@ -33,20 +34,22 @@ cast-shape-of : tie.Need-cast-shape-of
 cast-shape-of c = search needs
 
 shape-of-requires : tie.Need-shape-of-requires
-unfolding maxInputs
-shape-of-requires c κs = let a = c .before .before .before .before .before .before .before .before .args in let r = c .before .before .before .before .before .read in let done = c .before .before .before .enum-told in omega (arith, (told-valid (r .result) (now (a .bytes)) (r .ensures) (done .given .1)) .few)
+shape-of-requires c κs = tt
+
+shaped : (c : tie.After-shape-of) → c .shape-of .result ≡ shapeOf (c .before .before .before .before .before .before .read .result .job .inputs)
+shaped c = let r = c .before .before .before .before .before .before .read in c .shape-of .ensures ∙ few-shape (inputs-few (told-valid (r .result) (now (c .before .before .before .before .before .before .before .before .before .args .bytes)) (r .ensures) (c .before .before .before .before .enum-told .given .1) .few))
 
 add-if1 : tie.Need-add-if1
 add-if1 c = search needs
 
 mul-if1 : tie.Need-mul-if1
-mul-if1 c = let a = c .before .before .before .before .before .before .before .before .before .before .args in let r = c .before .before .before .before .before .before .before .read in let done = c .before .before .before .before .before .enum-told in rw (ap (λ (x : Shape). x .bytes) (c .before .shape-of .ensures)) (table-count-fits (r .result .job) (told-valid (r .result) (now (a .bytes)) (r .ensures) (done .given .1)))
+mul-if1 c = let a = c .before .before .before .before .before .before .before .before .before .before .args in let r = c .before .before .before .before .before .before .before .read in let done = c .before .before .before .before .before .enum-told in rw (ap (λ (x : Shape). x .bytes) (shaped (c .before))) (table-count-fits (r .result .job) (told-valid (r .result) (now (a .bytes)) (r .ensures) (done .given .1)))
 
 returns-2 : tie.Need-returns-2
-returns-2 c = let a = c .before .before .before .before .before .before .before .before .before .before .before .args in let r = c .before .before .before .before .before .before .before .before .read in let done = c .before .before .before .before .before .before .enum-told in tables-memory (now (a .bytes)) (now (a .out)) (r .result .job) (told-done (r .result) (reading (now (a .bytes))) (r .ensures) (done .given .1)) (subst (λ (k : ℕ). length (now (a .out)) < (r .result .job .«fault_count» + 1) * k) (ap (λ (x : Shape). x .bytes) (c .before .before .shape-of .ensures)) (c .if1 .taken))
+returns-2 c = let a = c .before .before .before .before .before .before .before .before .before .before .before .args in let r = c .before .before .before .before .before .before .before .before .read in let done = c .before .before .before .before .before .before .enum-told in tables-memory (now (a .bytes)) (now (a .out)) (r .result .job) (told-done (r .result) (reading (now (a .bytes))) (r .ensures) (done .given .1)) (subst (λ (k : ℕ). length (now (a .out)) < (r .result .job .«fault_count» + 1) * k) (ap (λ (x : Shape). x .bytes) (shaped (c .before .before))) (c .if1 .taken))
 
 put-circuits-requires : tie.Need-put-circuits-requires
-put-circuits-requires c κs = let a = c .before .before .before .before .before .before .before .before .before .before .before .before .args in let r = c .before .before .before .before .before .before .before .before .before .read in let done = c .before .before .before .before .before .before .before .enum-told in (told-valid (r .result) (now (a .bytes)) (r .ensures) (done .given .1), c .before .before .before .shape-of .ensures, subst (λ (k : ℕ). (r .result .job .«fault_count» + 1) * k ≤ length (now (a .out))) (ap (λ (x : Shape). x .bytes) (c .before .before .before .shape-of .ensures)) (c .before .if1 .left))
+put-circuits-requires c κs = let a = c .before .before .before .before .before .before .before .before .before .before .before .before .args in let r = c .before .before .before .before .before .before .before .before .before .read in let done = c .before .before .before .before .before .before .before .enum-told in (told-valid (r .result) (now (a .bytes)) (r .ensures) (done .given .1), shaped (c .before .before .before), subst (λ (k : ℕ). (r .result .job .«fault_count» + 1) * k ≤ length (now (a .out))) (ap (λ (x : Shape). x .bytes) (shaped (c .before .before .before))) (c .before .if1 .left))
 
 cast-t9 : tie.Need-cast-t9
 cast-t9 c = search needs
@@ -58,7 +61,7 @@ same-length : tie.Need-same-length
 same-length c = c .before .before .before .before .put-circuits .kept .0
 
 returns-3 : tie.Need-returns-3
-returns-3 c = let a = c .before .before .before .before .before .before .before .before .before .before .before .before .before .before .before .before .before .args in let r = c .before .before .before .before .before .before .before .before .before .before .before .before .before .before .read in let done = c .before .before .before .before .before .before .before .before .before .before .before .before .enum-told in tables-done (now (a .bytes)) (now (a .out)) (r .result .job) (told-done (r .result) (reading (now (a .bytes))) (r .ensures) (done .given .1)) _ (subst (λ (k : ℕ). (r .result .job .«fault_count» + 1) * k ≤ length (now (a .out))) (ap (λ (x : Shape). x .bytes) (c .before .before .before .before .before .before .before .before .shape-of .ensures)) (c .before .before .before .before .before .before .if1 .left)) (c .before .before .before .before .put-circuits .ensures)
+returns-3 c = let a = c .before .before .before .before .before .before .before .before .before .before .before .before .before .before .before .before .before .args in let r = c .before .before .before .before .before .before .before .before .before .before .before .before .before .before .read in let done = c .before .before .before .before .before .before .before .before .before .before .before .before .enum-told in tables-done (now (a .bytes)) (now (a .out)) (r .result .job) (told-done (r .result) (reading (now (a .bytes))) (r .ensures) (done .given .1)) _ (subst (λ (k : ℕ). (r .result .job .«fault_count» + 1) * k ≤ length (now (a .out))) (ap (λ (x : Shape). x .bytes) (shaped (c .before .before .before .before .before .before .before .before))) (c .before .before .before .before .before .before .if1 .left)) (c .before .before .before .before .put-circuits .ensures)
 
 pub tables-spec : {M : Type 1} → statement M
 tables-spec =

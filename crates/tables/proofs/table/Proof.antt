@@ -1,15 +1,16 @@
 -- `tables::table` meets its contract.
-use native.Mathlib.Omega.{arith}
 use Prim.Native.Nat.{ℕ, _≤_, _<_}
-use mathlib.Core.Path.{ap, subst}
+use mathlib.Core.Path.{_≡_, ap, subst, _∙_}
 use denote.Ref.{now}
 use lib.ListN.{length}
-use Rattle.job.specs.Layout.{maxInputs}
 use Rattle.reading.specs.Reading.{reading}
 use Rattle.reading.proofs.Telling.{told-refused, told-done, told-valid}
+use Rattle.gates.proofs.Sized.{inputs-few}
+use Rattle.tables.specs.Sizes.{shapeOf}
 use Rattle.tables.specs.declared.rows.Shape.{Shape}
 use Rattle.tables.proofs.Answering.{table-unread, table-number, table-memory, table-done}
 use Rattle.tables.proofs.Delivered.{single-room}
+use Rattle.tables.proofs.Shaped.{few-shape}
 use borrow.Author.Needs.{needs}
 use Rattle.tables.proofs.table.Statement.{statement}
 use Rattle.tables.proofs.table.Tie as tie
@@ -36,20 +37,22 @@ cast-shape-of : tie.Need-cast-shape-of
 cast-shape-of c = search needs
 
 shape-of-requires : tie.Need-shape-of-requires
-unfolding maxInputs
-shape-of-requires c κs = let a = c .before .before .before .before .before .before .before .before .before .args in let r = c .before .before .before .before .before .before .read in let done = c .before .before .before .before .enum-told in omega (arith, (told-valid (r .result) (now (a .bytes)) (r .ensures) (done .given .1)) .few)
+shape-of-requires c κs = tt
+
+shaped : (c : tie.After-shape-of) → c .shape-of .result ≡ shapeOf (c .before .before .before .before .before .before .before .read .result .job .inputs)
+shaped c = let r = c .before .before .before .before .before .before .before .read in c .shape-of .ensures ∙ few-shape (inputs-few (told-valid (r .result) (now (c .before .before .before .before .before .before .before .before .before .before .args .bytes)) (r .ensures) (c .before .before .before .before .before .enum-told .given .1) .few))
 
 returns-3 : tie.Need-returns-3
-returns-3 c = let a = c .before .before .before .before .before .before .before .before .before .before .before .before .args in let r = c .before .before .before .before .before .before .before .before .before .read in let done = c .before .before .before .before .before .before .before .enum-told in table-memory (now (a .bytes)) (now (a .out)) (a .circuit) (r .result .job) (told-done (r .result) (reading (now (a .bytes))) (r .ensures) (done .given .1)) (c .before .before .before .before .if1 .left) (subst (λ (k : ℕ). length (now (a .out)) < k) (ap (λ (x : Shape). x .bytes) (c .before .before .shape-of .ensures)) (c .if2 .taken))
+returns-3 c = let a = c .before .before .before .before .before .before .before .before .before .before .before .before .args in let r = c .before .before .before .before .before .before .before .before .before .read in let done = c .before .before .before .before .before .before .before .enum-told in table-memory (now (a .bytes)) (now (a .out)) (a .circuit) (r .result .job) (told-done (r .result) (reading (now (a .bytes))) (r .ensures) (done .given .1)) (c .before .before .before .before .if1 .left) (subst (λ (k : ℕ). length (now (a .out)) < k) (ap (λ (x : Shape). x .bytes) (shaped (c .before .before))) (c .if2 .taken))
 
 put-circuit-requires : tie.Need-put-circuit-requires
-put-circuit-requires c κs = let a = c .before .before .before .before .before .before .before .before .before .before .before .before .before .args in let r = c .before .before .before .before .before .before .before .before .before .before .read in let done = c .before .before .before .before .before .before .before .before .enum-told in single-room (r .result .job) (c .before .before .before .shape-of .result) (length (now (a .out))) (told-valid (r .result) (now (a .bytes)) (r .ensures) (done .given .1)) (c .before .before .before .shape-of .ensures) (a .circuit) (c .before .before .before .before .before .if1 .left) (c .before .if2 .left)
+put-circuit-requires c κs = let a = c .before .before .before .before .before .before .before .before .before .before .before .before .before .args in let r = c .before .before .before .before .before .before .before .before .before .before .read in let done = c .before .before .before .before .before .before .before .before .enum-told in single-room (r .result .job) (c .before .before .before .shape-of .result) (length (now (a .out))) (told-valid (r .result) (now (a .bytes)) (r .ensures) (done .given .1)) (shaped (c .before .before .before)) (a .circuit) (c .before .before .before .before .before .if1 .left) (c .before .if2 .left)
 
 same-length : tie.Need-same-length
 same-length c = c .before .before .put-circuit .kept .0
 
 returns-4 : tie.Need-returns-4
-returns-4 c = let a = c .before .before .before .before .before .before .before .before .before .before .before .before .before .before .before .before .args in let r = c .before .before .before .before .before .before .before .before .before .before .before .before .before .read in let done = c .before .before .before .before .before .before .before .before .before .before .before .enum-told in table-done (now (a .bytes)) (now (a .out)) (a .circuit) (r .result .job) (told-done (r .result) (reading (now (a .bytes))) (r .ensures) (done .given .1)) _ (c .before .before .before .before .before .before .before .before .if1 .left) (subst (λ (k : ℕ). k ≤ length (now (a .out))) (ap (λ (x : Shape). x .bytes) (c .before .before .before .before .before .before .shape-of .ensures)) (c .before .before .before .before .if2 .left)) (c .before .before .put-circuit .ensures)
+returns-4 c = let a = c .before .before .before .before .before .before .before .before .before .before .before .before .before .before .before .before .args in let r = c .before .before .before .before .before .before .before .before .before .before .before .before .before .read in let done = c .before .before .before .before .before .before .before .before .before .before .before .enum-told in table-done (now (a .bytes)) (now (a .out)) (a .circuit) (r .result .job) (told-done (r .result) (reading (now (a .bytes))) (r .ensures) (done .given .1)) _ (c .before .before .before .before .before .before .before .before .if1 .left) (subst (λ (k : ℕ). k ≤ length (now (a .out))) (ap (λ (x : Shape). x .bytes) (shaped (c .before .before .before .before .before .before))) (c .before .before .before .before .if2 .left)) (c .before .before .put-circuit .ensures)
 
 pub table-spec : {M : Type 1} → statement M
 table-spec =

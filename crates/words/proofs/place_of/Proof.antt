@@ -1,4 +1,4 @@
--- `words::place_of` meets its contract: the place stays between the start and the text's end.
+-- `words::place_of` meets its contract: the place never falls behind the start.
 use Prim.Native.Nat.{_-_, _≤_}
 use lib.ListN.{length}
 use borrow.Author.Needs.{needs}
@@ -6,7 +6,7 @@ use Rattle.words.proofs.place_of.Statement.{statement}
 use Rattle.words.proofs.place_of.Tie as tie
 
 abbrev Inv-loop : tie.InvT-loop
-Inv-loop text from character i₀ i = (from ≤ i) × (i ≤ length text)
+Inv-loop text from character i₀ i = from ≤ i
 
 abbrev μ-loop : tie.MeasureT-loop
 μ-loop text from character i₀ i = length text - i

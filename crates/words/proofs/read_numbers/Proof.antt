@@ -1,4 +1,4 @@
--- `words::read_numbers` meets its contract: the place stays within the line, and stores keep the length.
+-- `words::read_numbers` meets its contract: the count stays within the numbers, and stores keep the length.
 use Prim.Native.Nat.{_-_, _≤_}
 use native.Mathlib.Omega.{arith}
 use mathlib.Core.Path.{_≡_}
@@ -9,7 +9,7 @@ use Rattle.words.proofs.read_numbers.Statement.{statement}
 use Rattle.words.proofs.read_numbers.Tie as tie
 
 abbrev Inv-loop : tie.InvT-loop
-Inv-loop line from numbers₀ at₀ count₀ numbers at count = (at ≤ length line) × (count ≤ length numbers₀) × (length numbers ≡ length numbers₀)
+Inv-loop line from numbers₀ at₀ count₀ numbers at count = (count ≤ length numbers₀) × (length numbers ≡ length numbers₀)
 
 abbrev μ-loop : tie.MeasureT-loop
 μ-loop line from numbers₀ at₀ count₀ numbers at count = length numbers₀ - count

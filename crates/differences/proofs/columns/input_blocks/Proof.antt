@@ -1,15 +1,14 @@
 -- `differences::columns::input_blocks` meets its contract: each turn works out the tables of one input.
 use Prim.Native.Nat.{_-_, _≤_}
 use native.Mathlib.Omega.{arith}
-use mathlib.Core.Path.{refl, _∙_}
 use borrow.Author.Count.{falls}
 use native.Mathlib.Nat.{le-antisymm}
 use mir.Facts.{fits-widen}
 use mir.Syntax.{w8}
 use Rattle.job.specs.Layout.{maxInputs, maxGates}
-use Rattle.differences.proofs.Going.{Going, going-start, going-fewer, going-sound, going-next, going-short, going-room, going-input}
+use Rattle.differences.proofs.Going.{Going, going-start, going-fewer, going-next, going-short, going-room, going-input}
 use Rattle.tables.proofs.Space.{lines-most, input-line}
-use Rattle.differences.proofs.Space.{input-shape, shape-some, place-small, block-space}
+use Rattle.differences.proofs.Space.{shape-some, place-small, width-fits}
 use Rattle.differences.proofs.columns.input_blocks.Statement.{statement}
 use Rattle.differences.proofs.columns.input_blocks.Tie as tie
 
@@ -33,13 +32,11 @@ block-place-requires c κs =
       place-small (a .job) (a .shape) (a .stems .now) (a .batch) (a .rows .now) (c .before .before .before .before .before .pre .0) (c .before .before .loop .line) (input-line (a .job) (c .if1 .taken)) (c .before .before .before .before .before .good .0 .0),
     )
 
+mul-input-block : tie.Need-mul-input-block Inv-loop μ-loop
+mul-input-block c = let a = c .before .before .before .before .before .before .before .args in width-fits (a .job) (a .shape) (a .stems .now) (a .batch) (a .rows .now) (c .before .before .before .before .before .before .before .pre .0) (c .before .before .before .before .loop .line) (input-line (a .job) (c .before .before .if1 .taken)) (c .before .before .before .before .before .before .before .good .0 .0)
+
 input-block-requires : tie.Need-input-block-requires Inv-loop μ-loop
-input-block-requires c κs =
-    let a = c .before .before .before .before .before .before .before .args in (
-      block-space (a .job) (a .shape) (a .stems .now) (a .batch) (c .before .before .before .before .loop .rows) (going-sound (a .job) (a .shape) (a .stems .now) (a .batch) (a .rows .now) (c .before .before .before .before .before .before .before .pre .0) (c .before .before .before .before .loop .line) (c .before .before .before .before .loop .next) (c .before .before .before .before .loop .rows) (c .before .before .before .before .loop .inv .0))
-          (c .before .before .before .before .loop .line) (input-line (a .job) (c .before .before .if1 .taken)) (c .before .block-place .ensures),
-      input-shape (a .job) (a .shape) (a .stems .now) (a .batch) (a .rows .now) (c .before .before .before .before .before .before .before .pre .0) (c .before .before .if1 .taken),
-    )
+input-block-requires c κs = tt
 
 shared-slice-read-stem : tie.Need-shared-slice-read-stem Inv-loop μ-loop
 shared-slice-read-stem c = let a = c .before .before .before .before .before .before .before .before .before .before .before .args in going-next (a .job) (a .shape) (a .stems .now) (a .batch) (a .rows .now) (c .before .before .before .before .before .before .before .before .before .before .before .pre .0) (c .before .before .before .before .before .before .before .before .loop .line) (c .before .before .before .before .before .before .before .before .loop .next) (c .before .before .before .before .before .before .before .before .loop .rows) (c .before .before .before .before .before .before .before .before .loop .inv .0)
@@ -89,6 +86,7 @@ input-blocks-spec =
     loop-holds
     cast-if1
     block-place-requires
+    mul-input-block
     input-block-requires
     shared-slice-read-stem
     cast-stem

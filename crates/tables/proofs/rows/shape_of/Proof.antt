@@ -1,20 +1,13 @@
--- `tables::rows::shape_of` meets its contract: the shift is a power of 2, and the arms give the mask.
-use Prim.Native.Nat.{_+_, _/_}
+-- `tables::rows::shape_of` meets its contract: the arms give the mask.
 use mathlib.Core.Path.{_≡_, sym, ap, _∙_}
 use mathlib.Core.Logic.{⊎-elim}
-use borrow.Author.Needs.{needs}
 use Rattle.gates.specs.Form.{keepOf}
-use Rattle.bits.proofs.Fields.{shift-exact}
 use Rattle.gates.proofs.Kept.{at-least-three, keep-rest}
-use Rattle.gates.proofs.Sized.{places-some, places-fit}
 use Rattle.tables.proofs.rows.shape_of.Statement.{statement}
 use Rattle.tables.proofs.rows.shape_of.Tie as tie
 
-shl-t4 : tie.Need-shl-t4
-shl-t4 c = search needs
-
-add-t5 : tie.Need-add-t5
-add-t5 c = places-fit (c .before .args .inputs) (places-some (c .before .pre))
+table-bytes-requires : tie.Need-table-bytes-requires
+table-bytes-requires c κs = tt
 
 kept : (c : tie.At-match-came) → c .match .keep ≡ keepOf (c .before .args .inputs)
 kept c =
@@ -26,10 +19,10 @@ kept c =
 
 returns : tie.Need-returns
 returns c =
-    let n = c .before .args .inputs in
-    let p = shift-exact n (c .before .pre) in
-    let q = kept c in
-    λ i. record { inputs = n; bytes = (p i + 7) / 8; keep = q i }
+    let n = c .before .before .args .inputs in
+    let p = c .table-bytes .ensures in
+    let q = kept (c .before) in
+    λ i. record { inputs = n; bytes = p i; keep = q i }
 
 pub shape-of-spec : {M : Type 1} → statement M
-shape-of-spec = tie.close (tie.spec shl-t4 add-t5 returns)
+shape-of-spec = tie.close (tie.spec table-bytes-requires returns)

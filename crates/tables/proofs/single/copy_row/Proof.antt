@@ -6,8 +6,8 @@ use borrow.Author.Count.{falls}
 use denote.Ref.{now}
 use lib.ListN.{getD}
 use Rattle.gates.specs.Rows.{splice}
+use Rattle.gates.proofs.Rows.{tabulate-part}
 use Rattle.gates.proofs.Splice.{Written, written-none, written-more, written-length, written-all, written-behind}
-use Rattle.tables.proofs.Blocks.{tabulate-part}
 use Rattle.tables.proofs.single.copy_row.Statement.{statement}
 use Rattle.tables.proofs.single.copy_row.Tie as tie
 

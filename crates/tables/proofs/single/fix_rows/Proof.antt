@@ -4,8 +4,8 @@ use native.Mathlib.Omega.{arith}
 use mathlib.Core.Path.{_∙_}
 use denote.Ref.{now}
 use Rattle.job.specs.Layout.{maxInputs, maxGates}
-use Rattle.job.specs.Record.{faultA, faultB, lines}
-use Rattle.tables.proofs.Alone.{spare-fits, read-fits, spare-copy, spare-fixed, fixed-gives}
+use Rattle.job.specs.Record.{lines}
+use Rattle.tables.proofs.Alone.{spare-fits, read-fits, spare-copy, fixed-gives}
 use Rattle.tables.proofs.Space.{lines-most}
 use Rattle.tables.proofs.single.fix_rows.Statement.{statement}
 use Rattle.tables.proofs.single.fix_rows.Tie as tie
@@ -28,20 +28,20 @@ mul-value c = let a = c .before .before .before .args in spare-fits (a .job) (a 
 first-requires : tie.Need-first-requires
 first-requires c κs = tt
 
+mul-low : tie.Need-mul-low
+mul-low c = let a = c .before .before .before .before .args in read-fits (a .job) (a .shape) (now (a .rows)) (c .before .before .before .before .pre .0) (c .before .before .before .before .good .0 .0) (c .first .ensures) (c .before .before .before .before .pre .1) (le-refl _)
+
 second-requires : tie.Need-second-requires
 second-requires c κs = tt
 
-fix-row-requires : tie.Need-fix-row-requires
-fix-row-requires c κs = let a = c .before .before .before .before .before .before .args in spare-fixed (a .job) (a .shape) (now (a .rows)) (c .before .before .before .before .before .before .pre .0) (faultA (a .fault)) (faultB (a .fault)) (c .before .before .before .before .before .before .pre .1) (c .before .before .before .before .before .before .pre .2)
+mul-high : tie.Need-mul-high
+mul-high c = let a = c .before .before .before .before .before .args in read-fits (a .job) (a .shape) (now (a .rows)) (c .before .before .before .before .before .pre .0) (c .before .before .before .before .before .good .0 .0) (c .second .ensures) (c .before .before .before .before .before .pre .2) (le-refl _)
 
-mul-copy-row : tie.Need-mul-copy-row
-mul-copy-row c = let a = c .before .before .before .before .before .before .before .before .before .before .args in read-fits (a .job) (a .shape) (now (a .rows)) (c .before .before .before .before .before .before .before .before .before .before .pre .0) (c .before .before .before .before .before .before .before .before .before .before .good .0 .0) (c .before .before .before .before .before .before .first .ensures) (c .before .before .before .before .before .before .before .before .before .before .pre .1) (le-refl _)
+fix-row-requires : tie.Need-fix-row-requires
+fix-row-requires c κs = tt
 
 copy-row-requires : tie.Need-copy-row-requires
 copy-row-requires c κs = let a = c .before .before .before .before .before .before .before .before .before .before .args in spare-copy (a .job) (a .shape) (now (a .rows)) (c .before .before .before .before .before .before .before .before .before .before .pre .0) (c .before .before .before .fix-row .last .0) (c .before .before .before .fix-row .kept .0) (c .before .before .before .before .before .before .first .ensures) (c .before .before .before .before .before .before .before .before .before .before .pre .1)
-
-mul-copy-row-2 : tie.Need-mul-copy-row-2
-mul-copy-row-2 c = let a = c .before .before .before .before .before .before .before .before .before .before .before .before .before .before .args in read-fits (a .job) (a .shape) (now (a .rows)) (c .before .before .before .before .before .before .before .before .before .before .before .before .before .before .pre .0) (c .before .before .before .before .before .before .before .before .before .before .before .before .before .before .good .0 .0) (c .before .before .before .before .before .before .before .before .before .second .ensures) (c .before .before .before .before .before .before .before .before .before .before .before .before .before .before .pre .2) (le-refl _)
 
 copy-row-requires-2 : tie.Need-copy-row-requires-2
 copy-row-requires-2 c κs = let a = c .before .before .before .before .before .before .before .before .before .before .before .before .before .before .args in spare-copy (a .job) (a .shape) (now (a .rows)) (c .before .before .before .before .before .before .before .before .before .before .before .before .before .before .pre .0) (c .before .before .before .copy-row .last .0) (c .before .before .before .copy-row .kept .0 ∙ c .before .before .before .before .before .before .before .fix-row .kept .0) (c .before .before .before .before .before .before .before .before .before .second .ensures) (c .before .before .before .before .before .before .before .before .before .before .before .before .before .before .pre .2)
@@ -61,11 +61,11 @@ fix-rows-spec =
     add-value
     mul-value
     first-requires
+    mul-low
     second-requires
+    mul-high
     fix-row-requires
-    mul-copy-row
     copy-row-requires
-    mul-copy-row-2
     copy-row-requires-2
     same-length
     returns)

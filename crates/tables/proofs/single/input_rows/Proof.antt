@@ -5,7 +5,7 @@ use native.Mathlib.Omega.{arith}
 use borrow.Author.Count.{falls}
 use denote.Ref.{now}
 use Rattle.job.specs.Layout.{maxInputs}
-use Rattle.tables.proofs.Alone.{Placed, placed-none, placed-spare, placed-more, placed-all, spare-fits, spare-space, spare-input}
+use Rattle.tables.proofs.Alone.{Placed, placed-none, placed-more, placed-all, spare-fits}
 use Rattle.tables.proofs.single.input_rows.Statement.{statement}
 use Rattle.tables.proofs.single.input_rows.Tie as tie
 
@@ -26,7 +26,7 @@ mul-input-block : tie.Need-mul-input-block Inv-loop μ-loop
 mul-input-block c = let a = c .before .before .before .before .before .args in spare-fits (a .job) (a .shape) (now (a .rows)) (c .before .before .before .before .before .pre) (c .before .before .before .before .before .good .0 .0) (c .before .before .loop .line) (omega (arith, c .before .loop-test .taken))
 
 input-block-requires : tie.Need-input-block-requires Inv-loop μ-loop
-input-block-requires c κs = let a = c .before .before .before .before .before .args in (spare-space (a .job) (a .shape) (c .before .before .loop .rows) (placed-spare (a .job) (a .shape) (now (a .rows)) (c .before .before .before .before .before .pre) (c .before .before .loop .line) (c .before .before .loop .rows) (c .before .before .loop .inv .0)) (c .before .before .loop .line) (omega (arith, c .before .loop-test .taken)), spare-input (a .job) (a .shape) (now (a .rows)) (c .before .before .before .before .before .pre) (c .before .loop-test .taken))
+input-block-requires c κs = tt
 
 add-line : tie.Need-add-line Inv-loop μ-loop
 unfolding maxInputs

@@ -4,7 +4,7 @@ use denote.Ref.{now}
 use Rattle.job.specs.Layout.{maxInputs, maxGates}
 use Rattle.tables.specs.Circuit.{circuitTable}
 use Rattle.tables.specs.Work.{maxTableBytes, circuitBytes}
-use Rattle.tables.proofs.Alone.{circuit-spare, output-fits, output-room, output-put}
+use Rattle.tables.proofs.Alone.{circuit-spare, output-fits, output-put}
 use borrow.Author.Needs.{needs}
 use Rattle.tables.proofs.single.put_circuit.Statement.{statement}
 use Rattle.tables.proofs.single.put_circuit.Tie as tie
@@ -26,14 +26,14 @@ mul-copy : tie.Need-mul-copy
 mul-copy c = let a = c .before .before .before .before .before .before .before .before .args in output-fits (a .job) (a .shape) (c .before .before .before .before .before .before .before .before .pre .0) (c .before .before .before .before .before .before .before .before .pre .1)
 
 copy-requires : tie.Need-copy-requires
-unfolding circuitBytes maxInputs maxGates maxTableBytes
-copy-requires c κs = let a = c .before .before .before .before .before .before .before .before .args in output-room (a .job) (a .shape) (c .before .before .before .before .before .before .before .before .pre .0) (c .before .before .before .before .before .before .before .before .pre .1) (now (a .out)) (c .before .before .before .before .before .work-circuit .last .0) (c .before .before .before .before .before .before .before .before .pre .3) (c .before .before .before .before .before .work-circuit .kept .0)
+copy-requires c κs = tt
 
 same-length : tie.Need-same-length
 same-length c = c .before .before .copy .kept .0
 
 returns : tie.Need-returns
-returns c = let a = c .before .before .before .before .before .before .before .before .before .before .before .args in output-put (a .job) (a .shape) (c .before .before .before .before .before .before .before .before .before .before .before .pre .0) (c .before .before .before .before .before .before .before .before .before .before .before .pre .1) (now (a .out)) (c .before .before .before .before .before .before .before .before .work-circuit .last .0) (circuitTable (a .job) (a .circuit)) (c .before .before .before .before .before .before .before .before .work-circuit .ensures) (c .before .before .copy .ensures)
+unfolding circuitBytes maxInputs maxGates maxTableBytes
+returns c = let a = c .before .before .before .before .before .before .before .before .before .before .before .args in output-put (a .job) (a .shape) (c .before .before .before .before .before .before .before .before .before .before .before .pre .0) (c .before .before .before .before .before .before .before .before .before .before .before .pre .1) (now (a .out)) (c .before .before .before .before .before .before .before .before .work-circuit .last .0) (circuitTable (a .job) (a .circuit)) (c .before .before .before .before .before .before .before .before .before .before .before .pre .3) (c .before .before .before .before .before .before .before .before .work-circuit .kept .0) (c .before .before .before .before .before .before .before .before .work-circuit .ensures) (c .before .before .copy .ensures)
 
 pub put-circuit-spec : {M : Type 1} → statement M
 put-circuit-spec =

@@ -1,15 +1,15 @@
--- `tables::rows::copy` meets its contract. The loop has copied one byte for each turn.
+-- `gates::copy_bytes` meets its contract. The loop has copied one byte for each turn.
 use Prim.Native.Nat.{_+_, _-_}
 use native.Mathlib.Omega.{arith}
 use mathlib.Core.Path.{refl, ap, _∙_}
 use borrow.Author.Count.{falls}
 use denote.Ref.{now}
 use lib.ListN.{getD}
 use Rattle.gates.specs.Rows.{splice}
 use Rattle.gates.proofs.Splice.{Written, written-none, written-more, written-length, written-all}
-use Rattle.tables.proofs.Blocks.{tabulate-part}
-use Rattle.tables.proofs.rows.copy.Statement.{statement}
-use Rattle.tables.proofs.rows.copy.Tie as tie
+use Rattle.gates.proofs.Rows.{tabulate-part}
+use Rattle.gates.proofs.copy_bytes.Statement.{statement}
+use Rattle.gates.proofs.copy_bytes.Tie as tie
 
 abbrev Inv-loop : tie.InvT-loop
 Inv-loop out₀ to rows at count i₀ out i = Written out₀ to count (λ n. getD rows (at + n) 0) out i
@@ -47,8 +47,8 @@ same-length c = written-length (c .before .loop .inv)
 returns : tie.Need-returns Inv-loop μ-loop
 returns c = written-all (c .before .loop .inv) (c .loop-test .left) ∙ ap (splice (now (c .before .before .args .out)) (c .before .before .args .to)) (tabulate-part (now (c .before .before .args .rows)) (c .before .before .args .at) (c .before .before .args .count) (c .before .before .pre .1))
 
-pub copy-spec : {M : Type 1} → statement M
-copy-spec =
+pub copy-bytes-spec : {M : Type 1} → statement M
+copy-bytes-spec =
     tie.close
     (tie.spec
     Inv-loop
