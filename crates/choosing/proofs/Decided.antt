@@ -1,21 +1,23 @@
 -- Choosing over the filled work is choosing for the job (specs/Choosing.antt, specs/Looking.antt).
 --
 --   all-indices      the indices looked at lie within a row
---   filled-fits      the spectra in the work are a matrix for the method
---   filled-choice, filled-answer   what the method picks, with the marks of a purpose, is the choice
+--   filled-given     the spectra in the work are a matrix for the method
+--   filled-answer    what the method picks, over the needed pairs of a purpose, is the choice
+--   chosen-every     it is so picked for isolating, by every circuit's own mark
+--   chosen-first     and for detecting, from the good circuit on
 --   choice-of-job    the choice over coefficients that are the job's is the job's choice
 --   chosen-short     too little work is refused before circuits are compared
 --   chosen-unfilled  a refusal of the spectra is choosing's
 --   chosen-room      where they are filled, the work holds them
 --   chosen-filled    and the choice over the work is choosing's answer
-use Prim.Native.Nat.{ℕ, _+_, _*_, _^_, _≤_, _<_}
-use native.Mathlib.Nat.{le-refl}
+use Prim.Native.Nat.{ℕ, zero, suc, _+_, _*_, _^_, _≤_, _<_}
+use native.Mathlib.Nat.{le-refl, not-suc-le-zero}
 use native.Mathlib.Omega.{arith}
 use mathlib.Core.Path.{_≡_, refl, sym, ap, ap₂, subst, _∙_}
 use mathlib.Core.Bool.{Bool, true, false, not, _&&_}
 use mathlib.Core.Logic.{_⊎_, inl, inr, ⊎-elim}
 use mathlib.Core.List.{List, [], _∷_, _++_, List·Memᴰ, List·Memᴰ·head, List·Memᴰ·tail}
-use borrow.Author.Tests.{le-leb, lt-ltb, leb-true, ltb-true}
+use borrow.Author.Tests.{le-leb, lt-ltb, leb-true, ltb-true, ne-eqb}
 use lib.Dec.{leb, ltb, eqb}
 use lib.ListN.{length, getD, drop, length-append, List·getD-append}
 use lib.Pow.{pow-pos}
@@ -36,12 +38,12 @@ use Rattle.spectra.specs.Operations.{circuitSpectra, jobSpectraOf}
 use Rattle.transform.specs.declared.Kind.{Kind}
 use Rattle.spectra.proofs.WorkPlaces.{length-circuitSpectra, circuitSpectra-at}
 use Rattle.classes.specs.Labels.{Holds}
-use Rattle.classes.specs.Matrix.{cell, apart, maxRows}
-use Rattle.picking.specs.Matrix.{allBelow, fits, picked, pickedBy, choiceOf, signatureOf}
+use Rattle.matrix.specs.Matrix.{cell, fromFirst, maxRows, allBelow, fits, picked, pickedBy, pickedOver, covered, choiceOf, signatureOf}
 use Rattle.method.specs.Method.{agree, signature, firstPair, Pair}
 use Rattle.method.specs.Method.Pair.{nobody, pair}
-use Rattle.picking.specs.declared.Choice.{Choice as Picking}
-use Rattle.classes.proofs.Cells.{cell-within}
+use Rattle.matrix.proofs.Cells.{cell-within}
+use Rattle.matrix.proofs.Fits.{fits-fit}
+use Rattle.matrix.proofs.Over.{picked-over, covered-over}
 use Rattle.method.proofs.Firsts.{firstPair-same}
 use Rattle.method.proofs.Pairs.{by-test}
 use Rattle.method.proofs.Unchanged.{agree-same, signature-same}
@@ -50,6 +52,7 @@ use Rattle.choosing.specs.Choosing.Finding.{chosen, alike}
 use Rattle.choosing.specs.Looking.{Filled, choiceIn, verdictOf, verdictFor, answerOf}
 use Rattle.choosing.specs.declared.Chosen.{Chosen}
 use Rattle.choosing.specs.declared.Purpose.{Purpose}
+use Rattle.choosing.specs.declared.Purpose.the-variants.{Isolating, Detecting}
 use Rattle.choosing.specs.declared.Verdict.the-variants.{Refused}
 use Rattle.choosing.proofs.Equality.{alike-tables}
 use Rattle.choosing.proofs.Indices.{scan-below}
@@ -64,14 +67,14 @@ all-within width (e ∷ l) h =
 pub all-indices : (n : ℕ) → allBelow (2 ^ n) (scanOrder n) ≡ true
 all-indices n = all-within (2 ^ n) (scanOrder n) (λ e m. scan-below n m)
 
-module _ (counts : Counts) (work marks : List ℕ) (enough : Filled counts (length work)) (long : length marks ≡ maxRows) where
+module _ (counts : Counts) (work : List ℕ) (enough : Filled counts (length work)) where
   abbrev n : ℕ
   n = counts .inputs
 
   abbrev rows : ℕ
   rows = counts .faults + 1
 
-  pub filled-fits : fits work (2 ^ n) rows marks (scanOrder n) ≡ true
+  filled-fits : fits work (2 ^ n) rows (scanOrder n) ≡ true
   unfolding fits
   filled-fits =
       let few : rows ≤ maxRows = omega (arith, enough .faults-few, faults-rows) in
@@ -79,48 +82,58 @@ module _ (counts : Counts) (work marks : List ℕ) (enough : Filled counts (leng
       simp (
         le-leb 1 rows (omega arith),
         le-leb rows maxRows few,
-        le-leb rows (length marks) (omega (arith, few, long)),
         le-leb 1 (2 ^ n) some,
         le-leb (rows * 2 ^ n) (length work) (enough .enough),
         all-indices n,
       )
 
-  module _ (purpose : Purpose) (held : Holds maxRows (mark purpose) marks) where
-    marked : (a b : ℕ) → a < b → b < rows → apart marks a b ≡ needed purpose a b
-    marked a b h k =
-        let few : rows ≤ maxRows = omega (arith, enough .faults-few, faults-rows) in
-        ap₂ (λ (x y : ℕ). not (eqb x y)) (held a (omega arith)) (held b (omega arith))
+  pub filled-given : (places : ℕ) (list : List ℕ) → places ≡ 2 ^ n → list ≡ scanOrder n → fits work places rows list ≡ true
+  filled-given places list p q = ap₂ (λ (x : ℕ) (l : List ℕ). fits work x rows l) p q ∙ filled-fits
 
+  module _ (purpose : Purpose) where
     told : (p : Pair) (l : List ℕ)
         → record { verdict = verdictOf counts (choiceOf (pickedBy p l) .found); signature = choiceOf (pickedBy p l) .signature }
         ≡ answerOf (choiceBy p counts l)
     told nobody l = refl
     told (pair a b) l = refl
 
-    fitted : picked work (2 ^ n) rows marks (scanOrder n)
-        ≡ pickedBy (firstPair rows (λ a b. apart marks a b && agree (cell work (2 ^ n)) (scanOrder n) a b))
-        (signature (cell work (2 ^ n)) rows (apart marks) (scanOrder n))
-    unfolding picked
-    fitted = simp filled-fits
-
-    pub filled-choice : (c : Picking) → c ≡ choiceOf (picked work (2 ^ n) rows marks (scanOrder n))
+    filled-choice : (c : Picking) → c ≡ choiceOf (pickedOver work (2 ^ n) rows (needed purpose) (scanOrder n))
         → record { verdict = verdictOf counts (c .found); signature = c .signature } ≡ answerOf (choiceIn purpose counts (cell work (2 ^ n)))
+    unfolding pickedOver
     filled-choice c e =
-        ap (λ (x : Picking). record { verdict = verdictOf counts (x .found); signature = x .signature })
-        (e ∙ ap choiceOf fitted)
-        ∙ told (firstPair rows (λ a b. apart marks a b && agree (cell work (2 ^ n)) (scanOrder n) a b))
-        (signature (cell work (2 ^ n)) rows (apart marks) (scanOrder n))
-        ∙ ap₂ (λ (p : Pair) (l : List ℕ). answerOf (choiceBy p counts l))
-        (firstPair-same rows (λ a b. apart marks a b && agree (cell work (2 ^ n)) (scanOrder n) a b)
-        (λ a b. needed purpose a b && agree (cell work (2 ^ n)) (scanOrder n) a b)
-        (λ a b h k. ap (λ (t : Bool). t && agree (cell work (2 ^ n)) (scanOrder n) a b) (marked a b h k)))
-        (signature-same (cell work (2 ^ n)) (cell work (2 ^ n)) rows (apart marks) (needed purpose) (scanOrder n) (λ c e h m. refl) marked)
+        ap (λ (x : Picking). record { verdict = verdictOf counts (x .found); signature = x .signature }) e
+        ∙ told (firstPair rows (λ a b. needed purpose a b && agree (cell work (2 ^ n)) (scanOrder n) a b))
+        (signature (cell work (2 ^ n)) rows (needed purpose) (scanOrder n))
 
     pub filled-answer : (c : Picking) (places : ℕ) (list : List ℕ) → places ≡ 2 ^ n → list ≡ scanOrder n
-        → c ≡ choiceOf (picked work places rows marks list)
+        → c ≡ choiceOf (pickedOver work places rows (needed purpose) list)
         → record { verdict = verdictOf counts (c .found); signature = c .signature } ≡ answerOf (choiceIn purpose counts (cell work (2 ^ n)))
     filled-answer c places list p q e =
-        filled-choice c (e ∙ ap₂ (λ (x : ℕ) (l : List ℕ). choiceOf (picked work x rows marks l)) p q)
+        filled-choice c (e ∙ ap₂ (λ (x : ℕ) (l : List ℕ). choiceOf (pickedOver work x rows (needed purpose) l)) p q)
+
+-- ---- the two purposes
+
+module _ (work : List ℕ) (width rows : ℕ) (scan : List ℕ) (fit : fits work width rows scan ≡ true) where
+  pub chosen-every : (purpose : Purpose) → purpose ≡ Isolating → (c : Picking) (marks : List ℕ) → length marks ≡ maxRows → Holds maxRows (mark Isolating) marks
+      → c ≡ choiceOf (picked work width rows marks scan) → c ≡ choiceOf (pickedOver work width rows (needed purpose) scan)
+  chosen-every purpose is c marks long held e =
+      let few : rows ≤ maxRows = fits-fit work width rows scan fit .most in
+      e ∙ ap choiceOf
+      (picked-over work width rows scan (needed Isolating) fit marks (omega (arith, few, long))
+      (λ a b h k. ap₂ (λ (x y : ℕ). not (eqb x y)) (held a (omega arith)) (held b (omega arith))))
+      ∙ ap (λ (p : Purpose). choiceOf (pickedOver work width rows (needed p) scan)) (sym is)
+
+  from-first : (a b : ℕ) → a < b → fromFirst a b ≡ needed Detecting a b
+  from-first zero zero h = absurd (not-suc-le-zero h)
+  from-first zero (suc b) h = refl
+  from-first (suc a) zero h = absurd (not-suc-le-zero h)
+  from-first (suc a) (suc b) h = ne-eqb (suc a) 0 (λ e. omega (arith, e))
+
+  pub chosen-first : (purpose : Purpose) → purpose ≡ Detecting → (c : Picking) → c ≡ choiceOf (covered work width rows scan)
+      → c ≡ choiceOf (pickedOver work width rows (needed purpose) scan)
+  chosen-first purpose is c e =
+      e ∙ ap choiceOf (covered-over work width rows scan (needed Detecting) fit (λ a b h k. from-first a b h))
+      ∙ ap (λ (p : Purpose). choiceOf (pickedOver work width rows (needed p) scan)) (sym is)
 
 -- ---- the job
 

@@ -6,8 +6,7 @@
 use Prim.Native.Nat.{_+_, _^_, _≤_}
 use lib.Dec.{lit≤}
 use Rattle.job.specs.Layout.{maxInputs, maxFaults}
-use Rattle.classes.specs.Matrix.{maxRows}
-use Rattle.picking.specs.Matrix.{maxEntries}
+use Rattle.matrix.specs.Matrix.{maxRows, maxEntries}
 use Rattle.choosing.specs.Looking.{maxPlaces}
 
 pub faults-rows : maxFaults + 1 ≤ maxRows

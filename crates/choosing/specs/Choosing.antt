@@ -13,7 +13,6 @@ use mathlib.Core.Bool.{Bool, not, _&&_}
 use mathlib.Core.List.{List, [], _++_}
 use lib.Count.{ones}
 use lib.Dec.{leb, eqb}
-use lib.ListN.{length}
 use Rattle.bits.specs.Answer.{Answer, Fills, leaves, number, unless, onward}
 use Rattle.bits.specs.Answer.Answer.{gives, refused}
 use Rattle.job.specs.declared.Job.{Job}
@@ -26,10 +25,10 @@ use Rattle.spectra.specs.Operations.{circuitSpectra, sameNumbers}
 use Rattle.transform.specs.Spectrum.{coefficient}
 use Rattle.transform.specs.declared.Kind.{Kind}
 use Rattle.bits.specs.Passing.{passing}
-use Rattle.picking.specs.Matrix.{signatureOf}
+use Rattle.matrix.specs.Matrix.{signatureOf}
 use Rattle.method.specs.Method.{signature, firstPair, Pair}
 use Rattle.method.specs.Method.Pair.{nobody, pair}
-use Rattle.picking.specs.declared.Signature.{Signature}
+use Rattle.matrix.specs.declared.Signature.{Signature}
 use Rattle.choosing.specs.declared.Purpose.{Purpose}
 use Rattle.choosing.specs.declared.Purpose.the-variants.{Isolating, Detecting}
 use Rattle.choosing.specs.declared.Verdict.{Verdict}

@@ -20,11 +20,11 @@ use Rattle.bits.specs.Passing.{passing}
 use Rattle.job.specs.Layout.{maxInputs, maxFaults}
 use Rattle.tables.specs.declared.Counts.{Counts}
 use Rattle.bits.specs.declared.Refusal.the-variants.{Memory}
-use Rattle.picking.specs.Matrix.{signatureOf}
+use Rattle.matrix.specs.Matrix.{signatureOf}
 use Rattle.method.specs.Method.{agree, signature, firstPair}
-use Rattle.picking.specs.declared.Found.{Found}
-use Rattle.picking.specs.declared.Found.the-variants.{Told, Unfit}
-use Rattle.picking.specs.declared.Found.the-variants as found
+use Rattle.matrix.specs.declared.Found.{Found}
+use Rattle.matrix.specs.declared.Found.the-variants.{Told, Unfit}
+use Rattle.matrix.specs.declared.Found.the-variants as found
 use Rattle.choosing.specs.Choosing.{Choice, Finding, choiceBy, needed, scanTo, scanOrder}
 use Rattle.choosing.specs.Choosing.Finding.{chosen, alike}
 use Rattle.choosing.specs.declared.Chosen.{Chosen}

@@ -6,15 +6,16 @@ ghost use lib.Count.{ones};
 ghost use lib.ListN.{length};
 ghost use Rattle.job.specs.Layout.{maxInputs};
 ghost use Rattle.classes.specs.Labels.{Holds};
-ghost use Rattle.classes.specs.Matrix.{cell, maxRows};
-ghost use Rattle.picking.specs.Matrix.{signatureOf};
-ghost use Rattle.choosing.specs.Choosing.{mark, scanTo, scanOrder, chosenOf, chose, verdictTold};
-ghost use Rattle.choosing.specs.declared.Purpose.the-variants.{Detecting};
+ghost use mathlib.Core.Bool.{true};
+ghost use Rattle.matrix.specs.Matrix.{cell, maxRows, fits, pickedOver, choiceOf, signatureOf};
+ghost use Rattle.choosing.specs.Choosing.{mark, needed, scanTo, scanOrder, chosenOf, chose, verdictTold};
+ghost use Rattle.choosing.specs.declared.Purpose.the-variants.{Isolating};
 ghost use Rattle.choosing.specs.declared.Verdict.the-variants.{Refused};
 ghost use Rattle.choosing.specs.Looking.{maxPlaces, maxOrders, ofOrder, Placed, Listed, Filled, choiceIn, verdictOf, answerOf};
 use bits::Refusal;
-use picking::Found;
-use picking::Signature;
+use matrix::Choice;
+use matrix::Found;
+use matrix::Signature;
 use tables::Counts;
 use tables::TablesAnswer;
 use transform::Kind;
@@ -46,7 +47,7 @@ const MAX_ORDERS: usize = job::MAX_INPUTS + 1;
 
 // A mark for each circuit: those with different marks are to be told apart.
 struct Marks {
-    of: [u8; classes::MAX_ROWS],
+    of: [u8; matrix::MAX_ROWS],
 }
 
 // The order of each index.
@@ -65,33 +66,14 @@ struct Scan {
     of: [u16; MAX_PLACES],
 }
 
-// 0 for the good circuit, 1 for a faulty one.
-fn is_faulty(c: usize) -> u8
-    ensures { λ r. ⌜ r ≡ mark Detecting c ⌝ }
+// Every circuit has its own mark.
+fn own_marks() -> Marks
+    ensures { λ r. ⌜ Holds maxRows (mark Isolating) (r .of) ⌝ }
 {
-    if c == 0 {
-        return 0;
-    }
-    1
-}
-
-fn mark_of(purpose: Purpose, c: usize) -> u8
-    requires { ⌜ c < maxRows ⌝ }
-    ensures { λ r. ⌜ r ≡ mark purpose c ⌝ }
-{
-    match purpose {
-        Purpose::Isolating => c as u8,
-        Purpose::Detecting => is_faulty(c),
-    }
-}
-
-fn marks_of(purpose: Purpose) -> Marks
-    ensures { λ r. ⌜ Holds maxRows (mark purpose) (r .of) ⌝ }
-{
-    let mut of = [0u8; classes::MAX_ROWS];
+    let mut of = [0u8; matrix::MAX_ROWS];
     let mut c = 0;
-    while c < classes::MAX_ROWS {
-        of[c] = mark_of(purpose, c);
+    while c < matrix::MAX_ROWS {
+        of[c] = c as u8;
         c += 1;
     }
     Marks { of }
@@ -181,7 +163,7 @@ fn refused(cause: Refusal) -> Chosen
         verdict: Verdict::Refused(cause),
         signature: Signature {
             count: 0,
-            entries: [0u16; picking::MAX_ENTRIES],
+            entries: [0u16; matrix::MAX_ENTRIES],
         },
     }
 }
@@ -206,17 +188,30 @@ fn concluded(counts: Counts, found: Found, signature: Signature) -> Chosen
     }
 }
 
+// What the method chooses from so many rows: entries that tell every two apart, or the first from each other.
+fn choose_rows(work: &[u16], width: usize, rows: usize, purpose: Purpose, scan: &[u16]) -> Choice
+    requires { ⌜ fits (now work) width rows (now scan) ≡ true ⌝ }
+    ensures { λ r. ⌜ r ≡ choiceOf (pickedOver (now (work .entry)) width rows (needed purpose) (now (scan .entry))) ⌝ }
+{
+    match purpose {
+        Purpose::Isolating => {
+            let marks = own_marks();
+            picking::choose(work, width, rows, &marks.of, scan)
+        }
+        Purpose::Detecting => covering::choose(work, width, rows, scan),
+    }
+}
+
 // What the method chooses from the spectra in the work.
 fn choose_filled(work: &[u16], counts: Counts, purpose: Purpose) -> Chosen
     requires { ⌜ Filled counts (length (now work)) ⌝ }
     ensures { λ r. ⌜ r ≡ answerOf (choiceIn purpose counts (cell (now (work .entry)) (2 ^ (counts .inputs)))) ⌝ }
 {
-    let marks = marks_of(purpose);
     let scan = scan_order(counts.inputs);
     let count = scan.count;
     let indices = scan.of;
     let size = 1 << counts.inputs;
-    let choice = picking::choose(work, size, counts.faults + 1, &marks.of, &indices[..count]);
+    let choice = choose_rows(work, size, counts.faults + 1, purpose, &indices[..count]);
     let found = choice.found;
     concluded(counts, found, choice.signature)
 }

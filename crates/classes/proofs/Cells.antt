@@ -1,10 +1,9 @@
--- Where the numbers of rows stand (specs/Matrix.antt, `cell`).
+-- Where the numbers of pending rows stand.
 --
---   cell-within     a row's number at an entry lies within the work
---   row-cell, label-cell   so do a pending row's and its label's
+--   row-cell, label-cell   a pending row's number at an entry, and its label's, lie within the work
 --   passing-fit     the numbers of the rows below a bound that pass a test can be read
 use Prim.Native.Nat.{ℕ, suc, _+_, _*_, _≤_, _<_}
-use native.Mathlib.Nat.{mul-le-mul-right, suc-mul, le-refl, le-trans}
+use native.Mathlib.Nat.{mul-le-mul-right, le-refl, le-trans}
 use native.Mathlib.Omega.{arith}
 use mathlib.Core.Path.{_≡_, sym, subst}
 use mathlib.Core.Bool.{Bool}
@@ -12,14 +11,9 @@ use mathlib.Core.List.{List}
 use lib.ListN.{length, getD}
 use Rattle.bits.specs.Passing.{passing}
 use Rattle.bits.proofs.Passing.{passing-few, passing-listing}
-use Rattle.classes.specs.Matrix.{maxRows}
+use Rattle.matrix.specs.Matrix.{maxRows}
+use Rattle.matrix.proofs.Cells.{cell-within}
 use Rattle.classes.specs.Labels.{Low, OpenFit}
-
-pub cell-within : {width rows c entry room : ℕ} → c < rows → entry < width → rows * width ≤ room → c * width + entry < room
-cell-within {width} {rows} {c} h l r =
-    let m : suc c * width ≤ rows * width = mul-le-mul-right width h in
-    let s : suc c * width ≡ c * width + width = suc-mul c width in
-    omega arith
 
 module _ {work : List ℕ} {width : ℕ} {labels rows : List ℕ} (w : OpenFit work width labels rows) where
   pub row-cell : (i entry : ℕ) → i < length rows → entry < width → getD rows i 0 * width + entry < length work

@@ -15,9 +15,9 @@ use lib.ListN.{length, getD, set, replicate, length-set, getD-replicate}
 use lib.Seq.{getD-set-same, getD-set-other}
 use mir.Syntax.{w16}
 use mir.Val.{Fits}
-use Rattle.classes.specs.Matrix.{maxRows}
+use Rattle.matrix.specs.Matrix.{maxRows}
 use Rattle.classes.specs.Labels.{Holds}
-use Rattle.classes.proofs.Sizes.{rows-fit}
+use Rattle.matrix.proofs.Sizes.{rows-fit}
 
 pub zeros-hold : Holds maxRows (λ c. 0) (replicate maxRows 0)
 zeros-hold c h = getD-replicate maxRows c 0 0 h

@@ -1,15 +1,13 @@
 -- Relabelling the pending rows in place by a rule, and dissolving the classes of one mark (specs/Labels.antt, `Settles`).
 --
 --   differs-yes, differs-no   whether numbers differ
---   label-stays, label-own    a label that is kept where numbers agree
 --   Settling         what a loop knows that has relabelled i rows in place by a rule: their labels, and which of them are listed
 --   settling-none, settling-next, settling-all   its start, its step and its end
---   settling-inside, settling-place, settling-low, settling-label-inside, settling-left, settling-count   what the next row is, as it is read
---   settling-cell, settling-label-cell   where its number and its label's stand
+--   settling-row, settling-label, settling-inside, settling-place, settling-low, settling-label-inside, settling-left, settling-count   the next row, as it is read
+--   settling-number  its new label by numbers, as it is read
 --   flag-known, flag-less, flag-fits     the number of its class
 --   settles-same     rules that say the same
 --   settles-parted   the rule by numbers is the one by marks, where the numbers tell which classes hold two marks
---   same-cond        a choice between equals
 --   settles-at, settles-covers   all rows are relabelled, and the rows listed are enough
 --   settled-classed  labels stay those of a relation when classes of one mark are dissolved
 --   settled-settled  and every class that is left holds two marks
@@ -26,13 +24,13 @@ use mir.Syntax.{w16}
 use mir.Val.{Fits}
 use Rattle.bits.proofs.Tests.{and-l, and-r, and-i, clash}
 use Rattle.method.proofs.Pairs.{by-test, someBelow-some, some-someBelow}
-use Rattle.classes.specs.Matrix.{maxRows, apart}
-use Rattle.classes.specs.Labels.{Low, Own, valueIn, stray, split, someOf, filtered, Covers, OpenFit, OpenSettle, Flags, Classed, Mixed, Settled, parted, Flagged, settledOf, settledBy, relabelled, Settles}
-use Rattle.classes.proofs.Listed.{some-passing, filtered-passing, filtered-same}
-use Rattle.classes.proofs.Gathering.{Gathering, gathering-none, gathering-next, gathering-all, gathering-count, Writing, writing-none, writing-next}
-use Rattle.classes.proofs.Relabelling.{listing}
-use Rattle.classes.proofs.Cells.{row-cell, label-cell}
-use Rattle.classes.proofs.Sizes.{rows-fit}
+use Rattle.matrix.specs.Matrix.{maxRows, apart}
+use Rattle.classes.specs.Labels.{Low, Own, valueIn, stray, split, someOf, Covers, OpenSettle, Flags, Holds, Classed, Mixed, Settled, parted, Flagged, settledOf, settledBy, moves, Settles}
+use Rattle.bits.specs.Passing.{filtered}
+use Rattle.classes.proofs.Listed.{some-passing, filtered-same}
+use Rattle.bits.proofs.Passing.{filtered-passing}
+use Rattle.classes.proofs.Gathering.{Gathering, gathering-none, gathering-next, gathering-all, gathering-count, Writing, writing-none, writing-next, writing-ahead, writing-all, written-holds}
+use Rattle.matrix.proofs.Sizes.{rows-fit}
 use Rattle.classes.proofs.Strays.{some-as, stray-not, split-pair}
 
 -- ---- one row
@@ -43,12 +41,6 @@ differs-yes {a} {b} d = rw (ne-eqb a b d)
 pub differs-no : {a b : ℕ} → a ≡ b → _≡_ {A = ℕ} 0 (cond (not (eqb a b)) 1 0)
 differs-no {a} {b} e = rw (eq-eqb a b e)
 
-pub label-stays : {a b label : ℕ} (c : ℕ) → a ≡ b → label ≡ cond (eqb a b) label c
-label-stays {a} {b} c e = rw (eq-eqb a b e)
-
-pub label-own : {a b c : ℕ} (label : ℕ) → (a ≡ b → ⊥) → c ≡ cond (eqb a b) label c
-label-own {a} {b} label d = rw (ne-eqb a b d)
-
 -- the label that a number for its class gives
 settled-number : (t : Bool) {m label c : ℕ} → m ≡ cond t 1 0 → label ≤ c → c - m * (c - label) ≡ cond t label c
 settled-number true {m} {label} {c} e h = let n : m ≡ 1 = e in ap (λ (x : ℕ). c - x * (c - label)) n ∙ omega arith
@@ -56,22 +48,23 @@ settled-number false {m} {label} {c} e h = let n : m ≡ 0 = e in ap (λ (x : �
 
 -- ---- labels and the rows that are listed
 
-module _ (rule : ℕ → ℕ → ℕ) (old list : List ℕ) where
+module _ (rule : ℕ → ℕ) (old list : List ℕ) where
   pub record Settling (labels pending : List ℕ) (left i : ℕ) : Type 0 where
-    pub gathered : Gathering (λ c. not (eqb (relabelled rule old c) c)) list pending left i
-    pub written : Writing old (λ j. getD list j 0) (λ j. relabelled rule old (getD list j 0)) (length list) labels i
+    pub gathered : Gathering (moves rule) list pending left i
+    pub written : Writing rule old list labels i
 
-module _ (rule : ℕ → ℕ → ℕ) (old list : List ℕ) (open-rows : OpenSettle old list) where
+module _ (rule : ℕ → ℕ) (old list : List ℕ) (open-rows : OpenSettle old list) where
   module _ {labels pending : List ℕ} {left i : ℕ} (w : Settling rule old list labels pending left i) (h : i < length list) where
     -- the next row, as it is read
-    settling-row : getD pending i 0 ≡ getD list i 0
+    pub settling-row : getD pending i 0 ≡ getD list i 0
     settling-row = w .gathered .ahead i (le-refl i) h
 
-    settling-label : getD labels (getD pending i 0) 0 ≡ getD old (getD list i 0) 0
+    pub settling-label : getD labels (getD pending i 0) 0 ≡ getD old (getD pending i 0) 0
     settling-label =
-        ap (λ (x : ℕ). getD labels x 0) settling-row
-        ∙ w .written .kept (getD list i 0)
-        (λ j k e. let s : getD list j 0 < getD list i 0 = open-rows .rises j i k h in omega arith)
+        subst (λ (c : ℕ). getD labels c 0 ≡ getD old c 0) (sym settling-row) (writing-ahead (w .written) (open-rows .rises) h)
+
+    pub settling-number : (mixed : List ℕ) → settledBy mixed labels (getD pending i 0) ≡ settledBy mixed old (getD pending i 0)
+    settling-number mixed = ap (λ (label : ℕ). getD pending i 0 - getD mixed label 0 * (getD pending i 0 - label)) settling-label
 
     pub settling-inside : getD pending i 0 < maxRows
     settling-inside = subst (λ (x : ℕ). x < maxRows) (sym settling-row) (open-rows .listed i h)
@@ -81,8 +74,8 @@ module _ (rule : ℕ → ℕ → ℕ) (old list : List ℕ) (open-rows : OpenSet
 
     pub settling-low : getD labels (getD pending i 0) 0 ≤ getD pending i 0
     settling-low =
-        let l : getD old (getD list i 0) 0 ≤ getD list i 0 = open-rows .low i h in
-        omega (arith, settling-row, settling-label)
+        subst (λ (x : ℕ). x ≤ getD pending i 0) (sym settling-label)
+        (subst (λ (c : ℕ). getD old c 0 ≤ c) (sym settling-row) (open-rows .low i h))
 
     pub settling-label-inside : getD labels (getD pending i 0) 0 < maxRows
     settling-label-inside = omega (arith, settling-low, settling-inside)
@@ -90,12 +83,9 @@ module _ (rule : ℕ → ℕ → ℕ) (old list : List ℕ) (open-rows : OpenSet
     pub settling-left : left < maxRows
     settling-left = omega (arith, w .gathered .few, open-rows .few)
 
-    settled-as : relabelled rule labels (getD pending i 0) ≡ relabelled rule old (getD list i 0)
-    settled-as = ap₂ rule settling-label settling-row
-
-    module _ {own n : ℕ} (v : own ≡ relabelled rule labels (getD pending i 0)) (e : n ≡ cond (not (eqb own (getD pending i 0))) 1 0) where
-      listed-as : n ≡ cond (not (eqb (relabelled rule old (getD list i 0)) (getD list i 0))) 1 0
-      listed-as = e ∙ ap₂ (λ (x c : ℕ). cond (not (eqb x c)) 1 0) (v ∙ settled-as) settling-row
+    module _ {own n : ℕ} (v : own ≡ rule (getD pending i 0)) (e : n ≡ cond (not (eqb own (getD pending i 0))) 1 0) where
+      listed-as : n ≡ cond (moves rule (getD list i 0)) 1 0
+      listed-as = e ∙ ap₂ (λ (x c : ℕ). cond (not (eqb x c)) 1 0) (v ∙ ap rule settling-row) settling-row
 
       pub settling-count : left + n ≤ maxRows
       settling-count = omega (arith, gathering-count (w .gathered) h listed-as, open-rows .few)
@@ -105,16 +95,8 @@ module _ (rule : ℕ → ℕ → ℕ) (old list : List ℕ) (open-rows : OpenSet
           subst (λ (c : ℕ). Settling rule old list (set labels c own) (set pending left c) (left + n) (i + 1)) (sym settling-row)
           (record {
             gathered = gathering-next (w .gathered) h listed-as;
-            written = writing-next (w .written) h (open-rows .listed i h) (v ∙ settled-as);
+            written = writing-next (w .written) h (open-rows .listed i h) (v ∙ ap rule settling-row);
           })
-
-    -- its number at an entry and its label's can be read
-    module _ {work : List ℕ} {width entry : ℕ} (fit : OpenFit work width old list) (inside : entry < width) where
-      pub settling-cell : getD pending i 0 * width + entry < length work
-      settling-cell = subst (λ (c : ℕ). c * width + entry < length work) (sym settling-row) (row-cell fit i entry h inside)
-
-      pub settling-label-cell : getD labels (getD pending i 0) 0 * width + entry < length work
-      settling-label-cell = subst (λ (c : ℕ). c * width + entry < length work) (sym settling-label) (label-cell fit i entry h inside)
 
   pub settling-all : {labels pending : List ℕ} {left i : ℕ} → Settling rule old list labels pending left i → length list ≤ i
       → Settles rule old list labels pending left
@@ -122,18 +104,15 @@ module _ (rule : ℕ → ℕ → ℕ) (old list : List ℕ) (open-rows : OpenSet
       record {
         few = omega (arith, w .gathered .few, w .gathered .within, open-rows .few);
         listed = gathering-all (w .gathered) h;
-        done = λ j k. w .written .done (relabelled rule old) (λ a b. refl) j (omega arith);
-        kept = λ c none. w .written .kept c (λ j k e. none j (omega (arith, w .written .within)) e);
+        written = writing-all (w .written) h;
       }
 
-pub settling-none : (rule : ℕ → ℕ → ℕ) (old pending : List ℕ) {count : ℕ} (open-rows : OpenSettle old (take count pending)) → count ≤ length pending
+pub settling-none : (rule : ℕ → ℕ) (old pending : List ℕ) {count : ℕ} (open-rows : OpenSettle old (take count pending)) → count ≤ length pending
     → Settling rule old (take count pending) old pending 0 0
 settling-none rule old pending {count} open-rows h =
     record {
-      gathered = gathering-none (λ c. not (eqb (relabelled rule old c) c)) pending count h;
-      written =
-          writing-none old (λ j. getD (take count pending) j 0) (λ j. relabelled rule old (getD (take count pending) j 0)) (length (take count pending))
-          (open-rows .sized);
+      gathered = gathering-none (moves rule) pending count h;
+      written = writing-none rule old (take count pending) (open-rows .sized);
     }
 
 -- ---- classes told by numbers
@@ -150,26 +129,21 @@ module _ (mixed : List ℕ) (flags : Flags mixed) {c label : ℕ} (low : label �
   flag-fits = omega (arith, flag-less, rows-fit)
 
 -- two rules that say the same of the rows listed
-pub settles-same : (rule other : ℕ → ℕ → ℕ) (old list : List ℕ)
-    → ((i : ℕ) → i < length list → relabelled rule old (getD list i 0) ≡ relabelled other old (getD list i 0))
+pub settles-same : (rule other : ℕ → ℕ) (old list : List ℕ) → ((i : ℕ) → i < length list → rule (getD list i 0) ≡ other (getD list i 0))
     → {labels pending : List ℕ} {count : ℕ} → Settles rule old list labels pending count → Settles other old list labels pending count
 settles-same rule other old list same s =
     record {
       few = s .few;
-      listed =
-          s .listed
-          ∙ filtered-same (λ c. not (eqb (relabelled rule old c) c)) (λ c. not (eqb (relabelled other old c) c)) list
-          (λ i h. ap (λ (x : ℕ). not (eqb x (getD list i 0))) (same i h));
-      done = λ i h. s .done i h ∙ same i h;
-      kept = s .kept;
+      listed = s .listed ∙ filtered-same (moves rule) (moves other) list (λ i h. ap (λ (x : ℕ). not (eqb x (getD list i 0))) (same i h));
+      written = record { done = λ i h. s .written .done i h ∙ same i h; kept = s .written .kept };
     }
 
 -- where the numbers tell which classes hold two marks
 pub settles-parted : (marks mixed old list : List ℕ) → OpenSettle old list → Flagged (valueIn old) marks list mixed
-    → {labels pending : List ℕ} {count : ℕ} → Settles (settledBy mixed) old list labels pending count
-    → Settles (settledOf (parted (valueIn old) marks list)) old list labels pending count
+    → {labels pending : List ℕ} {count : ℕ} → Settles (settledBy mixed old) old list labels pending count
+    → Settles (settledOf (parted (valueIn old) marks list) old) old list labels pending count
 settles-parted marks mixed old list open-rows flagged =
-    settles-same (settledBy mixed) (settledOf (parted (valueIn old) marks list)) old list
+    settles-same (settledBy mixed old) (settledOf (parted (valueIn old) marks list) old) old list
     (λ i h.
     let c : ℕ = getD list i 0 in
     let low : getD old c 0 ≤ c = open-rows .low i h in
@@ -178,46 +152,33 @@ settles-parted marks mixed old list open-rows flagged =
 
 -- ---- all rows
 
-pub same-cond : (u : Bool) (a : ℕ) → cond u a a ≡ a
+same-cond : (u : Bool) (a : ℕ) → cond u a a ≡ a
 same-cond true a = refl
 same-cond false a = refl
 
 -- by a rule that lets a row be that is its own label
-module _ (rule : ℕ → ℕ → ℕ) (still : (c : ℕ) → rule c c ≡ c) (rows : ℕ) (L list R of : List ℕ) (count : ℕ) (covers : Covers rows L list)
+module _ (rule : ℕ → ℕ) (rows : ℕ) (L list R of : List ℕ) (count : ℕ) (still : (c : ℕ) → c < rows → getD L c 0 ≡ c → rule c ≡ c) (covers : Covers rows L list)
     (s : Settles rule L list R of count) where
-  still-at : (c : ℕ) → getD L c 0 ≡ c → relabelled rule L c ≡ c
-  still-at c e = ap (λ (x : ℕ). rule x c) e ∙ still c
-
-  pub settles-at : (c : ℕ) → c < rows → getD R c 0 ≡ relabelled rule L c
-  settles-at c h =
-      by-test (covers .test c)
-      (λ t.
-      let r : (i : ℕ) × (i < length list) × (getD list i 0 ≡ c) = listing covers .has c h t in
-      subst (λ (x : ℕ). getD R x 0 ≡ relabelled rule L x) (r .2) (s .done (r .0) (r .1)))
-      (λ f.
-      s .kept c (λ i l e. clash (listing covers .passes i l) (ap (covers .test) e ∙ f))
-      ∙ covers .others c h f ∙ sym (still-at c (covers .others c h f)))
+  pub settles-at : Holds rows rule R
+  settles-at = written-holds rule still covers (s .written)
 
   pub settles-covers : Covers rows R (take count of)
   settles-covers =
       record {
-        test = λ c. covers .test c && not (eqb (relabelled rule L c) c);
-        listed =
-            s .listed
-            ∙ ap (filtered (λ c. not (eqb (relabelled rule L c) c))) (covers .listed)
-            ∙ filtered-passing (λ c. not (eqb (relabelled rule L c) c)) (covers .test) rows;
+        test = λ c. covers .test c && moves rule c;
+        listed = s .listed ∙ ap (filtered (moves rule)) (covers .listed) ∙ filtered-passing (moves rule) (covers .test) rows;
         others = λ c h f.
-            by-test (eqb (relabelled rule L c) c)
-            (λ t. settles-at c h ∙ eqb-true (relabelled rule L c) c t)
+            by-test (eqb (rule c) c)
+            (λ t. settles-at c h ∙ eqb-true (rule c) c t)
             (λ n.
             by-test (covers .test c)
             (λ t. absurd (clash (and-i t (ap not n)) f))
-            (λ g. settles-at c h ∙ still-at c (covers .others c h g)));
+            (λ g. settles-at c h ∙ still c h (covers .others c h g)));
       }
 
 -- by the marks of the classes
 module _ (rows : ℕ) (marks L list R of : List ℕ) (count : ℕ) (low : Low rows L) (own : Own rows L) (covers : Covers rows L list)
-    (s : Settles (settledOf (parted (valueIn L) marks list)) L list R of count) where
+    (s : Settles (settledOf (parted (valueIn L) marks list) L) L list R of count) where
   -- only a listed row can have another mark than its label
   parted-split : (label : ℕ) → parted (valueIn L) marks list label ≡ split rows L marks label
   unfolding split
@@ -231,11 +192,11 @@ module _ (rows : ℕ) (marks L list R of : List ℕ) (count : ℕ) (low : Low ro
       ∙ sym (ap (λ (x : Bool). eqb (getD L c 0) label && x) (stray-not L marks c (ap (λ (x : ℕ). getD marks x 0) (sym (covers .others c h f))))
       ∙ and-false (eqb (getD L c 0) label))))
 
-  still : (c : ℕ) → settledOf (parted (valueIn L) marks list) c c ≡ c
-  still c = same-cond (parted (valueIn L) marks list c) c
+  still : (c : ℕ) → c < rows → getD L c 0 ≡ c → settledOf (parted (valueIn L) marks list) L c ≡ c
+  still c h e = ap (λ (x : ℕ). cond (parted (valueIn L) marks list (getD L c 0)) x c) e ∙ same-cond (parted (valueIn L) marks list (getD L c 0)) c
 
-  settled-at : (c : ℕ) → c < rows → getD R c 0 ≡ relabelled (settledOf (parted (valueIn L) marks list)) L c
-  settled-at = settles-at (settledOf (parted (valueIn L) marks list)) still rows L list R of count covers s
+  settled-at : Holds rows (settledOf (parted (valueIn L) marks list) L) R
+  settled-at = settles-at (settledOf (parted (valueIn L) marks list) L) rows L list R of count still covers s
 
   -- a row of a class that holds two marks keeps its label
   split-at : (c : ℕ) → c < rows → split rows L marks (getD L c 0) ≡ true → getD R c 0 ≡ getD L c 0
@@ -307,4 +268,4 @@ module _ (rows : ℕ) (marks L list R of : List ℕ) (count : ℕ) (low : Low ro
       (λ f. absurd (other (whole-at c h f)))
 
   pub settled-settled : Settled rows marks R of count
-  settled-settled = record { few = s .few; covers = settles-covers (settledOf (parted (valueIn L) marks list)) still rows L list R of count covers s; mixed = settled-mixed }
+  settled-settled = record { few = s .few; covers = settles-covers (settledOf (parted (valueIn L) marks list) L) rows L list R of count still covers s; mixed = settled-mixed }

@@ -1,4 +1,4 @@
-pub mod Sizes
+pub mod Fitting
 pub mod Columns
 pub mod Cells
 pub mod Listed
@@ -7,9 +7,11 @@ pub mod Refined
 pub mod Gathering
 pub mod Chaining
 pub mod Walking
+pub mod Linking
 pub mod Strays
 pub mod Relabelling
+pub mod Noting
 pub mod Rising
 pub mod Dissolving
-pub mod OneMark
+pub mod Renewing
 pub mod Parting

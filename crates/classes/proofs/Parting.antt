@@ -3,33 +3,29 @@
 --   pending-below    the rows listed are rows
 --   ready-fit        the numbers of the pending rows can be read
 --   ready-open       they can be relabelled
---   ready-marked     they have marks
---   ready-kept       where they have one mark, those that keep their labels' numbers keep their labels: so they are parted
+--   ready-risen      where the marks rise, the pending rows are parted by relabelling them
 --   refined-open, refined-flags   refined classes can be settled
 --   refined-parted   refined and settled, they are parted
---   relisted-parted  so where the marks may rise
 --   start-open, start-marked, start-flags, start-started   the start: all rows in one class, settled
 use Prim.Native.Nat.{ℕ, zero, suc, _≤_, _<_}
 use native.Mathlib.Omega.{arith}
-use mathlib.Core.Logic.{⊎-elim}
-use mathlib.Core.Path.{_≡_, refl, sym, ap, subst, _∙_}
+use mathlib.Core.Path.{_≡_, refl, sym, ap, _∙_}
 use mathlib.Core.Bool.{Bool, true, false, not, cond, _&&_}
 use mathlib.Core.List.{List, [], _∷_}
-use borrow.Author.Tests.{eqb-true, eq-eqb, ne-eqb, not-false}
+use borrow.Author.Tests.{eq-eqb, ne-eqb}
 use lib.Dec.{eqb}
 use lib.ListN.{length, take, getD, set, length-set}
 use lib.Seq.{getD-take, getD-set-same, getD-set-other}
 use Rattle.bits.proofs.Tests.{clash}
-use Rattle.method.proofs.Pairs.{by-test}
-use Rattle.classes.specs.Matrix.{cell, maxRows}
-use Rattle.classes.specs.Labels.{Holds, Low, Own, valueIn, strayBy, otherMark, someOf, Covers, OpenFit, OpenSettle, Flags, Settles, parted, Flagged, settledBy, keptBy, Ready, Refined, Parted, Started, Relists}
+use Rattle.matrix.specs.Matrix.{cell, maxRows}
+use Rattle.classes.specs.Labels.{Holds, Low, Own, Labels, both, valueIn, lowestOf, strayBy, otherMark, someOf, Covers, OpenFit, OpenSettle, Flags, Settles, parted, Flagged, settledBy, Rise, Ready, Refined, Parted, Started}
 use Rattle.bits.proofs.Passing.{passing-few}
-use Rattle.classes.proofs.Listed.{passing-all, some-same, some-none}
+use Rattle.classes.proofs.Listed.{listing, passing-all, some-same}
 use Rattle.classes.proofs.Cells.{passing-fit}
-use Rattle.classes.proofs.Relabelling.{listing, refined-covers}
-use Rattle.classes.proofs.Rising.{risen-settled}
-use Rattle.classes.proofs.Dissolving.{settles-parted, settled-classed, settled-settled}
-use Rattle.classes.proofs.OneMark.{kept-classed, kept-settled}
+use Rattle.classes.proofs.Refined.{lowest-own, refined}
+use Rattle.classes.proofs.Relabelling.{refined-covers}
+use Rattle.classes.proofs.Rising.{risen-mixed}
+use Rattle.classes.proofs.Dissolving.{settles-at, settles-covers, settles-parted, settled-classed, settled-settled}
 
 pub pending-below : {rows : ℕ} {labels : List ℕ} (list : List ℕ) → Covers rows labels list → (i : ℕ) → i < length list → getD list i 0 < rows
 pending-below list covers i h = listing covers .below i h
@@ -53,16 +49,6 @@ flagged-flags : (marks labels mixed list : List ℕ) → length mixed ≡ maxRow
 flagged-flags marks labels mixed list e flagged =
     record { known = e; flags = λ l h. flag-most (parted (valueIn labels) marks list l) (flagged l h) }
 
--- no row has another mark than the first listed
-same-marks : (marks list : List ℕ) {m : ℕ} → m ≡ cond (someOf (otherMark marks list) list) 1 0 → m ≡ 0
-    → (i : ℕ) → i < length list → getD marks (getD list i 0) 0 ≡ getD marks (getD list 0 0) 0
-same-marks marks list two e i h =
-    by-test (someOf (otherMark marks list) list)
-    (λ t. absurd (let n : _≡_ {A = ℕ} 0 1 = sym e ∙ two ∙ ap (λ (u : Bool). cond u 1 0) t in omega arith))
-    (λ f.
-    eqb-true (getD marks (getD list i 0) 0) (getD marks (getD list 0 0) 0)
-    (not-false (eqb (getD marks (getD list i 0) 0) (getD marks (getD list 0 0) 0)) (some-none (otherMark marks list) list f i h)))
-
 module _ {work : List ℕ} {width rows : ℕ} {marks L list : List ℕ} (ready : Ready work width rows marks L list) where
   pub ready-fit : length L ≡ maxRows → OpenFit work width L list
   ready-fit e =
@@ -72,18 +58,22 @@ module _ {work : List ℕ} {width rows : ℕ} {marks L list : List ℕ} (ready :
   pub ready-open : length L ≡ maxRows → OpenSettle L list
   ready-open e = covered-settle L list (ready .fit .most) e (ready .low) (ready .covers)
 
-  pub ready-marked : (i : ℕ) → i < length list → getD list i 0 < length marks
-  ready-marked i h = let b : getD list i 0 < rows = listing (ready .covers) .below i h in omega (arith, ready .fit .marked)
-
-  -- where they have one mark
-  pub ready-kept : {m entry : ℕ} → m ≡ cond (someOf (otherMark marks list) list) 1 0 → m ≡ 0 → {labels pending : List ℕ} {count : ℕ}
-      → Settles (keptBy (λ c. cell work width c entry)) L list labels pending count → Parted work width rows marks entry L labels pending count
-  ready-kept {entry = entry} two e s =
-      let one = same-marks marks list two e in
+  -- where no class of two rows has one mark
+  pub ready-risen : (entry : ℕ) → Rise marks → {labels pending : List ℕ} {count : ℕ}
+      → Settles (lowestOf L (λ c. cell work width c entry)) L list labels pending count → Parted work width rows marks entry L labels pending count
+  ready-risen entry rise {labels} {pending} {count} s =
       let value : ℕ → ℕ = λ c. cell work width c entry in
+      let still : (c : ℕ) → c < rows → getD L c 0 ≡ c → lowestOf L value c ≡ c = lowest-own rows L value (ready .low) in
+      let by : Labels rows (both L value) labels =
+      refined rows L value (ready .low) (settles-at (lowestOf L value) rows L list labels pending count still (ready .covers) s) in
       record {
-        classed = kept-classed rows marks L list value (ready .low) (ready .own) (ready .covers) (ready .mixed) (getD marks (getD list 0 0) 0) one s;
-        settled = kept-settled rows marks L list value (ready .low) (ready .own) (ready .covers) (ready .mixed) (getD marks (getD list 0 0) 0) one s;
+        classed = record { low = by .low; own = by .own; told = λ a b h l n. by .equal a b h l };
+        settled =
+            record {
+              few = s .few;
+              covers = settles-covers (lowestOf L value) rows L list labels pending count still (ready .covers) s;
+              mixed = risen-mixed rows marks labels rise (ready .fit .marked) (by .low);
+            };
       }
 
   module _ {entry : ℕ} {R mixed : List ℕ} (refined : Refined work width rows marks list entry L R mixed) where
@@ -96,7 +86,7 @@ module _ {work : List ℕ} {width rows : ℕ} {marks L list : List ℕ} (ready :
     pub refined-flags : length mixed ≡ maxRows → Flags mixed
     refined-flags e = flagged-flags marks R mixed list e (refined .flagged)
 
-    pub refined-parted : length R ≡ maxRows → {labels pending : List ℕ} {count : ℕ} → Settles (settledBy mixed) R list labels pending count
+    pub refined-parted : length R ≡ maxRows → {labels pending : List ℕ} {count : ℕ} → Settles (settledBy mixed R) R list labels pending count
         → Parted work width rows marks entry L labels pending count
     refined-parted e {labels} {pending} {count} s =
         let d = settles-parted marks mixed R list (refined-open e) (refined .flagged) s in
@@ -106,19 +96,6 @@ module _ {work : List ℕ} {width rows : ℕ} {marks L list : List ℕ} (ready :
               (λ a b h l n. refined .labels-by .equal a b h l);
           settled = settled-settled rows marks R list labels pending count (refined .labels-by .low) (refined .labels-by .own) covers d;
         }
-
-    pub relisted-parted : length R ≡ maxRows → {labels pending : List ℕ} {count : ℕ} → Relists marks mixed R list labels pending count
-        → Parted work width rows marks entry L labels pending count
-    relisted-parted e {labels} {pending} {count} =
-        ⊎-elim
-        (λ (rise, same, s).
-        subst (λ (l : List ℕ). Parted work width rows marks entry L l pending count) (sym same)
-        (record {
-          classed =
-              record { low = refined .labels-by .low; own = refined .labels-by .own; told = λ a b h l n. refined .labels-by .equal a b h l };
-          settled = risen-settled rows marks R list pending count rise (ready .fit .marked) (refined .labels-by .low) covers s;
-        }))
-        (λ s. refined-parted e s)
 
 module _ (rows : ℕ) (marks L of : List ℕ) (some : 1 ≤ rows) (most : rows ≤ maxRows) (one : Holds maxRows (λ c. 0) L) (sized : length L ≡ maxRows)
     (long : length of ≡ maxRows) (every : Holds maxRows (λ c. c) of) where
@@ -180,7 +157,7 @@ module _ (rows : ℕ) (marks L of : List ℕ) (some : 1 ≤ rows) (most : rows �
     pub start-flags : Flags (set mixed 0 m)
     start-flags = flagged-flags marks L (set mixed 0 m) (take rows of) (length-set mixed 0 m ∙ known) flagged
 
-    pub start-started : {labels pending : List ℕ} {count : ℕ} → Settles (settledBy (set mixed 0 m)) L (take rows of) labels pending count
+    pub start-started : {labels pending : List ℕ} {count : ℕ} → Settles (settledBy (set mixed 0 m) L) L (take rows of) labels pending count
         → Started rows marks labels pending count
     start-started {labels} {pending} {count} s =
         let d = settles-parted marks (set mixed 0 m) L (take rows of) start-open flagged s in

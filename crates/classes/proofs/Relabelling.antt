@@ -1,18 +1,17 @@
 -- Refining in place: the pending rows passed have the lowest rows of their class and value (specs/Labels.antt, `Refines`).
 --
---   listing         the rows listed, in order
+--   ready-labelled  rows that can be parted have labels
 --   Flagging        what a loop knows after i rows: the classes of which one of these has another mark than its label
 --   flagging-none, flagging-next   its start and its step
 --   mixes-same, mixes-other        the number of a class, by comparing two marks
 --   Relabelling     what a loop knows that has relabelled i rows
 --   relabelling-start, relabelling-next, relabelling-all   its start, its step and its end
 --   relabelling-row, relabelling-place, relabelling-label, relabelling-mark   the next row, its label and its mark
---   relabelling-walkable, relabelling-some   its class can be walked along
+--   relabelling-walkable, relabelling-some   its class can be walked along from its label
 --   relabelling-found, relabelling-flag, relabelling-found-mark   its new label, with its place and its mark
 --   stays-own       a row that is its own label stays so
 --   refined-covers  so the rows listed before still are enough
 use Prim.Native.Nat.{ℕ, suc, _+_, _≤_, _<_}
-use native.Mathlib.Nat.{not-suc-le-zero, le-refl, le-trans, mul-le-mul-right}
 use native.Mathlib.Numerals.{add-one}
 use native.Mathlib.Omega.{arith}
 use mathlib.Core.Path.{_≡_, refl, sym, ap, ap₂, subst, _∙_}
@@ -22,19 +21,16 @@ use borrow.Author.Tests.{eqb-true, eqb-false, eq-eqb, ne-eqb}
 use lib.Dec.{eqb}
 use lib.ListN.{length, take, getD, set, length-set}
 use lib.Seq.{getD-set-same, getD-set-other, take-all}
-use Rattle.bits.proofs.Tests.{clash}
 use Rattle.method.proofs.Pairs.{by-test}
-use Rattle.classes.specs.Matrix.{cell, maxRows}
-use Rattle.classes.specs.Labels.{Holds, Low, Labels, both, valueIn, lowestOf, strayBy, someOf, Covers, Chain, Walkable, Walked, SomeWalkable, parted, Flagged, Ready, Refined}
-use Rattle.bits.proofs.Passing.{Listing, passing-listing}
-use Rattle.classes.proofs.Listed.{some-next, some-same}
-use Rattle.classes.proofs.Gathering.{Writing, writing-none, writing-next}
-use Rattle.classes.proofs.Refined.{same-label, lowest-le, lowest-own, refined}
-use Rattle.classes.proofs.Chaining.{by-order, chain-start, chain-skip}
+use Rattle.matrix.specs.Matrix.{cell, maxRows}
+use Rattle.classes.specs.Labels.{Holds, Low, Labels, both, valueIn, lowestOf, strayBy, someOf, Covers, Walkable, Walked, SomeWalkable, parted, Flagged, Labelled, Ready, Refined}
+use Rattle.classes.proofs.Listed.{listing, some-next, some-same}
+use Rattle.classes.proofs.Gathering.{Writing, writing-none, writing-next, writing-ahead, writing-all, written-holds}
+use Rattle.classes.proofs.Refined.{same-label, lowest-own, refined-le, refined}
+use Rattle.classes.proofs.Linking.{Linking, linking-start, linking-walkable, linking-some, linking-next, linking-found}
 
-pub listing : {rows : ℕ} {labels list : List ℕ} (covers : Covers rows labels list) → Listing (covers .test) rows (λ i. getD list i 0) (length list)
-listing {rows} covers =
-    subst (λ (l : List ℕ). Listing (covers .test) rows (λ i. getD l i 0) (length l)) (sym (covers .listed)) (passing-listing (covers .test) rows)
+pub ready-labelled : {work : List ℕ} {width rows : ℕ} {marks L list : List ℕ} → Ready work width rows marks L list → Labelled work width rows L list
+ready-labelled ready = record { most = ready .fit .most; filled = ready .fit .filled; low = ready .low; own = ready .own; covers = ready .covers }
 
 -- ---- classes that hold two marks
 
@@ -100,12 +96,8 @@ module _ {label : ℕ → ℕ} {marks list mixed : List ℕ} {i : ℕ} (w : Flag
 
 module _ (rows : ℕ) (marks L list : List ℕ) (value : ℕ → ℕ) where
   pub record Relabelling (labels next mixed : List ℕ) (i : ℕ) : Type 0 where
-    pub seen : ℕ
-    pub behind : (j : ℕ) → j < i → getD list j 0 < seen
-    pub ahead : (j : ℕ) → i ≤ j → j < length list → seen ≤ getD list j 0
-    pub most : seen ≤ rows
-    pub chain : Chain rows L value seen next
-    pub written : Writing L (λ j. getD list j 0) (λ j. lowestOf L value (getD list j 0)) (length list) labels i
+    pub linking : Linking rows L list value next i
+    pub written : Writing (lowestOf L value) L list labels i
     pub flagging : Flagging (lowestOf L value) marks list mixed i
 
 module _ (work : List ℕ) (width rows : ℕ) (marks L list : List ℕ) (entry : ℕ) (ready : Ready work width rows marks L list) where
@@ -116,13 +108,8 @@ module _ (work : List ℕ) (width rows : ℕ) (marks L list : List ℕ) (entry :
       → Holds maxRows (λ c. 0) next → Holds maxRows (λ c. 0) mixed → Relabelling rows marks L list value L next mixed 0
   relabelling-start next mixed e f g none flags =
       record {
-        seen = 0;
-        behind = λ j h. absurd (not-suc-le-zero h);
-        ahead = λ j h l. omega arith;
-        most = omega arith;
-        chain =
-            chain-start rows L value (ready .low) (ready .own) next (omega (arith, ready .fit .most)) (λ k h. none k (omega (arith, ready .fit .most)));
-        written = writing-none L (λ j. getD list j 0) (λ j. lowestOf L value (getD list j 0)) (length list) e;
+        linking = linking-start rows L list value (ready-labelled ready) next f none;
+        written = writing-none (lowestOf L value) L list e;
         flagging = flagging-none (lowestOf L value) marks list mixed g flags;
       }
 
@@ -134,25 +121,9 @@ module _ (work : List ℕ) (width rows : ℕ) (marks L list : List ℕ) (entry :
       inside : c < rows
       inside = listing (ready .covers) .below i h
 
-      -- the rows between are not listed
-      between : (k : ℕ) → w .seen ≤ k → k < c → getD L k 0 ≡ k
-      between k a l =
-          let b : c < rows = inside in
-          let m : k < rows = omega arith in
-          by-test (ready .covers .test k)
-          (λ t.
-          let r : (j : ℕ) × (j < length list) × (getD list j 0 ≡ k) = listing (ready .covers) .has k m t in
-          absurd (by-order (r .0) i
-          (λ (n : r .0 < i). let s : getD list (r .0) 0 < w .seen = w .behind (r .0) n in omega (arith, r .2))
-          (λ (e : r .0 ≡ i). let s : getD list (r .0) 0 ≡ c = ap (λ (x : ℕ). getD list x 0) e in omega (arith, r .2))
-          (λ (n : i < r .0). let s : c < getD list (r .0) 0 = listing (ready .covers) .ascends i (r .0) n (r .1) in omega (arith, r .2))))
-          (λ f. ready .covers .others k m f)
-
       -- the next row has its old label
       old-label : getD labels c 0 ≡ getD L c 0
-      old-label =
-          w .written .kept c
-          (λ j k e. let s : getD list j 0 < c = listing (ready .covers) .ascends j i k h in omega arith)
+      old-label = writing-ahead (w .written) (listing (ready .covers) .ascends) h
 
       pub relabelling-row : c < maxRows
       relabelling-row = omega (arith, inside, ready .fit .most)
@@ -167,70 +138,33 @@ module _ (work : List ℕ) (width rows : ℕ) (marks L list : List ℕ) (entry :
       relabelling-mark = omega (arith, inside, ready .fit .marked)
 
       pub relabelling-walkable : Walkable rows L value next (getD labels c 0) c
-      relabelling-walkable =
-          let b : c < rows = inside in
-          record {
-            chain = chain-skip rows L value (w .chain) (w .ahead i (le-refl i) h) (omega arith) between;
-            inside = inside;
-            few = ready .fit .most;
-            at = sym old-label;
-          }
+      relabelling-walkable = linking-walkable rows L list value (ready-labelled ready) (w .linking) h refl old-label
 
       pub relabelling-some : entry < width → SomeWalkable work width entry next (getD labels c 0) c
-      relabelling-some l =
-          record {
-            rows = rows;
-            labels = L;
-            walkable = relabelling-walkable;
-            filled = le-trans (mul-le-mul-right width inside) (ready .fit .filled);
-            inside = l;
-          }
+      relabelling-some l = linking-some rows L list (ready-labelled ready) l relabelling-walkable
 
       module _ {after : List ℕ} {r : ℕ} (walked : Walked rows L value after c r) where
-        not-above : r ≤ c
-        not-above = subst (λ (x : ℕ). x ≤ c) (sym (walked .found)) (lowest-le rows L value (ready .low) c inside)
-
         pub relabelling-found : r < maxRows
-        relabelling-found = omega (arith, not-above, relabelling-row)
+        relabelling-found = linking-found rows L list value (ready-labelled ready) (w .linking) h refl walked
 
         pub relabelling-flag : r < length mixed
         relabelling-flag = omega (arith, relabelling-found, w .flagging .sized)
 
         pub relabelling-found-mark : r < length marks
-        relabelling-found-mark = omega (arith, not-above, relabelling-mark)
+        relabelling-found-mark = omega (arith, refined-le rows L value (ready .low) c inside (walked .found), relabelling-mark)
 
         pub relabelling-next : {u : ℕ} → u ≡ cond (not (eqb (getD marks c 0) (getD marks r 0))) 1 (getD mixed r 0)
             → Relabelling rows marks L list value (set labels c r) after (set mixed r u) (i + 1)
         relabelling-next {u} e =
-            let b : c < rows = inside in
-            let d : r ≤ c = not-above in
-            let before : w .seen ≤ c = w .ahead i (le-refl i) h in
             record {
-              seen = suc c;
-              behind = λ j k.
-                  by-order j i
-                  (λ (n : j < i). let s : getD list j 0 < w .seen = w .behind j n in omega arith)
-                  (λ (n : j ≡ i). let s : getD list j 0 ≡ c = ap (λ (x : ℕ). getD list x 0) n in omega arith)
-                  (λ (n : i < j). absurd (omega arith));
-              ahead = λ j k l. listing (ready .covers) .ascends i j (omega arith) l;
-              most = omega arith;
-              chain = walked .chain;
-              written = writing-next (w .written) h (omega (arith, ready .fit .most)) (walked .found);
-              flagging = flagging-next (w .flagging) h u r (walked .found) (omega (arith, ready .fit .most)) e;
+              linking = linking-next rows L list value (ready-labelled ready) (w .linking) h refl walked;
+              written = writing-next (w .written) h relabelling-row (walked .found);
+              flagging = flagging-next (w .flagging) h u r (walked .found) relabelling-found e;
             }
 
     module _ (end : length list ≤ i) where
       holds : Holds rows (lowestOf L value) labels
-      holds k h =
-          by-test (ready .covers .test k)
-          (λ t.
-          let r : (j : ℕ) × (j < length list) × (getD list j 0 ≡ k) = listing (ready .covers) .has k h t in
-          subst (λ (x : ℕ). getD labels x 0 ≡ lowestOf L value x) (r .2)
-          (w .written .done (lowestOf L value) (λ a b. refl) (r .0) (omega (arith, r .1))))
-          (λ f.
-          w .written .kept k
-          (λ j l e. clash (listing (ready .covers) .passes j (omega (arith, w .written .within))) (ap (ready .covers .test) e ∙ f))
-          ∙ ready .covers .others k h f ∙ sym (lowest-own rows L value (ready .low) k h (ready .covers .others k h f)))
+      holds = written-holds (lowestOf L value) (lowest-own rows L value (ready .low)) (ready .covers) (writing-all (w .written) end)
 
       same-parted : (l : ℕ) → parted (lowestOf L value) marks list l ≡ parted (valueIn labels) marks list l
       same-parted l =

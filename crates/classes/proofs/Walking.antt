@@ -1,7 +1,6 @@
--- Seeking along a chain the first row of a class that has a row's value (specs/Labels.antt, `Walks`).
+-- Seeking along a chain the first row of a class that has a row's value (specs/Labels.antt, `Walking`).
 --
---   Walking         what a loop knows: the rows passed have other values, or row c was put at the chain's end
---   walking-start, walking-step, walking-end   its start, its step and its end
+--   walking-start, walking-step, walking-end   where seeking starts, a step and the end
 --   walking-le      the row looked at is not above row c
 --   walking-lt      it is below if it has another value
 --   walking-falls   each step brings it nearer
@@ -9,24 +8,29 @@
 --   walk-cell       its number can be read
 --   length-linked   a link put is put in its place
 --   link-put, link-found   a row's link, by comparing it with 0
+--   picks-first, picks-second   one of two, by comparing two numbers
+--   first-stepped   the first step, made without a branch
+--   first-walkable, first-some   from where it leads the walk goes on
+--   first-cell, first-places   what it asks for
 use Prim.Native.Nat.{ℕ, suc, _+_, _-_, _*_, _≤_, _<_}
 use native.Mathlib.Nat.{eq-or-lt-of-le}
 use native.Mathlib.Omega.{arith}
 use mathlib.Core.Path.{_≡_, refl, sym, ap, subst, _∙_}
 use mathlib.Core.Bool.{Bool, true, cond}
-use mathlib.Core.Logic.{_⊎_, inl, inr, ⊎-elim}
+use mathlib.Core.Logic.{inl, inr, ⊎-elim}
 use mathlib.Core.List.{List}
 use borrow.Author.Tests.{eqb-true, eqb-false, eq-eqb, ne-eqb}
 use lib.Dec.{eqb}
 use lib.ListN.{length, getD, set, length-set}
-use lib.Seq.{getD-set-same}
+use lib.Seq.{getD-set-same, set-getD}
 use Rattle.method.proofs.Pairs.{by-test, by-cond}
-use Rattle.classes.specs.Labels.{both, lowestOf, First, Mate, Chain, Walkable, Walked, SomeWalkable, linked}
+use Rattle.classes.specs.Labels.{both, lowestOf, First, Mate, Chain, Going, Ended, Walking, Walkable, Walked, SomeWalkable, linked, stepped, steppedTo}
 use Rattle.classes.proofs.Refined.{both-found, same-label, same-value, lowest-both, lowest-le, lowest-lowest, lowest-own, one-lowest}
-use Rattle.classes.proofs.Cells.{cell-within}
+use Rattle.matrix.specs.Matrix.{cell, maxRows}
+use Rattle.matrix.proofs.Cells.{cell-within}
 use Rattle.classes.proofs.Chaining.{by-order, chain-more, chain-link}
 
-pub walk-cell : {work : List ℕ} {width entry : ℕ} {next : List ℕ} {label c : ℕ} → SomeWalkable work width entry next label c → {r : ℕ} → r ≤ c
+pub walk-cell : {work : List ℕ} {width entry : ℕ} {next : List ℕ} {from c : ℕ} → SomeWalkable work width entry next from c → {r : ℕ} → r ≤ c
     → r * width + entry < length work
 walk-cell {c = c} s {r} h = let l : r < suc c = omega arith in cell-within {rows = suc c} l (s .inside) (s .filled)
 
@@ -45,53 +49,69 @@ module _ (next : List ℕ) (r c : ℕ) where
       let p : next ≡ linked next r c = sym (ap (λ (t : Bool). cond t (set next r c) next) (ne-eqb (getD next r 0) 0 d)) in
       (p, ap (λ (l : List ℕ). getD l r 0) p)
 
+pub picks-first : {a b x : ℕ} (y : ℕ) → a ≡ b → x ≡ cond (eqb a b) x y
+picks-first {a} {b} y e = rw (eq-eqb a b e)
+
+pub picks-second : {a b y : ℕ} (x : ℕ) → (a ≡ b → ⊥) → y ≡ cond (eqb a b) x y
+picks-second {a} {b} x d = rw (ne-eqb a b d)
+
+module _ (next : List ℕ) (r c a b : ℕ) (h : r < length next) {behind : ℕ} (e : behind ≡ cond (eqb (getD next r 0) 0) c (getD next r 0)) where
+  -- what stands after row r then
+  behind-linked : (set next r behind ≡ linked next r c) × (behind ≡ getD (linked next r c) r 0)
+  behind-linked =
+      by-test (eqb (getD next r 0) 0)
+      (λ t.
+      let p : behind ≡ c = e ∙ ap (λ (u : Bool). cond u c (getD next r 0)) t in
+      let q = link-put next r c h (eqb-true (getD next r 0) 0 t) in
+      (ap (set next r) p ∙ q .0, p ∙ q .1))
+      (λ f.
+      let p : behind ≡ getD next r 0 = e ∙ ap (λ (u : Bool). cond u c (getD next r 0)) f in
+      let q = link-found next r c (eqb-false (getD next r 0) 0 f) in
+      (ap (set next r) p ∙ set-getD next r 0 ∙ q .0, p ∙ q .1))
+
+  pub first-stepped : {v n : ℕ} → v ≡ cond (eqb a b) (getD next r 0) behind → n ≡ cond (eqb a b) r behind
+      → (set next r v ≡ stepped a b next r c) × (n ≡ steppedTo a b next r c)
+  first-stepped {v} {n} p q =
+      by-test (eqb a b)
+      (λ t. (
+        ap (set next r) (p ∙ ap (λ (u : Bool). cond u (getD next r 0) behind) t) ∙ set-getD next r 0 ∙ sym (ap (λ (u : Bool). cond u next (linked next r c)) t),
+        q ∙ ap (λ (u : Bool). cond u r behind) t ∙ sym (ap (λ (u : Bool). cond u r (getD (linked next r c) r 0)) t),
+      ))
+      (λ f. (
+        ap (set next r) (p ∙ ap (λ (u : Bool). cond u (getD next r 0) behind) f) ∙ behind-linked .0 ∙ sym (ap (λ (u : Bool). cond u next (linked next r c)) f),
+        q ∙ ap (λ (u : Bool). cond u r behind) f ∙ behind-linked .1 ∙ sym (ap (λ (u : Bool). cond u r (getD (linked next r c) r 0)) f),
+      ))
+
 module _ (rows : ℕ) (L : List ℕ) (value : ℕ → ℕ) (c : ℕ) where
-  -- row r is a first one of the class of row c, and those before it have other values
-  pub record Going (next : List ℕ) (r : ℕ) : Type 0 where
-    pub chain : Chain rows L value c next
-    pub before : (r < c) ⊎ ((r ≡ c) × (getD L c 0 ≡ c))
-    pub first : First L value r
-    pub class : getD L r 0 ≡ getD L c 0
-    pub passed : (k : ℕ) → k < r → Mate L value c k → value k ≡ value c → ⊥
-
-  -- row c is linked
-  pub record Ended (next : List ℕ) (r : ℕ) : Type 0 where
-    pub at : r ≡ c
-    pub first : First L value c
-    pub chain : Chain rows L value (suc c) next
-
-  abbrev pub Walking : List ℕ → ℕ → Type 0
-  Walking next r = Going next r ⊎ Ended next r
-
-  pub walking-start : {next : List ℕ} {label : ℕ} → Walkable rows L value next label c → Walking next label
-  walking-start {next} w =
-      let low : getD L c 0 ≤ c = w .chain .low c (w .inside) in
-      let inside : getD L c 0 < rows = omega (arith, w .inside) in
-      inl (subst (Going next) (w .at)
+  pub walking-start : {next : List ℕ} {label : ℕ} → Chain rows L value c next → c < rows → label ≡ getD L c 0 → Walking rows L value c next label
+  walking-start {next} chain inside e =
+      let low : getD L c 0 ≤ c = chain .low c inside in
+      let label-inside : getD L c 0 < rows = omega arith in
+      inl (subst (Going rows L value c next) (sym e)
       (record {
-        chain = w .chain;
+        chain = chain;
         before = ⊎-elim (λ (e : getD L c 0 ≡ c). inr (e, e)) (λ (l : getD L c 0 < c). inl l) (eq-or-lt-of-le low);
-        first = lowest-own rows L value (w .chain .low) (getD L c 0) inside (w .chain .own c (w .inside));
-        class = w .chain .own c (w .inside);
+        first = lowest-own rows L value (chain .low) (getD L c 0) label-inside (chain .own c inside);
+        class = chain .own c inside;
         passed = λ k l m e.
-            let d : getD L k 0 ≤ k = w .chain .low k (omega arith) in
+            let d : getD L k 0 ≤ k = chain .low k (omega arith) in
             omega (arith, m .0);
       }))
 
-  pub walking-le : {next : List ℕ} {r : ℕ} → Walking next r → r ≤ c
+  pub walking-le : {next : List ℕ} {r : ℕ} → Walking rows L value c next r → r ≤ c
   walking-le w = ⊎-elim (λ g. ⊎-elim (λ l. omega (arith, l)) (λ e. omega (arith, e .0)) (g .before)) (λ n. omega (arith, n .at)) w
 
-  pub walking-lt : {next : List ℕ} {r : ℕ} → Walking next r → (value r ≡ value c → ⊥) → r < c
+  pub walking-lt : {next : List ℕ} {r : ℕ} → Walking rows L value c next r → (value r ≡ value c → ⊥) → r < c
   walking-lt w d =
       ⊎-elim (λ g. ⊎-elim (λ l. l) (λ e. absurd (d (ap value (e .0)))) (g .before)) (λ n. absurd (d (ap value (n .at)))) w
 
-  pub walking-place : {next : List ℕ} {r : ℕ} → c < rows → Walking next r → r < length next
+  pub walking-place : {next : List ℕ} {r : ℕ} → c < rows → Walking rows L value c next r → r < length next
   walking-place h w =
       ⊎-elim (λ g. omega (arith, h, walking-le (inl g), g .chain .sized)) (λ n. omega (arith, h, n .at, n .chain .sized)) w
 
   module _ {next : List ℕ} {r : ℕ} (inside : c < rows) (other : value r ≡ value c → ⊥) where
     -- with no row of the class left, row c is the first with its value
-    new-first : Going next r → ((k : ℕ) → r < k → k < c → Mate L value r k → ⊥) → First L value c
+    new-first : Going rows L value c next r → ((k : ℕ) → r < k → k < c → Mate L value r k → ⊥) → First L value c
     new-first g none =
         let low = g .chain .low in
         let h : ℕ = lowestOf L value c in
@@ -105,7 +125,7 @@ module _ (rows : ℕ) (L : List ℕ) (value : ℕ → ℕ) (c : ℕ) where
         (λ (a : r < h). none h a l (mate .0 ∙ sym (g .class), mate .1))))
         (eq-or-lt-of-le (lowest-le rows L value low c inside))
 
-    go-end : Going next r → r < c → getD next r 0 ≡ 0 → Ended (set next r c) (getD (set next r c) r 0)
+    go-end : Going rows L value c next r → r < c → getD next r 0 ≡ 0 → Ended rows L value c (set next r c) (getD (set next r c) r 0)
     go-end g l z =
         let s : r < length next = omega (arith, g .chain .sized) in
         let none : (k : ℕ) → r < k → k < c → Mate L value r k → ⊥ =
@@ -117,7 +137,7 @@ module _ (rows : ℕ) (L : List ℕ) (value : ℕ → ℕ) (c : ℕ) where
           chain = chain-link rows L value (g .chain) inside r l (g .first) (g .class) z new;
         }
 
-    go-on : Going next r → r < c → (getD next r 0 ≡ 0 → ⊥) → Going next (getD next r 0)
+    go-on : Going rows L value c next r → r < c → (getD next r 0 ≡ 0 → ⊥) → Going rows L value c next (getD next r 0)
     go-on g l d =
         ⊎-elim
         (λ p. absurd (d (p .0)))
@@ -135,21 +155,21 @@ module _ (rows : ℕ) (L : List ℕ) (value : ℕ → ℕ) (c : ℕ) where
         })
         (g .chain .links r l (g .first))
 
-    walking-next : Walking next r → Walking (linked next r c) (getD (linked next r c) r 0)
+    walking-next : Walking rows L value c next r → Walking rows L value c (linked next r c) (getD (linked next r c) r 0)
     walking-next w =
         let l : r < c = walking-lt w other in
         ⊎-elim
         (λ g. by-test (eqb (getD next r 0) 0)
         (λ t.
-        subst (λ (n : List ℕ). Walking n (getD n r 0)) (sym (ap (λ (u : Bool). cond u (set next r c) next) t))
+        subst (λ (n : List ℕ). Walking rows L value c n (getD n r 0)) (sym (ap (λ (u : Bool). cond u (set next r c) next) t))
         (inr (go-end g l (eqb-true (getD next r 0) 0 t))))
         (λ f.
-        subst (λ (n : List ℕ). Walking n (getD n r 0)) (sym (ap (λ (u : Bool). cond u (set next r c) next) f))
+        subst (λ (n : List ℕ). Walking rows L value c n (getD n r 0)) (sym (ap (λ (u : Bool). cond u (set next r c) next) f))
         (inl (go-on g l (eqb-false (getD next r 0) 0 f)))))
         (λ n. absurd (other (ap value (n .at))))
         w
 
-    up : Walking next r → r < getD (linked next r c) r 0
+    up : Walking rows L value c next r → r < getD (linked next r c) r 0
     up w =
         let l : r < c = walking-lt w other in
         ⊎-elim
@@ -163,20 +183,20 @@ module _ (rows : ℕ) (L : List ℕ) (value : ℕ → ℕ) (c : ℕ) where
         (λ n. absurd (other (ap value (n .at))))
         w
 
-    pub walking-step : {after : List ℕ} {n : ℕ} → after ≡ linked next r c → n ≡ getD (linked next r c) r 0 → Walking next r → Walking after n
+    pub walking-step : {after : List ℕ} {n : ℕ} → after ≡ linked next r c → n ≡ getD (linked next r c) r 0 → Walking rows L value c next r → Walking rows L value c after n
     walking-step {after} {n} e f w =
-        subst (λ (l : List ℕ). Walking l n) (sym e) (subst (λ (k : ℕ). Walking (linked next r c) k) (sym f) (walking-next w))
+        subst (λ (l : List ℕ). Walking rows L value c l n) (sym e) (subst (λ (k : ℕ). Walking rows L value c (linked next r c) k) (sym f) (walking-next w))
 
-    pub walking-falls : Walking next r → {n : ℕ} → n ≡ getD (linked next r c) r 0 → c - n < c - r
+    pub walking-falls : Walking rows L value c next r → {n : ℕ} → n ≡ getD (linked next r c) r 0 → c - n < c - r
     walking-falls w e = omega (arith, up w, walking-le (walking-next w))
 
   module _ {next : List ℕ} {r : ℕ} (inside : c < rows) (same : value r ≡ value c) where
-    found-going : Going next r → r ≡ lowestOf L value c
+    found-going : Going rows L value c next r → r ≡ lowestOf L value c
     found-going g =
         let l : r ≤ c = walking-le (inl g) in
         sym (g .first) ∙ one-lowest rows L value (g .chain .low) r c (omega arith) inside (both-found L value r c (g .class) same)
 
-    pub walking-end : Walking next r → Walked rows L value next c r
+    pub walking-end : Walking rows L value c next r → Walked rows L value next c r
     walking-end w =
         ⊎-elim
         (λ g.
@@ -188,3 +208,52 @@ module _ (rows : ℕ) (L : List ℕ) (value : ℕ → ℕ) (c : ℕ) where
         })
         (λ n. record { found = n .at ∙ sym (n .first); chain = n .chain })
         w
+
+  -- one step from the label, where the values are compared before
+  pub first-walkable : {next after : List ℕ} {label from : ℕ} → Walkable rows L value next label c
+      → after ≡ stepped (value c) (value label) next label c → from ≡ steppedTo (value c) (value label) next label c
+      → Walkable rows L value after from c
+  first-walkable {next} {after} {label} {from} w e f =
+      record {
+        walking =
+            by-test (eqb (value c) (value label))
+            (λ t.
+            subst (λ (l : List ℕ). Walking rows L value c l from) (sym (e ∙ ap (λ (u : Bool). cond u next (linked next label c)) t))
+            (subst (Walking rows L value c next) (sym (f ∙ ap (λ (u : Bool). cond u label (getD (linked next label c) label 0)) t)) (w .walking)))
+            (λ n.
+            walking-step (w .inside) (λ p. eqb-false (value c) (value label) n (sym p))
+            (e ∙ ap (λ (u : Bool). cond u next (linked next label c)) n)
+            (f ∙ ap (λ (u : Bool). cond u label (getD (linked next label c) label 0)) n)
+            (w .walking));
+        inside = w .inside;
+        few = w .few;
+      }
+
+-- by the numbers at an entry
+module _ {work : List ℕ} {width entry : ℕ} {next : List ℕ} {label c : ℕ} (s : SomeWalkable work width entry next label c) where
+  abbrev number : ℕ → ℕ
+  number k = cell work width k entry
+
+  low : label ≤ c
+  low = walking-le (s .rows) (s .labels) number c (s .walkable .walking)
+
+  pub first-cell : label * width + entry < length work
+  first-cell = walk-cell s low
+
+  pub first-places : (label < length next) × (label < maxRows) × (c < maxRows)
+  first-places = (
+    walking-place (s .rows) (s .labels) number c (s .walkable .inside) (s .walkable .walking),
+    omega (arith, low, s .walkable .inside, s .walkable .few),
+    omega (arith, s .walkable .inside, s .walkable .few),
+  )
+
+  pub first-some : {after : List ℕ} {from : ℕ} → after ≡ stepped (number c) (number label) next label c
+      → from ≡ steppedTo (number c) (number label) next label c → SomeWalkable work width entry after from c
+  first-some e f =
+      record {
+        rows = s .rows;
+        labels = s .labels;
+        walkable = first-walkable (s .rows) (s .labels) number c (s .walkable) e f;
+        filled = s .filled;
+        inside = s .inside;
+      }

@@ -8,39 +8,45 @@
 --   stray          a row's mark is not its label's
 --   otherMark      a row's mark is not that of the first of some rows
 --   alikeMarked    two rows of one class whose marks differ
+--   pairsFit       there is a mark and a label for each row
 --   split          the class of a label holds two marks
 --   Classed        labels by what a relation says of rows whose marks differ
 --   Mixed          every class of more rows than one holds two marks
---   someOf, filtered   a test holds of one of some rows; those of which it holds
+--   someOf         a test holds of one of some rows
 --   Covers         rows among which are all that are not their own labels
 --   OpenFit        what reading the pending rows' numbers, and their labels', asks for
 --   Comparable     what comparing labels in two columns asks for
+--   repeated       a row before has a row's labels in both columns
+--   pairPlace, labelNoted   where two labels are noted, and memory where a row's label is
+--   Fresh          no place of some memory has a stamp yet
+--   Notable        what noting a row's labels asks for
 --   First, Mate    a row is the first of its class with its value; two rows of one class, the second such a one
 --   Chain          the rows of each class that are the first with their values are linked in order
+--   Walking        where seeking along a chain stands: nothing before has the value sought, or row c was put at the chain's end
 --   Walkable, Walked   what seeking along a chain asks for, and does
+--   linked, stepped, steppedTo   a row put after another, and the first step of seeking
 --   parted, Flagged    which classes hold two marks, seen from some rows
 --   settledOf, settledBy   the label that a row has when the other classes are dissolved, by a test and by numbers
---   keptBy         the label that a row has when it keeps its own only where that has its value
---   relabelled     a row's new label, by a rule
---   keptLabel      a row keeps its label
---   OpenSettle, Flags, Settles   what relabelling the pending rows asks for, and does
---   Rise, Relists  marks that rise from row to row, and what relisting the pending rows does by the marks
+--   OpenSettle, Flags, Labelled   what relabelling the pending rows asks for
+--   Written, moves, Settles   what it does, by a rule that gives each row its new label
+--   Rise           marks that rise from row to row
 --   Fit            there are so many rows of so many numbers, and a mark for each
 --   Settled        the pending rows are listed, and all classes that are left hold two marks
 --   Ready, Refined, Parts   what parting classes by an entry asks for, what refining does, and what parting does
 --   Started        the classes by no entry
+--   startFits, Starts   the sizes that starting asks for, and what it does whether or not they are there
 use Prim.Native.Nat.{ℕ, zero, suc, _+_, _-_, _*_, _≤_, _<_}
 use mathlib.Core.Path.{_≡_}
 use mathlib.Core.Bool.{Bool, true, false, not, cond, _&&_, _||_}
 use mathlib.Core.Logic.{_⊎_}
-use mathlib.Core.List.{List, [], _∷_, _++_}
-use lib.Dec.{eqb}
+use mathlib.Core.List.{List, [], _∷_}
+use lib.Dec.{eqb, leb, ltb}
 use lib.ListN.{length, take, getD, set}
 use Rattle.bits.specs.Packed.{tabulate}
-use Rattle.bits.specs.Passing.{passing}
+use Rattle.bits.specs.Passing.{passing, filtered}
 use Rattle.method.specs.Method.{someBelow, Pair}
 use Rattle.method.specs.Method.Pair.{nobody, pair}
-use Rattle.classes.specs.Matrix.{cell, apart, maxRows}
+use Rattle.matrix.specs.Matrix.{cell, apart, maxRows}
 use Rattle.classes.specs.declared.Two.{Two}
 use Rattle.classes.specs.declared.Two.the-variants.{Nobody, Both}
 
@@ -97,6 +103,10 @@ abbrev pub pairTold : Two → Pair
 pairTold Nobody = nobody
 pairTold (Both a b) = pair a b
 
+-- there is a mark and a label for each row
+abbrev pub pairsFit : ℕ → ℕ → ℕ → Bool
+pairsFit rows marks labels = leb rows marks && leb rows labels
+
 unfoldable pub split : ℕ → List ℕ → List ℕ → ℕ → Bool
 split rows labels marks label = someBelow rows (λ c. eqb (getD labels c 0) label && stray labels marks c)
 
@@ -115,10 +125,6 @@ Mixed rows marks labels = (c : ℕ) → c < rows → (getD labels c 0 ≡ c → 
 unfoldable pub someOf : (ℕ → Bool) → List ℕ → Bool
 someOf test [] = false
 someOf test (c ∷ more) = test c || someOf test more
-
-unfoldable pub filtered : (ℕ → Bool) → List ℕ → List ℕ
-filtered test [] = []
-filtered test (c ∷ more) = cond (test c) (c ∷ []) [] ++ filtered test more
 
 -- rows in order, among which are all that are not their own labels
 pub record Covers (rows : ℕ) (labels pending : List ℕ) : Type 0 where
@@ -141,9 +147,38 @@ pub record Comparable (rows : ℕ) (marks labels pending others : List ℕ) : Ty
   pub low : Low rows labels
   pub others-low : Low rows others
   pub listed : (i : ℕ) → i < length pending → getD pending i 0 < rows
+  pub most : rows ≤ maxRows
+  pub own : Own rows labels
+  pub covers : Covers rows labels pending
 
 abbrev pub SomeComparable : List ℕ → List ℕ → List ℕ → List ℕ → Type 0
 SomeComparable marks labels pending others = (rows : ℕ) × Comparable rows marks labels pending others
+
+-- a row before has a row's labels in both columns
+abbrev pub repeated : List ℕ → List ℕ → ℕ → Bool
+repeated labels others c = not (eqb (lowestOf labels (valueIn others) c) c)
+
+-- a place for every two labels
+abbrev pub pairPlace : ℕ → ℕ → ℕ
+pairPlace label other = label * maxRows + other
+
+-- a stamp at the place of a row's label r, unless that is the row itself
+abbrev pub labelNoted : List ℕ → ℕ → ℕ → ℕ → List ℕ → List ℕ
+labelNoted others stamp r c seen = cond (ltb r c) (set seen (pairPlace r (getD others r 0)) stamp) seen
+
+-- no place has the stamp yet, nor a later one
+abbrev pub Fresh : ℕ → List ℕ → Type 0
+Fresh stamp seen = (k : ℕ) → k < length seen → getD seen k 0 < stamp
+
+-- the labels of row c and of its label can be read, and have places
+pub record Notable (labels others seen : List ℕ) (c : ℕ) : Type 0 where
+  pub labelled : c < length labels
+  pub other : c < length others
+  pub inside : c < maxRows
+  pub low : getD labels c 0 ≤ c
+  pub others-inside : getD others c 0 < maxRows
+  pub label-inside : getD others (getD labels c 0) 0 < maxRows
+  pub sized : length seen ≡ maxRows * maxRows
 
 -- ---- refining
 
@@ -171,12 +206,27 @@ pub record Chain (rows : ℕ) (labels : List ℕ) (value : ℕ → ℕ) (bound :
   pub links : (r : ℕ) → r < bound → First labels value r → LinkOf labels value bound r (getD next r 0)
   pub free : (k : ℕ) → bound ≤ k → k < rows → getD next k 0 ≡ 0
 
--- a chain of the rows below row c, whose label is that of the first row to look at
-pub record Walkable (rows : ℕ) (labels : List ℕ) (value : ℕ → ℕ) (next : List ℕ) (label c : ℕ) : Type 0 where
+-- of a chain of the rows below row c: row r is a first one of the class of row c, and those before it have other values
+pub record Going (rows : ℕ) (labels : List ℕ) (value : ℕ → ℕ) (c : ℕ) (next : List ℕ) (r : ℕ) : Type 0 where
   pub chain : Chain rows labels value c next
+  pub before : (r < c) ⊎ ((r ≡ c) × (getD labels c 0 ≡ c))
+  pub first : First labels value r
+  pub class : getD labels r 0 ≡ getD labels c 0
+  pub passed : (k : ℕ) → k < r → Mate labels value c k → value k ≡ value c → ⊥
+
+-- row c is linked
+pub record Ended (rows : ℕ) (labels : List ℕ) (value : ℕ → ℕ) (c : ℕ) (next : List ℕ) (r : ℕ) : Type 0 where
+  pub at : r ≡ c
+  pub first : First labels value c
+  pub chain : Chain rows labels value (suc c) next
+
+abbrev pub Walking : ℕ → List ℕ → (ℕ → ℕ) → ℕ → List ℕ → ℕ → Type 0
+Walking rows labels value c next r = Going rows labels value c next r ⊎ Ended rows labels value c next r
+
+pub record Walkable (rows : ℕ) (labels : List ℕ) (value : ℕ → ℕ) (next : List ℕ) (from c : ℕ) : Type 0 where
+  pub walking : Walking rows labels value c next from
   pub inside : c < rows
   pub few : rows ≤ maxRows
-  pub at : getD labels c 0 ≡ label
 
 -- the row found is row c's new label, and the chain has row c too
 pub record Walked (rows : ℕ) (labels : List ℕ) (value : ℕ → ℕ) (next : List ℕ) (c r : ℕ) : Type 0 where
@@ -184,20 +234,27 @@ pub record Walked (rows : ℕ) (labels : List ℕ) (value : ℕ → ℕ) (next :
   pub chain : Chain rows labels value (suc c) next
 
 -- there are such rows and labels, and their numbers can be read
-pub record SomeWalkable (work : List ℕ) (width entry : ℕ) (next : List ℕ) (label c : ℕ) : Type 0 where
+pub record SomeWalkable (work : List ℕ) (width entry : ℕ) (next : List ℕ) (from c : ℕ) : Type 0 where
   pub rows : ℕ
   pub labels : List ℕ
-  pub walkable : Walkable rows labels (λ k. cell work width k entry) next label c
+  pub walkable : Walkable rows labels (λ k. cell work width k entry) next from c
   pub filled : suc c * width ≤ length work
   pub inside : entry < width
 
 abbrev pub Walks : (ℕ → ℕ) → List ℕ → ℕ → ℕ → List ℕ → ℕ → Type 0
-Walks value next label c after r =
-    (rows : ℕ) (labels : List ℕ) → Walkable rows labels value next label c → Walked rows labels value after c r
+Walks value next from c after r =
+    (rows : ℕ) (labels : List ℕ) → Walkable rows labels value next from c → Walked rows labels value after c r
 
 -- row c is put after row r where nothing follows it
 abbrev pub linked : List ℕ → ℕ → ℕ → List ℕ
 linked next r c = cond (eqb (getD next r 0) 0) (set next r c) next
+
+-- the links after a step from row r, where the values a and b of row c and row r are compared, and the row that it leads to
+abbrev pub stepped : ℕ → ℕ → List ℕ → ℕ → ℕ → List ℕ
+stepped a b next r c = cond (eqb a b) next (linked next r c)
+
+abbrev pub steppedTo : ℕ → ℕ → List ℕ → ℕ → ℕ → ℕ
+steppedTo a b next r c = cond (eqb a b) r (getD (linked next r c) r 0)
 
 -- ---- dissolving
 
@@ -208,24 +265,13 @@ parted label marks pending l = someOf (λ c. eqb (label c) l && strayBy label ma
 abbrev pub Flagged : (ℕ → ℕ) → List ℕ → List ℕ → List ℕ → Type 0
 Flagged label marks pending mixed = (l : ℕ) → l < maxRows → getD mixed l 0 ≡ cond (parted label marks pending l) 1 0
 
--- a row's new label by its label: a row of a class that holds two marks keeps it, any other is its own
-abbrev pub settledOf : (ℕ → Bool) → ℕ → ℕ → ℕ
-settledOf holds label c = cond (holds label) label c
+-- a row's new label: a row of a class that holds two marks keeps its label, any other is its own
+abbrev pub settledOf : (ℕ → Bool) → List ℕ → ℕ → ℕ
+settledOf holds labels c = cond (holds (getD labels c 0)) (getD labels c 0) c
 
 -- the same, by numbers
-abbrev pub settledBy : List ℕ → ℕ → ℕ → ℕ
-settledBy mixed label c = c - getD mixed label 0 * (c - label)
-
--- a row that has its label's value keeps its label, any other is its own
-abbrev pub keptBy : (ℕ → ℕ) → ℕ → ℕ → ℕ
-keptBy value label c = cond (eqb (value c) (value label)) label c
-
--- a row keeps its label
-abbrev pub keptLabel : ℕ → ℕ → ℕ
-keptLabel label c = label
-
-abbrev pub relabelled : (ℕ → ℕ → ℕ) → List ℕ → ℕ → ℕ
-relabelled rule labels c = rule (getD labels c 0) c
+abbrev pub settledBy : List ℕ → List ℕ → ℕ → ℕ
+settledBy mixed labels c = c - getD mixed (getD labels c 0) 0 * (c - getD labels c 0)
 
 pub record OpenSettle (labels pending : List ℕ) : Type 0 where
   pub few : length pending ≤ maxRows
@@ -239,21 +285,35 @@ pub record Flags (mixed : List ℕ) : Type 0 where
   pub known : length mixed ≡ maxRows
   pub flags : (l : ℕ) → l < maxRows → getD mixed l 0 ≤ 1
 
--- the pending rows have their new labels, and those that are not their own are listed
-pub record Settles (rule : ℕ → ℕ → ℕ) (old list labels pending : List ℕ) (count : ℕ) : Type 0 where
-  pub few : count ≤ maxRows
-  pub listed : take count pending ≡ filtered (λ c. not (eqb (relabelled rule old c) c)) list
-  pub done : (i : ℕ) → i < length list → getD labels (getD list i 0) 0 ≡ relabelled rule old (getD list i 0)
+-- so many rows of so many numbers with their labels, and the pending ones
+pub record Labelled (work : List ℕ) (width rows : ℕ) (labels pending : List ℕ) : Type 0 where
+  pub most : rows ≤ maxRows
+  pub filled : rows * width ≤ length work
+  pub low : Low rows labels
+  pub own : Own rows labels
+  pub covers : Covers rows labels pending
+
+abbrev pub SomeLabelled : List ℕ → ℕ → List ℕ → List ℕ → Type 0
+SomeLabelled work width labels pending = (rows : ℕ) × Labelled work width rows labels pending
+
+-- the rows of a list have their new labels, by a rule, and all others their old ones
+pub record Written (rule : ℕ → ℕ) (old list labels : List ℕ) : Type 0 where
+  pub done : (i : ℕ) → i < length list → getD labels (getD list i 0) 0 ≡ rule (getD list i 0)
   pub kept : (c : ℕ) → ((i : ℕ) → i < length list → getD list i 0 ≡ c → ⊥) → getD labels c 0 ≡ getD old c 0
+
+-- a row is not its own new label
+abbrev pub moves : (ℕ → ℕ) → ℕ → Bool
+moves rule c = not (eqb (rule c) c)
+
+-- the pending rows have their new labels, and those that are not their own are listed
+pub record Settles (rule : ℕ → ℕ) (old list labels pending : List ℕ) (count : ℕ) : Type 0 where
+  pub few : count ≤ maxRows
+  pub listed : take count pending ≡ filtered (moves rule) list
+  pub written : Written rule old list labels
 
 -- marks that rise from row to row: every two rows have different marks
 abbrev pub Rise : List ℕ → Type 0
 Rise marks = (a b : ℕ) → a < b → b < length marks → getD marks a 0 < getD marks b 0
-
--- the classes of one mark are dissolved; where the marks rise there are none
-abbrev pub Relists : List ℕ → List ℕ → List ℕ → List ℕ → List ℕ → List ℕ → ℕ → Type 0
-Relists marks mixed old list labels pending count =
-    (Rise marks × (labels ≡ old) × Settles keptLabel old list old pending count) ⊎ Settles (settledBy mixed) old list labels pending count
 
 -- ---- parting
 
@@ -301,3 +361,13 @@ Parts work width marks entry old list labels pending count =
 pub record Started (rows : ℕ) (marks labels pending : List ℕ) (count : ℕ) : Type 0 where
   pub classed : Classed rows marks (λ a b. true) labels
   pub settled : Settled rows marks labels pending count
+
+-- there are rows, no more than a job has circuits, with a mark for each, and places for so many labels and pending rows
+abbrev pub startFits : ℕ → ℕ → ℕ → ℕ → Bool
+startFits rows marks labels pending =
+    leb 1 rows && (leb rows maxRows && (leb rows marks && (eqb labels maxRows && eqb pending maxRows)))
+
+-- the classes by no entry where the sizes fit; else everything is left as it was
+pub record Starts (rows : ℕ) (marks old list labels pending : List ℕ) (count : ℕ) : Type 0 where
+  pub started : startFits rows (length marks) (length old) (length list) ≡ true → Started rows marks labels pending count
+  pub unfit : startFits rows (length marks) (length old) (length list) ≡ false → (labels ≡ old) × (pending ≡ list) × (count ≡ 0)

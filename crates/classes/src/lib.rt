@@ -1,19 +1,18 @@
 // Classes of rows that no entry so far tells apart (document 01, "Choosing"). A row's label is the lowest row of its class; a row is pending if it is not its own
 // label.
-ghost use Prim.Native.Nat.{ℕ, _+_, _-_, _≤_, _<_};
+ghost use Prim.Native.Nat.{ℕ, _+_, _-_, _*_, _≤_, _<_};
 ghost use mathlib.Core.Path.{_≡_};
 ghost use mathlib.Core.Bool.{not, cond};
 ghost use lib.Dec.{ltb};
 ghost use lib.ListN.{length};
 ghost use Rattle.method.specs.Method.{firstPair, pairWith, Pair};
-ghost use Rattle.method.specs.Method.Pair.{pair};
-ghost use Rattle.classes.specs.Labels.{both, valueIn, strayBy, someOf, lowestFrom, lowestOf, alikeMarked, pairTold, SomeComparable};
+ghost use Rattle.method.specs.Method.Pair.{nobody, pair};
+ghost use Rattle.classes.specs.Labels.{both, valueIn, strayBy, someOf, lowestFrom, lowestOf, alikeMarked, pairTold, pairsFit, SomeComparable, Fresh};
+ghost use Rattle.matrix.specs.Matrix.{maxRows};
 
 mod refining;
 pub mod settling;
-
-// As many rows as a job has circuits.
-pub const MAX_ROWS: usize = 64;
+mod telling;
 
 // Two rows of one class whose marks differ, or no such rows.
 pub enum Two {
@@ -46,9 +45,9 @@ fn larger(a: usize, b: usize) -> usize
     if a < b { b } else { a }
 }
 
-// Whether the entries of these and of the other classes together tell all needed pairs apart: every pending row has the mark of the lowest row that has its
-// labels in both columns, and no row before its labels has them. A row that is its own label in the one column is the lowest that has both.
-pub fn told_together(marks: &[u8], labels: &[u16], pending: &[u16], others: &[u16]) -> bool
+// Whether every pending row has the mark of the lowest row that has its labels in both columns. No row before its labels has them: a row that is its own label in
+// the one column is the lowest that has both.
+fn told_by_marks(marks: &[u8], labels: &[u16], pending: &[u16], others: &[u16]) -> bool
     requires { ⌜ SomeComparable (now marks) (now labels) (now pending) (now others) ⌝ }
     ensures { λ r. ⌜ r ≡ not (someOf (strayBy (lowestOf (now (labels .entry)) (valueIn (now (others .entry)))) (now (marks .entry))) (now (pending .entry))) ⌝ }
 {
@@ -62,6 +61,25 @@ pub fn told_together(marks: &[u8], labels: &[u16], pending: &[u16], others: &[u1
         i += 1;
     }
     true
+}
+
+// Whether the entries of these and of the other classes together tell all needed pairs apart. The lent memory is used with a greater stamp each time, which stands
+// for clearing it.
+pub fn told_together(
+    marks: &[u8],
+    labels: &[u16],
+    pending: &[u16],
+    others: &[u16],
+    seen: &mut [u8],
+    stamp: u8,
+) -> bool
+    requires { ⌜ SomeComparable (now marks) (now labels) (now pending) (now others) × (length (now seen) ≡ maxRows * maxRows) × Fresh stamp (now seen) ⌝ }
+    ensures { λ r. ⌜ (r ≡ not (someOf (strayBy (lowestOf (now (labels .entry)) (valueIn (now (others .entry)))) (now (marks .entry))) (now (pending .entry)))) × Fresh (stamp + 1) (now (seen .exit)) ⌝ }
+{
+    if crate::settling::marks_rise(marks) {
+        return crate::telling::told_apart(labels, pending, others, seen, stamp);
+    }
+    told_by_marks(marks, labels, pending, others)
 }
 
 // The lowest row after row a that has its label and not its mark, or `rows`.
@@ -81,8 +99,8 @@ fn partner(rows: usize, marks: &[u8], labels: &[u16], a: usize) -> usize
     rows
 }
 
-// The first two rows of one class whose marks differ, by the lower, then by the higher.
-pub fn search_pairs(rows: usize, marks: &[u8], labels: &[u16]) -> Two
+// The first two rows of one class whose marks differ, by the lower, then by the higher, where every row has a mark and a label.
+fn first_two(rows: usize, marks: &[u8], labels: &[u16]) -> Two
     requires { ⌜ (rows ≤ length (now marks)) × (rows ≤ length (now labels)) ⌝ }
     ensures { λ r. ⌜ pairTold r ≡ firstPair rows (alikeMarked (now (labels .entry)) (now (marks .entry))) ⌝ }
 {
@@ -95,4 +113,17 @@ pub fn search_pairs(rows: usize, marks: &[u8], labels: &[u16]) -> Two
         a += 1;
     }
     Two::Nobody
+}
+
+// The first two rows of one class whose marks differ. Nobody where there are fewer marks or labels than rows.
+pub fn search_pairs(rows: usize, marks: &[u8], labels: &[u16]) -> Two
+    ensures { λ r. ⌜ pairTold r ≡ cond (pairsFit rows (length (now (marks .entry))) (length (now (labels .entry)))) (firstPair rows (alikeMarked (now (labels .entry)) (now (marks .entry)))) nobody ⌝ }
+{
+    if marks.len() < rows {
+        return Two::Nobody;
+    }
+    if labels.len() < rows {
+        return Two::Nobody;
+    }
+    first_two(rows, marks, labels)
 }

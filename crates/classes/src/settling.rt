@@ -1,12 +1,12 @@
-// Settling: classes whose rows have one mark are dissolved, and the pending rows are listed.
+// Parting classes by an entry: each pending row gets its new label, classes whose rows have one mark are dissolved, and the pending rows are listed.
 ghost use Prim.Native.Nat.{ℕ, _≤_, _<_};
 ghost use mathlib.Core.Path.{_≡_};
 ghost use mathlib.Core.Bool.{true, not, cond};
 ghost use lib.Dec.{eqb, ltb};
 ghost use lib.ListN.{length, take, getD};
-ghost use Rattle.classes.specs.Matrix.{cell, maxRows};
-ghost use Rattle.classes.specs.Labels.{Holds, someOf, otherMark, OpenFit, OpenSettle, Flags, settledBy, keptBy, Settles, Started, SomeReady, Parts, keptLabel, Rise, Relists};
-use crate::MAX_ROWS;
+ghost use Rattle.matrix.specs.Matrix.{cell, maxRows};
+ghost use Rattle.classes.specs.Labels.{Holds, lowestOf, someOf, otherMark, OpenSettle, Flags, SomeLabelled, settledBy, Settles, Started, startFits, Starts, SomeReady, Parts, Rise};
+use matrix::MAX_ROWS;
 
 // One for numbers that differ: rows are listed without a branch.
 fn differs(a: u16, b: u16) -> usize
@@ -21,7 +21,7 @@ fn differs(a: u16, b: u16) -> usize
 // A pending row of a class that holds two marks keeps its label, any other becomes its own; those that kept theirs are listed anew. Gives their number.
 fn settle(labels: &mut [u16], pending: &mut [u16], count: usize, mixed: &[u16]) -> usize
     requires { ⌜ (count ≤ length (now pending)) × OpenSettle (now labels) (take count (now pending)) × Flags (now mixed) ⌝ }
-    ensures { λ r. ⌜ Settles (settledBy (now (mixed .entry))) (now (labels .entry)) (take count (now (pending .entry))) (now (labels .exit)) (now (pending .exit)) r ⌝ }
+    ensures { λ r. ⌜ Settles (settledBy (now (mixed .entry)) (now (labels .entry))) (now (labels .entry)) (take count (now (pending .entry))) (now (labels .exit)) (now (pending .exit)) r ⌝ }
 {
     let mut left = 0;
     let mut i = 0;
@@ -48,7 +48,7 @@ fn falls(before: u8, a: u8, b: u8) -> u8
 }
 
 // Whether each mark is below the next, so that every two rows have different marks. All are compared, without a branch, many at a time.
-fn marks_rise(marks: &[u8]) -> bool
+pub(crate) fn marks_rise(marks: &[u8]) -> bool
     ensures { λ r. ⌜ (r ≡ true → Rise (now (marks .entry))) ⌝ }
 {
     let mut fallen = 0;
@@ -58,40 +58,6 @@ fn marks_rise(marks: &[u8]) -> bool
         i += 1;
     }
     fallen == 0
-}
-
-// The pending rows that are not their own labels are listed anew. Gives their number.
-fn list_pending(labels: &[u16], pending: &mut [u16], count: usize) -> usize
-    requires { ⌜ (count ≤ length (now pending)) × OpenSettle (now labels) (take count (now pending)) ⌝ }
-    ensures { λ r. ⌜ Settles keptLabel (now (labels .entry)) (take count (now (pending .entry))) (now (labels .entry)) (now (pending .exit)) r ⌝ }
-{
-    let mut left = 0;
-    let mut i = 0;
-    while i < count {
-        let c = pending[i];
-        let label = labels[c as usize];
-        pending[left] = c;
-        left += differs(label, c);
-        i += 1;
-    }
-    left
-}
-
-// Where every two rows have different marks no class is dissolved: every class of two rows holds two marks.
-fn relist(
-    marks: &[u8],
-    labels: &mut [u16],
-    pending: &mut [u16],
-    count: usize,
-    mixed: &[u16],
-) -> usize
-    requires { ⌜ (count ≤ length (now pending)) × OpenSettle (now labels) (take count (now pending)) × Flags (now mixed) ⌝ }
-    ensures { λ r. ⌜ Relists (now (marks .entry)) (now (mixed .entry)) (now (labels .entry)) (take count (now (pending .entry))) (now (labels .exit)) (now (pending .exit)) r ⌝ }
-{
-    if marks_rise(marks) {
-        return list_pending(labels, pending, count);
-    }
-    settle(labels, pending, count, mixed)
 }
 
 // The classes by one entry more, whatever marks the pending rows have.
@@ -119,21 +85,46 @@ fn refine_and_settle(
         &mut next,
         &mut mixed,
     );
-    relist(marks, labels, pending, count, &mixed)
+    settle(labels, pending, count, &mixed)
 }
 
-// A row whose number is a, its label's being b, keeps its label or becomes its own: relabelled without a branch.
-fn new_label(a: u16, b: u16, label: u16, c: u16) -> u16
-    ensures { λ r. ⌜ r ≡ cond (eqb a b) label c ⌝ }
+// Each pending row gets the lowest row of its class that has its number, sought along the chains; those that are not their own labels are listed anew. Gives
+// their number.
+fn relabel_along(
+    work: &[u16],
+    width: usize,
+    labels: &mut [u16],
+    pending: &mut [u16],
+    count: usize,
+    entry: usize,
+    next: &mut [u8],
+) -> usize
+    requires { ⌜ (count ≤ length (now pending)) × OpenSettle (now labels) (take count (now pending)) × SomeLabelled (now work) width (now labels) (take count (now pending)) × (entry < width) × (length (now next) ≡ maxRows) × Holds maxRows (λ c. 0) (now next) ⌝ }
+    ensures { λ r. ⌜ Settles (lowestOf (now (labels .entry)) (λ c. cell (now (work .entry)) width c entry)) (now (labels .entry)) (take count (now (pending .entry))) (now (labels .exit)) (now (pending .exit)) r ⌝ }
 {
-    if a == b {
-        return label;
+    let mut left = 0;
+    let mut i = 0;
+    while i < count {
+        let c = pending[i];
+        let label = labels[c as usize];
+        let r = crate::refining::first_alike(
+            work,
+            width,
+            entry,
+            next,
+            label as usize,
+            c as usize,
+        ) as u16;
+        labels[c as usize] = r;
+        pending[left] = c;
+        left += differs(r, c);
+        i += 1;
     }
-    c
+    left
 }
 
-// The same where all pending rows have one mark: those that do not have their labels' numbers would make up classes of one mark.
-fn part_from_labels(
+// The classes by one entry more where every two rows have different marks: no class is dissolved, since every class of two rows holds two marks.
+fn relabel(
     work: &[u16],
     width: usize,
     labels: &mut [u16],
@@ -141,26 +132,11 @@ fn part_from_labels(
     count: usize,
     entry: usize,
 ) -> usize
-    requires { ⌜ (count ≤ length (now pending)) × OpenSettle (now labels) (take count (now pending)) × OpenFit (now work) width (now labels) (take count (now pending)) × (entry < width) ⌝ }
-    ensures { λ r. ⌜ Settles (keptBy (λ c. cell (now (work .entry)) width c entry)) (now (labels .entry)) (take count (now (pending .entry))) (now (labels .exit)) (now (pending .exit)) r ⌝ }
+    requires { ⌜ (count ≤ length (now pending)) × OpenSettle (now labels) (take count (now pending)) × SomeLabelled (now work) width (now labels) (take count (now pending)) × (entry < width) ⌝ }
+    ensures { λ r. ⌜ Settles (lowestOf (now (labels .entry)) (λ c. cell (now (work .entry)) width c entry)) (now (labels .entry)) (take count (now (pending .entry))) (now (labels .exit)) (now (pending .exit)) r ⌝ }
 {
-    let mut left = 0;
-    let mut i = 0;
-    while i < count {
-        let c = pending[i];
-        let label = labels[c as usize];
-        let own = new_label(
-            work[c as usize * width + entry],
-            work[label as usize * width + entry],
-            label,
-            c,
-        );
-        labels[c as usize] = own;
-        pending[left] = c;
-        left += differs(own, c);
-        i += 1;
-    }
-    left
+    let mut next = [0u8; MAX_ROWS];
+    relabel_along(work, width, labels, pending, count, entry, &mut next)
 }
 
 // One if a row has another mark than the first.
@@ -191,8 +167,8 @@ pub fn part(
     requires { ⌜ SomeReady (now work) width (now marks) (now labels) (take count (now pending)) × (entry < width) × (count ≤ maxRows) × (length (now labels) ≡ maxRows) × (length (now pending) ≡ maxRows) ⌝ }
     ensures { λ r. ⌜ Parts (now (work .entry)) width (now (marks .entry)) entry (now (labels .entry)) (take count (now (pending .entry))) (now (labels .exit)) (now (pending .exit)) r ⌝ }
 {
-    if two_marks(marks, &pending[..count]) == 0 {
-        return part_from_labels(work, width, labels, pending, count, entry);
+    if marks_rise(marks) {
+        return relabel(work, width, labels, pending, count, entry);
     }
     refine_and_settle(work, width, marks, labels, pending, count, entry)
 }
@@ -210,8 +186,8 @@ fn one_class(labels: &mut [u16], pending: &mut [u16])
     }
 }
 
-// The classes by no entry. Gives the number of pending rows.
-pub fn start(labels: &mut [u16], pending: &mut [u16], rows: usize, marks: &[u8]) -> usize
+// The classes by no entry, where the sizes fit. Gives the number of pending rows.
+fn start_fit(labels: &mut [u16], pending: &mut [u16], rows: usize, marks: &[u8]) -> usize
     requires { ⌜ (1 ≤ rows) × (rows ≤ maxRows) × (rows ≤ length (now marks)) × (length (now labels) ≡ maxRows) × (length (now pending) ≡ maxRows) ⌝ }
     ensures { λ r. ⌜ Started rows (now (marks .entry)) (now (labels .exit)) (now (pending .exit)) r ⌝ }
 {
@@ -219,4 +195,33 @@ pub fn start(labels: &mut [u16], pending: &mut [u16], rows: usize, marks: &[u8])
     let mut mixed = [0u16; MAX_ROWS];
     mixed[0] = two_marks(marks, &pending[..rows]);
     settle(labels, pending, rows, &mixed)
+}
+
+// Whether there are rows, no more than a job has circuits, with a mark for each, and places for so many labels and pending rows.
+fn startable(rows: usize, marks: usize, labels: usize, pending: usize) -> bool
+    ensures { λ r. ⌜ r ≡ startFits rows marks labels pending ⌝ }
+{
+    if rows < 1 {
+        return false;
+    }
+    if MAX_ROWS < rows {
+        return false;
+    }
+    if marks < rows {
+        return false;
+    }
+    if labels != MAX_ROWS {
+        return false;
+    }
+    pending == MAX_ROWS
+}
+
+// The classes by no entry. Gives the number of pending rows. Where the sizes do not fit it gives 0 and leaves labels and pending rows as they are.
+pub fn start(labels: &mut [u16], pending: &mut [u16], rows: usize, marks: &[u8]) -> usize
+    ensures { λ r. ⌜ Starts rows (now (marks .entry)) (now (labels .entry)) (now (pending .entry)) (now (labels .exit)) (now (pending .exit)) r ⌝ }
+{
+    if !startable(rows, marks.len(), labels.len(), pending.len()) {
+        return 0;
+    }
+    start_fit(labels, pending, rows, marks)
 }

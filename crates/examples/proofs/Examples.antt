@@ -1,16 +1,15 @@
 -- The one fact over the list of examples, by computation.
 use mathlib.Core.Path.{_≡_, refl}
 use mathlib.Core.Bool.{true}
-use Rattle.bits.specs.Bits.{bitsOf, valueFrom, valueOf, stringOf}
+use Rattle.bits.specs.Bits.{bitsOf, valueFrom, valueOf, stringOf, bytesTo, bytesOf}
 use Rattle.bits.specs.Field.{spareOnly}
 use Rattle.bits.specs.Parser.{field}
 use Rattle.job.specs.Layout.{maxInputs, maxGates, maxFaults, inputCountBits, gateCountBits, gateKindBits, lineBits, faultCountBits, faultKindBits}
 use Rattle.job.specs.Record.{noGates, noFaults, emptyJob}
 use Rattle.reading.specs.Reading.{entryFields, gate, fault, entriesFrom, spare, fromEnd, fromFaults, fromFaultCount, fromOutput, fromGates, wholeJob, reading}
-use Rattle.bits.specs.Bits.{bytesTo, bytesOf}
 use Rattle.bits.specs.Packed.{tabulate, packed, entry}
 use Rattle.transform.specs.Operations.{zeroFrom, tableOk}
-use Rattle.spectra.specs.Operations.{spectrumOf, sameNumbers, isSpectrum, undoneOf}
+use Rattle.spectra.specs.Operations.{spectrumOf, sameNumbers, isSpectrum, undoneOf, circuitSpectra}
 use Rattle.transform.specs.Spectrum.{inside, sumTo, subsetSum, coefficient, spectrum, recovered}
 use Rattle.gates.specs.Answers.{answers, answer}
 use Rattle.gates.specs.Values.{inputValue, bridged}
@@ -19,8 +18,7 @@ use Rattle.bits.specs.Passing.{passing}
 use Rattle.method.specs.Method.{without, someBelow, agree, somePair, useful, full, takes, drops, signature, pairWith, pairFrom}
 use Rattle.choosing.specs.Choosing.{scanTo, chosenOf}
 use lib.Count.{onesIn, ones}
-use Rattle.spectra.specs.Operations.{circuitSpectra}
-use Rattle.picking.specs.Matrix.{maxEntries, zeros}
+use Rattle.matrix.specs.Matrix.{maxEntries, zeros}
 use Rattle.sheet.specs.Sheet.{inputsWord, gatesWord, faultsWord, signatureWord, digits, decimal, numbersText, circuitLines}
 use Rattle.examples.specs.Examples.{holds, allHold, jobA, sheetA, examples}
 

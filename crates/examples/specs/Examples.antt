@@ -19,7 +19,7 @@ use Rattle.choosing.specs.Choosing.{Finding, Choice, chosenOf}
 use Rattle.choosing.specs.Choosing.Finding.{chosen, alike}
 use Rattle.choosing.specs.declared.Purpose.{Purpose}
 use Rattle.choosing.specs.declared.Purpose.the-variants.{Isolating, Detecting}
-use Rattle.picking.specs.Matrix.{zeros}
+use Rattle.matrix.specs.Matrix.{zeros}
 use Rattle.sheet.specs.Sheet.{reportText}
 
 pub data Example : Type 0 where

@@ -27,7 +27,7 @@ use Rattle.writing.specs.declared.Written.the-variants as writing
 use Rattle.tables.proofs.Answering.{kept}
 use Rattle.transform.specs.declared.Kind.{Kind}
 use Rattle.transform.specs.declared.Kind.the-variants.{Mrm}
-use Rattle.picking.specs.declared.Signature.{Signature}
+use Rattle.matrix.specs.declared.Signature.{Signature}
 use Rattle.choosing.specs.Choosing.{Chose, verdictTold}
 use Rattle.choosing.specs.declared.Purpose.{Purpose}
 use Rattle.choosing.specs.declared.Purpose.the-variants.{Detecting}

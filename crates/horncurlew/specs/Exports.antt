@@ -16,7 +16,7 @@ use Rattle.reading.specs.Reading.{reading}
 use Rattle.writing.specs.Writing.{written}
 use Rattle.transform.specs.declared.Kind.{Kind}
 use Rattle.transform.specs.declared.Kind.the-variants.{Rm, Mrm}
-use Rattle.picking.specs.declared.Signature.{Signature}
+use Rattle.matrix.specs.declared.Signature.{Signature}
 use Rattle.choosing.specs.Choosing.{Finding, Chose}
 use Rattle.choosing.specs.Choosing.Finding.{chosen, alike}
 use Rattle.choosing.specs.declared.Purpose.{Purpose}

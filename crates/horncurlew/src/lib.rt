@@ -15,7 +15,7 @@ use bits::Outcome;
 use choosing::Purpose;
 use choosing::Verdict;
 use locating::Located;
-use picking::Signature;
+use matrix::Signature;
 use sheet::Reported;
 use transform::Kind;
 use writing::Written;
@@ -46,7 +46,7 @@ pub struct ChoiceAnswer {
     pub gates: usize,
     pub faults: usize,
     pub count: usize,
-    pub entries: [u16; picking::MAX_ENTRIES],
+    pub entries: [u16; matrix::MAX_ENTRIES],
 }
 
 // How many circuits agree, and the lowest of them.

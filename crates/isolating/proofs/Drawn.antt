@@ -28,9 +28,9 @@ use Rattle.job.proofs.Sizes.{most-inputs, most-places}
 use Rattle.tables.specs.declared.Counts.{Counts}
 use Rattle.transform.specs.declared.Kind.{Kind}
 use Rattle.bits.proofs.Fields.{shift-exact}
-use Rattle.picking.specs.Matrix.{maxEntries}
-use Rattle.picking.specs.declared.Signature.{Signature}
-use Rattle.classes.proofs.Cells.{cell-within}
+use Rattle.matrix.specs.Matrix.{maxEntries}
+use Rattle.matrix.specs.declared.Signature.{Signature}
+use Rattle.matrix.proofs.Cells.{cell-within}
 use Rattle.locating.specs.Locating.{Location, locatedOf}
 use Rattle.locating.specs.Scanning.{numbersAt}
 use Rattle.locating.proofs.Indexed.{numbers-length}

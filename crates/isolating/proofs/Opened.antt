@@ -21,7 +21,7 @@ use Rattle.job.specs.declared.Job.{Job}
 use Rattle.reading.specs.Reading.{reading}
 use Rattle.spectra.specs.Operations.{circuitSpectra, sameNumbers}
 use Rattle.transform.specs.declared.Kind.{Kind}
-use Rattle.picking.specs.Matrix.{signatureOf}
+use Rattle.matrix.specs.Matrix.{signatureOf}
 use Rattle.choosing.specs.Choosing.{Choice, choice, chosenOf, chose}
 use Rattle.choosing.specs.declared.Purpose.{Purpose}
 use Rattle.locating.specs.Locating.{Location, agreeing, location, readingsOf, indicesOk, locatedOf}

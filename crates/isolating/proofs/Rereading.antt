@@ -33,9 +33,9 @@ use Rattle.transform.specs.declared.Kind.{Kind}
 use Rattle.spectra.proofs.WorkPlaces.{length-circuitSpectra, circuitSpectra-at}
 use Rattle.method.specs.Method.{Pair}
 use Rattle.method.specs.Method.Pair.{nobody, pair}
-use Rattle.picking.specs.Matrix.{signatureOf}
-use Rattle.picking.specs.declared.Signature.{Signature}
-use Rattle.classes.proofs.Cells.{cell-within}
+use Rattle.matrix.specs.Matrix.{signatureOf}
+use Rattle.matrix.specs.declared.Signature.{Signature}
+use Rattle.matrix.proofs.Cells.{cell-within}
 use Rattle.choosing.specs.Choosing.{Choice, Chose, Finding, choiceBy, choice, coefOf, chosenOf, chose, alikePair, signatureIn, verdictTold}
 use Rattle.choosing.specs.Choosing.Finding.{chosen, alike}
 use Rattle.choosing.specs.declared.Chosen.{Chosen}

@@ -16,8 +16,8 @@ use Rattle.job.specs.Layout.{maxInputs, maxFaults}
 use Rattle.job.specs.declared.Job.{Job}
 use Rattle.tables.specs.declared.Counts.{Counts}
 use Rattle.transform.specs.declared.Kind.{Kind}
-use Rattle.picking.specs.Matrix.{maxEntries}
-use Rattle.picking.specs.declared.Signature.{Signature}
+use Rattle.matrix.specs.Matrix.{maxEntries}
+use Rattle.matrix.specs.declared.Signature.{Signature}
 use Rattle.choosing.specs.Choosing.{Finding}
 use Rattle.choosing.specs.Choosing.Finding.{chosen, alike}
 use Rattle.locating.specs.Locating.{Location, locatedOf}

@@ -10,7 +10,7 @@ use bits::Refusal;
 use choosing::Purpose;
 use choosing::Verdict;
 use locating::Located;
-use picking::Signature;
+use matrix::Signature;
 use tables::Counts;
 use transform::Kind;
 
@@ -46,7 +46,7 @@ fn locate_chosen(
     let start = circuit * (1 << counts.inputs);
     let count = signature.count;
     let entries = signature.entries;
-    let mut readings = [0u16; picking::MAX_ENTRIES];
+    let mut readings = [0u16; matrix::MAX_ENTRIES];
     readings_at(work, start, &entries[..count], &mut readings);
     locating::locate(
         bytes,

@@ -8,6 +8,9 @@
 --   takes-idle     another is passed over
 --   takes-stop     once what is taken is full, nothing more is taken
 --   takes-from     every entry taken was taken before, or is in the scan
+--   takes-agree    rows that agree on what was taken and on the scan agree on what is taken in the end
+--   taken-agree    so of a needed pair what is taken tells what the scan tells
+--   taken-pair     so they have the same first pair
 use Prim.Native.Nat.{ℕ, _<_}
 use mathlib.Core.Path.{_≡_, refl, sym, ap, _∙_}
 use mathlib.Core.Bool.{Bool, true, false, not, cond, _&&_}
@@ -15,10 +18,11 @@ use mathlib.Core.Logic.{_⊎_, inl, inr, ⊎-elim}
 use mathlib.Core.List.{List, [], _∷_, _++_, append-assoc, append-nil, List·Memᴰ, List·Memᴰ·head, List·Memᴰ·tail, List·Memᴰ·append-cases, List·Memᴰ·eq-of-singleton}
 use borrow.Author.Tests.{not-false}
 use lib.Dec.{eqb}
-use Rattle.bits.proofs.Tests.{and-i, clash}
-use Rattle.method.specs.Method.{agree, useful, full, takes}
+use Rattle.bits.proofs.Tests.{and-l, and-r, and-i, clash}
+use Rattle.method.specs.Method.{agree, useful, full, takes, firstPair}
 use Rattle.method.proofs.Pairs.{by-test, by-cond, somePair-none, none-somePair, full-all}
-use Rattle.method.proofs.Agreement.{agree-first, agree-at, full-more}
+use Rattle.method.proofs.Agreement.{agree-first, agree-at, agree-both, full-more}
+use Rattle.method.proofs.Firsts.{firstPair-same}
 
 and-false : (a b : Bool) → a ≡ true → a && b ≡ false → b ≡ false
 and-false true b p q = q
@@ -104,3 +108,31 @@ module _ {E : Type 0} (coef : ℕ → E → ℕ) (rows : ℕ) (needed : ℕ → 
       (λ u m. ⊎-elim (λ p. one-more taken e scan (List·Memᴰ·append-cases taken p)) (λ p. inr (List·Memᴰ·tail p)) (takes-from (taken ++ (e ∷ [])) scan m))
       (λ u m. ⊎-elim (λ p. inl p) (λ p. inr (List·Memᴰ·tail p)) (takes-from taken scan m))
       m
+
+  pub takes-agree : (taken scan : List E) (a b : ℕ) → agree coef taken a b ≡ true → agree coef scan a b ≡ true
+      → agree coef (takes coef rows needed taken scan) a b ≡ true
+  unfolding takes agree
+  takes-agree taken [] a b h k = h
+  takes-agree taken (e ∷ scan) a b h k =
+      by-cond (λ m. agree coef (takes coef rows needed m scan) a b ≡ true) (useful coef rows needed taken e) (taken ++ (e ∷ [])) taken
+      (λ u. takes-agree (taken ++ (e ∷ [])) scan a b
+      (agree-both coef taken (e ∷ []) a b h (and-i (and-l (eqb (coef a e) (coef b e)) (agree coef scan a b) k) refl))
+      (and-r (eqb (coef a e) (coef b e)) (agree coef scan a b) k))
+      (λ u. takes-agree taken scan a b h (and-r (eqb (coef a e) (coef b e)) (agree coef scan a b) k))
+
+  module _ (scan : List E) where
+    pub taken-agree : (a b : ℕ) → a < b → b < rows → needed a b ≡ true → agree coef (takes coef rows needed [] scan) a b ≡ agree coef scan a b
+    unfolding agree
+    taken-agree a b h k n =
+        by-test (agree coef scan a b) (λ t. takes-agree [] scan a b refl t ∙ sym t)
+        (λ f. by-test (agree coef (takes coef rows needed [] scan) a b)
+        (λ t. t ∙ sym (takes-tell [] scan a b h k n t .1))
+        (λ g. g ∙ sym f))
+
+    pub taken-pair : firstPair rows (λ a b. needed a b && agree coef (takes coef rows needed [] scan) a b)
+        ≡ firstPair rows (λ a b. needed a b && agree coef scan a b)
+    taken-pair =
+        firstPair-same rows (λ a b. needed a b && agree coef (takes coef rows needed [] scan) a b) (λ a b. needed a b && agree coef scan a b)
+        (λ a b h k. by-test (needed a b)
+        (λ t. ap (λ (x : Bool). needed a b && x) (taken-agree a b h k t))
+        (λ f. ap (λ (x : Bool). x && agree coef (takes coef rows needed [] scan) a b) f ∙ sym (ap (λ (x : Bool). x && agree coef scan a b) f)))

@@ -11,7 +11,7 @@ use mathlib.Core.Bool.{Bool, true, _&&_, and-comm, and-true}
 use mathlib.Core.List.{List, [], _∷_, _++_}
 use lib.Dec.{eqb}
 use Rattle.method.specs.Method.{agree}
-use Rattle.classes.specs.Matrix.{apart}
+use Rattle.matrix.specs.Matrix.{apart}
 use Rattle.classes.specs.Labels.{Labels, Classed, valueIn, both}
 use Rattle.method.proofs.Agreement.{agree-append}
 

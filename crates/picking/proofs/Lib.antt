@@ -1,11 +1,7 @@
-pub mod Within
-pub mod Fits
 pub mod Labelled
 pub mod Marked
-pub mod Seeking
-pub mod Sizes
+pub mod Clearing
 pub mod Slots
 pub mod Growing
 pub mod Resting
-pub mod Aligning
 pub mod Whole

@@ -17,7 +17,7 @@ use lib.Dec.{ltb, eqb}
 use lib.ListN.{getD}
 use Rattle.bits.proofs.Tests.{and-l, and-r, and-i, clash}
 use Rattle.method.specs.Method.{someBelow, agree, useful, full, firstPair}
-use Rattle.classes.specs.Matrix.{apart}
+use Rattle.matrix.specs.Matrix.{apart}
 use Rattle.bits.specs.Passing.{passing}
 use Rattle.classes.specs.Labels.{Classed, Mixed, Covers, stray, alikeMarked, split}
 use Rattle.picking.specs.Levels.{clear}

@@ -1,77 +1,36 @@
 -- Dropping, from the last entry taken to the first (specs/Levels.antt, `Keeping`).
 --
---   start-place      the place before those kept
---   start-back       those kept start after it
---   kept-front       an entry put there is kept before the others
---   without-place    a list with an entry between two parts: without the entry
---   drops-goes       an entry goes when the rest tells all needed pairs apart
---   drops-stays      else it stays
 --   met-strays       of listed rows, labels by two columns as a function and as a list
 --   drop-comparable, drop-ready, drop-room   what looking at an entry asks for
 --   drop-goes        the entry goes
 --   drop-keeps       the entry stays, before those kept
 --   dropping-start, dropping-at, dropping-end   the start, the next entry and the end of dropping all
 --   dropping-of      what it asks for
-use Prim.Native.Nat.{ℕ, zero, suc, _+_, _-_, _≤_, _<_}
-use native.Mathlib.Nat.{not-suc-le-zero, le-refl}
+--   zeros-fresh, fresh-first, fresh-next   the stamps of what is noted rise as the levels fall
+use Prim.Native.Nat.{ℕ, suc, _+_, _-_, _≤_, _<_}
+use native.Mathlib.Nat.{le-refl}
 use native.Mathlib.Omega.{arith}
-use mathlib.Core.Path.{_≡_, refl, sym, ap, ap₂, subst, _∙_}
-use mathlib.Core.Bool.{Bool, true, false, not, cond}
-use mathlib.Core.List.{List, [], _∷_, _++_, append-nil}
+use mathlib.Core.Path.{_≡_, sym, ap, subst, _∙_}
+use mathlib.Core.Bool.{Bool, true, false, not}
+use mathlib.Core.List.{List, [], _∷_, _++_}
 use lib.Dec.{eqb}
-use lib.ListN.{length, take, drop, getD, set, drop-of-length-le}
-use lib.Seq.{append-snoc, drop-cons, lt-length-set, getD-set-same, drop-set-lt, length-take-le, take-suc, take-all, getD-take}
+use lib.ListN.{length, take, drop, getD, replicate, length-replicate, getD-replicate}
 use Rattle.bits.proofs.Packed.{tabulate-at}
-use Rattle.method.specs.Method.{without, agree, full, drops}
-use Rattle.classes.specs.Matrix.{cell, apart, maxRows}
-use Rattle.picking.specs.Matrix.{maxEntries}
-use Rattle.classes.specs.Labels.{Classed, Fit, Ready, Parts, Comparable, valueIn, lowestOf, stray, strayBy, met, someOf, Started}
+use Rattle.method.specs.Method.{agree, full, drops}
+use Rattle.matrix.specs.Matrix.{cell, apart, maxRows, maxEntries}
+use Rattle.classes.specs.Labels.{Classed, Fit, Ready, Parts, Comparable, valueIn, lowestOf, stray, strayBy, met, someOf, Starts, Fresh}
 use Rattle.picking.specs.Levels.{slot, Levels, Keeping, Droppable, Dropping, Left}
+use Rattle.matrix.proofs.Sizes.{rows-entries}
 use Rattle.picking.proofs.Labelled.{classed-start, classed-front, classed-join}
+use Rattle.classes.proofs.Fitting.{start-fitted}
 use Rattle.classes.proofs.Listed.{some-same}
 use Rattle.picking.proofs.Marked.{labels-full}
 use Rattle.classes.proofs.Refined.{met-labels}
 use Rattle.classes.proofs.Strays.{some-strays}
 use Rattle.classes.proofs.Parting.{pending-below}
 use Rattle.picking.proofs.Growing.{level-ready}
-
-pub start-place : {start : ℕ} → 1 ≤ start → start ≤ maxEntries → start - 1 < maxEntries
-start-place some h = omega arith
-
-pub start-back : {start : ℕ} → 1 ≤ start → start - 1 + 1 ≡ start
-start-back some = omega arith
-
-pub kept-front : (l : List ℕ) (e start : ℕ) → 1 ≤ start → start ≤ length l → drop (start - 1) (set l (start - 1) e) ≡ e ∷ drop start l
-kept-front l e zero some h = absurd (not-suc-le-zero some)
-kept-front l e (suc start) some h =
-    let back : suc start - 1 ≡ start = omega arith in
-    let inside : start < length (set l start e) = lt-length-set l start e h in
-    ap (λ (j : ℕ). drop j (set l j e)) back ∙ drop-cons (set l start e) start 0 inside
-    ∙ ap₂ (λ (x : ℕ) (r : List ℕ). x ∷ r) (getD-set-same l start e 0 h) (drop-set-lt (suc start) l start e (omega arith))
-
-module _ {E : Type 0} where
-  pub without-place : (l : List E) (e : E) (kept : List E) → without (length l) (l ++ (e ∷ kept)) ≡ l ++ kept
-  unfolding without
-  without-place [] e kept = refl
-  without-place (x ∷ l) e kept = ap (λ (r : List E). x ∷ r) (without-place l e kept)
-
-module _ {E : Type 0} (coef : ℕ → E → ℕ) (rows : ℕ) (needed : ℕ → ℕ → Bool) (l : List E) (e : E) (kept : List E) where
-  -- what is looked at next
-  looked : full coef rows needed (without (length l) (l ++ (e ∷ kept))) ≡ full coef rows needed (l ++ kept)
-  looked = ap (full coef rows needed) (without-place l e kept)
-
-  pub drops-goes : full coef rows needed (l ++ kept) ≡ true
-      → drops coef rows needed (suc (length l)) (l ++ (e ∷ kept)) ≡ drops coef rows needed (length l) (l ++ kept)
-  unfolding drops
-  drops-goes f =
-      ap (λ (t : Bool). drops coef rows needed (length l) (cond t (without (length l) (l ++ (e ∷ kept))) (l ++ (e ∷ kept)))) (looked ∙ f)
-      ∙ ap (drops coef rows needed (length l)) (without-place l e kept)
-
-  pub drops-stays : full coef rows needed (l ++ kept) ≡ false
-      → drops coef rows needed (suc (length l)) (l ++ (e ∷ kept)) ≡ drops coef rows needed (length l) (l ++ (e ∷ kept))
-  unfolding drops
-  drops-stays f =
-      ap (λ (t : Bool). drops coef rows needed (length l) (cond t (without (length l) (l ++ (e ∷ kept))) (l ++ (e ∷ kept)))) (looked ∙ f)
+use Rattle.method.proofs.Drops.{drops-start, drops-end, drops-at-goes, drops-at-stays}
+use Rattle.matrix.proofs.Kept.{kept-none}
 
 pub met-strays : (rows : ℕ) (marks L M list : List ℕ) → ((i : ℕ) → i < length list → getD list i 0 < rows)
     → someOf (strayBy (lowestOf L (valueIn M)) marks) list ≡ someOf (stray (met rows L M) marks) list
@@ -94,6 +53,9 @@ module _ (work : List ℕ) (width rows : ℕ) (marks taken : List ℕ) (level : 
         low = d .before .classed .low;
         others-low = d .after .level-by .classed .low;
         listed = pending-below (take seen P) (d .before .settled .covers);
+        most = d .fit .most;
+        own = d .before .classed .own;
+        covers = d .before .settled .covers;
       }
 
   pub drop-ready : Ready work width rows marks M (take count Q)
@@ -101,9 +63,6 @@ module _ (work : List ℕ) (width rows : ℕ) (marks taken : List ℕ) (level : 
 
   pub drop-room : 1 ≤ start
   drop-room = omega (arith, d .after .room)
-
-  before-length : length (take level taken) ≡ level
-  before-length = length-take-le level taken (omega (arith, d .inside))
 
   -- whether the entries before and those kept tell all needed pairs apart
   told : full (cell work width) rows (apart marks) (take level taken ++ drop start entries)
@@ -115,15 +74,6 @@ module _ (work : List ℕ) (width rows : ℕ) (marks taken : List ℕ) (level : 
       ∙ ap not (sym (some-strays rows marks L M (take seen P) (d .before .classed .low) (d .before .settled .covers)))
       ∙ ap not (sym (met-strays rows marks L M (take seen P) (pending-below (take seen P) (d .before .settled .covers))))
 
-  goes-on : drops (cell work width) rows (apart marks) (length taken) taken
-      ≡ drops (cell work width) rows (apart marks) (suc (length (take level taken))) (take level taken ++ (e ∷ drop start entries))
-  goes-on =
-      d .after .goes
-      ∙ ap₂ (drops (cell work width) rows (apart marks)) (ap suc (sym before-length))
-      (ap (λ (l : List ℕ). l ++ drop start entries) (take-suc taken level 0 (d .inside))
-      ∙ append-snoc (take level taken) (getD taken level 0) (drop start entries)
-      ∙ ap (λ (x : ℕ). take level taken ++ (x ∷ drop start entries)) (d .at))
-
   module _ {t : Bool} (q : t ≡ not (someOf (strayBy (lowestOf L (valueIn M)) marks) (take seen P))) where
     pub drop-goes : t ≡ true → Keeping work width rows marks taken level start entries M Q count
     drop-goes f =
@@ -131,8 +81,8 @@ module _ (work : List ℕ) (width rows : ℕ) (marks taken : List ℕ) (level : 
           within = d .after .within;
           room = omega (arith, d .after .room);
           goes =
-              goes-on ∙ drops-goes (cell work width) rows (apart marks) (take level taken) e (drop start entries) (told ∙ sym q ∙ f)
-              ∙ ap (λ (n : ℕ). drops (cell work width) rows (apart marks) n (take level taken ++ drop start entries)) before-length;
+              d .after .goes
+              ∙ drops-at-goes (cell work width) rows (apart marks) taken (drop start entries) level 0 (d .inside) (d .at) (told ∙ sym q ∙ f);
           level-by = d .after .level-by;
         }
 
@@ -145,8 +95,9 @@ module _ (work : List ℕ) (width rows : ℕ) (marks taken : List ℕ) (level : 
           within = omega (arith, d .after .within, made .0);
           room = omega (arith, d .after .room, made .0);
           goes =
-              goes-on ∙ drops-stays (cell work width) rows (apart marks) (take level taken) e (drop start entries) (told ∙ sym q ∙ f)
-              ∙ ap₂ (drops (cell work width) rows (apart marks)) before-length (ap (λ (l : List ℕ). take level taken ++ l) (sym (made .1)));
+              d .after .goes
+              ∙ drops-at-stays (cell work width) rows (apart marks) taken (drop start entries) level 0 (d .inside) (d .at) (told ∙ sym q ∙ f)
+              ∙ ap (λ (l : List ℕ). drops (cell work width) rows (apart marks) level (take level taken ++ l)) (sym (made .1));
           level-by =
               record {
                 classed =
@@ -163,13 +114,11 @@ module _ {work : List ℕ} {width rows : ℕ} {marks taken counts labels pending
   pub dropping-start : (entries : List ℕ) {level : ℕ} → length entries ≡ maxEntries → level ≡ length taken
       → Keeping work width rows marks taken level maxEntries entries others left count
   dropping-start entries {level} e l =
-      let none : drop maxEntries entries ≡ [] = drop-of-length-le entries {i = maxEntries} (omega arith) in
+      let none : drop maxEntries entries ≡ [] = kept-none entries e in
       record {
         within = le-refl maxEntries;
         room = omega (arith, d .few);
-        goes =
-            ap₂ (drops (cell work width) rows (apart marks)) (sym l)
-            (sym (ap₂ (λ (x y : List ℕ). x ++ y) (take-all level taken (omega arith)) none ∙ append-nil taken));
+        goes = drops-start (cell work width) rows (apart marks) taken (drop maxEntries entries) l none;
         level-by =
             record {
               classed =
@@ -194,42 +143,31 @@ module _ {work : List ℕ} {width rows : ℕ} {marks taken counts labels pending
 
   pub dropping-end : {level start : ℕ} {entries M Q : List ℕ} {many : ℕ} → level ≤ 0 → Keeping work width rows marks taken level start entries M Q many
       → Left work width rows marks taken start entries
-  unfolding drops
-  dropping-end {level} {start} {entries} h k =
-      let none : level ≡ 0 = omega arith in
-      record {
-        within = k .within;
-        all = k .goes ∙ ap (λ (n : ℕ). drops (cell work width) rows (apart marks) n (take n taken ++ drop start entries)) none;
-      }
+  dropping-end {start = start} {entries} h k =
+      record { within = k .within; all = k .goes ∙ drops-end (cell work width) rows (apart marks) taken (drop start entries) h }
 
-pub dropping-of : {work : List ℕ} {width rows : ℕ} {marks taken counts labels pending others left : List ℕ} {count : ℕ} → Fit work width rows marks
-    → length taken ≤ maxEntries → Levels work width rows marks taken labels pending counts → Started rows marks others left count
-    → Dropping work width rows marks taken counts labels pending others left count
-dropping-of fit few levels started = record { fit = fit; few = few; levels = levels; started = started }
-
--- the entries of an array that were taken
-module _ (entries : List ℕ) {count : ℕ} (e : length entries ≡ maxEntries) (h : count ≤ maxEntries) where
-  pub taken-length : length (take count entries) ≡ count
-  taken-length = length-take-le count entries (omega arith)
-
-  pub taken-few : length (take count entries) ≤ maxEntries
-  taken-few = omega (arith, taken-length)
-
-  pub taken-within : {level : ℕ} → level ≤ count → level ≤ length (take count entries)
-  taken-within l = omega (arith, taken-length)
-
-  pub taken-at : {level : ℕ} → 0 < level → level ≤ count → getD (take count entries) (level - 1) 0 ≡ getD entries (level - 1) 0
-  taken-at {level} l k = getD-take count entries (level - 1) 0 (omega arith)
-
-  pub taken-inside : {level : ℕ} → 0 < level → level ≤ count → level - 1 < length (take count entries)
-  taken-inside l k = omega (arith, taken-length)
+pub dropping-of : {work : List ℕ} {width rows : ℕ} {marks taken counts labels pending old list others left : List ℕ} {count : ℕ} → Fit work width rows marks
+    → length taken ≤ maxEntries → Levels work width rows marks taken labels pending counts → Starts rows marks old list others left count
+    → length old ≡ maxRows → length list ≡ maxRows → Dropping work width rows marks taken counts labels pending others left count
+dropping-of {rows = rows} {marks = marks} {old = old} {list = list} fit few levels starts e f =
+    record {
+      fit = fit;
+      few = few;
+      levels = levels;
+      started = start-fitted rows marks old list (fit .some, fit .most, fit .marked, e, f) starts;
+    }
 
 module _ {level : ℕ} (h : 0 < level) where
-  pub level-back : level - 1 < level
-  level-back = omega arith
+  -- the next stamp: one greater for each level down
+  pub fresh-next : {count : ℕ} (noted : List ℕ) → level ≤ count → count ≤ maxEntries → Fresh (maxRows - level + 1) noted → Fresh (maxRows - (level - 1)) noted
+  fresh-next {count} noted l k w = λ i m. let v = w i m in omega (arith, rows-entries)
 
-  pub level-entry : {count : ℕ} → level ≤ count → count ≤ maxEntries → level - 1 < maxEntries
-  level-entry l k = omega arith
+pub zeros-fresh : (n : ℕ) → Fresh 1 (replicate n 0)
+zeros-fresh n i h =
+    let none : List ℕ = replicate n 0 in
+    let l : length none ≡ n = length-replicate n 0 in
+    let z : getD none i 0 ≡ 0 = getD-replicate n i 0 0 (omega arith) in
+    omega arith
 
-  pub level-within : {count : ℕ} → level ≤ count → level - 1 ≤ count
-  level-within l = omega arith
+pub fresh-first : (count : ℕ) (noted : List ℕ) → Fresh 1 noted → Fresh (maxRows - count + 1) noted
+fresh-first count noted w = λ i m. let v = w i m in omega arith

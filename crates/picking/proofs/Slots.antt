@@ -1,8 +1,5 @@
 -- Levels in lent memory: each has a slot of as many numbers as there are rows (specs/Levels.antt, `slot`).
 --
---   slot-fits, slot-add, slot-scaled   a slot's place fits a machine word
---   slot-ends       it ends after it starts
---   slot-inside     a slot lies within the memory
 --   slot-length     it has as many numbers as there are rows
 --   slot-lent, slot-front   a slot as it is lent, whole or its first numbers
 --   slot-first      the first slot
@@ -17,73 +14,38 @@
 --   after-length, after-room, after-slot, after-slot-length   the same, as the copy leaves the memory
 --   put-length, put-stays, put-slot   numbers put into the next slot
 --   first-put       numbers put into the first slot
-use Prim.Native.Nat.{ℕ, suc, _+_, _-_, _*_, _≤_, _<_}
-use native.Mathlib.Nat.{suc-mul, mul-le-mul-right, le-refl, zero-mul}
+use Prim.Native.Nat.{ℕ, _+_, _-_, _*_, _≤_, _<_}
+use native.Mathlib.Nat.{le-refl}
 use native.Mathlib.Numerals.{add-one}
 use native.Mathlib.Omega.{arith}
 use mathlib.Core.Path.{_≡_, sym, ap, ap₂, subst, _∙_}
 use mathlib.Core.List.{List, _++_, append-assoc}
 use lib.ListN.{length, take, drop, getD, set, length-append, length-take, length-drop, List·getD-append}
-use lib.Seq.{paste, paste-zero, paste-suc, length-paste, length-take-le, take-take, take-add, take-at, drop-at, take-append-le, getD-take, getD-drop}
+use lib.Seq.{paste, paste-zero, paste-suc, length-paste, length-take-le, take-take, take-at, drop-at, getD-take, getD-drop}
 use mir.Syntax.{w64}
 use mir.Val.{Fits}
-use Rattle.classes.specs.Matrix.{maxRows}
+use Rattle.matrix.specs.Matrix.{maxRows}
 use Rattle.picking.specs.Levels.{slot, copied}
-use Rattle.picking.proofs.Sizes.{slots-fit}
+use Rattle.matrix.proofs.Sizes.{slots-fit}
+use Rattle.matrix.proofs.Slots.{slot-inside, slot-room, slot-next, slot-before, part-lent, part-first, part-stays}
 
--- ---- places
+-- ---- slots
 
-below : (i : ℕ) → i < maxRows → i * maxRows + maxRows ≤ maxRows * maxRows
-below i h = subst (λ (x : ℕ). x ≤ maxRows * maxRows) (suc-mul i maxRows) (mul-le-mul-right maxRows h)
-
-module _ {i : ℕ} (h : i < maxRows) where
-  pub slot-fits : Fits w64 (i * maxRows)
-  slot-fits = omega (arith, below i h, slots-fit)
-
-  pub slot-add : {n : ℕ} → n ≤ maxRows → Fits w64 (i * maxRows + n)
-  slot-add k = omega (arith, below i h, slots-fit)
-
-  pub slot-scaled : Fits w64 (i * maxRows * 2)
-  slot-scaled = omega (arith, below i h, slots-fit)
-
-  pub slot-inside : {n : ℕ} (l : List ℕ) → n ≤ maxRows → length l ≡ maxRows * maxRows → i * maxRows + n ≤ length l
-  slot-inside l k e = omega (arith, below i h)
-
-  pub slot-length : (l : List ℕ) → length l ≡ maxRows * maxRows → length (slot i l) ≡ maxRows
-  slot-length l e = simp (length-take, length-drop) (omega (arith, below i h))
-
-pub slot-ends : (a n : ℕ) → a ≤ a + n
-slot-ends a n = omega arith
-
-cut : (a n : ℕ) → a + n - a ≡ n
-cut a n = omega arith
+pub slot-length : {i : ℕ} → i < maxRows → (l : List ℕ) → length l ≡ maxRows * maxRows → length (slot i l) ≡ maxRows
+slot-length {i} h l e = simp (length-take, length-drop) (omega (arith, slot-inside h l (le-refl maxRows) e))
 
 pub slot-lent : (i : ℕ) (l : List ℕ) → take (i * maxRows + maxRows - i * maxRows) (drop (i * maxRows) l) ≡ slot i l
-slot-lent i l = ap (λ (n : ℕ). take n (drop (i * maxRows) l)) (cut (i * maxRows) maxRows)
+slot-lent i l = part-lent (i * maxRows) maxRows l
 
 pub slot-front : (i : ℕ) (l : List ℕ) {count : ℕ} → count ≤ maxRows → take (i * maxRows + count - i * maxRows) (drop (i * maxRows) l) ≡ take count (slot i l)
-slot-front i l {count} h = ap (λ (n : ℕ). take n (drop (i * maxRows) l)) (cut (i * maxRows) count) ∙ sym (take-take count maxRows (drop (i * maxRows) l) h)
+slot-front i l {count} h = part-lent (i * maxRows) count l ∙ sym (take-take count maxRows (drop (i * maxRows) l) h)
 
 pub slot-first : (l : List ℕ) → take maxRows l ≡ slot 0 l
-slot-first l = ap (λ (n : ℕ). take maxRows (drop n l)) (sym (zero-mul maxRows))
+slot-first l = part-first maxRows l
 
 -- what holds of two lists holds of them as they are lent
 pub lent-as : (F : List ℕ → List ℕ → Type 0) {L M P Q : List ℕ} → M ≡ L → Q ≡ P → F L P → F M Q
 lent-as F {L} {M} {P} {Q} p q x = subst (λ (l : List ℕ). F l Q) (sym p) (subst (F L) (sym q) x)
-
--- ---- parts of a list
-
--- a part depends only on what comes up to its end
-part-as : (k n : ℕ) (l : List ℕ) → k ≤ length l → drop k (take (k + n) l) ≡ take n (drop k l)
-part-as k n l h = ap (drop k) (take-add k n l) ∙ drop-at (take k l) (take n (drop k l)) k (length-take-le k l h)
-
-part-before : (k n at : ℕ) (l others : List ℕ) → k + n ≤ at → at ≤ length l → take n (drop k (take at l ++ others)) ≡ take n (drop k l)
-part-before k n at l others h m =
-    let e : length (take at l) ≡ at = length-take-le at l m in
-    let s : k ≤ length (take at l ++ others) = rw (length-append (take at l) others) (omega arith) in
-    sym (part-as k n (take at l ++ others) s)
-    ∙ ap (drop k) (take-append-le (k + n) (take at l) others (omega arith) ∙ take-take (k + n) at l h)
-    ∙ part-as k n l (omega arith)
 
 -- ---- copying
 
@@ -113,10 +75,7 @@ module _ (start : List ℕ) (level : ℕ) (h : level + 1 < maxRows) (e : length 
   lower = omega arith
 
   upper : level * maxRows + maxRows + maxRows ≤ length start
-  upper =
-      let s : suc level * maxRows ≡ level * maxRows + maxRows = suc-mul level maxRows in
-      let b : suc level * maxRows + maxRows ≤ maxRows * maxRows = below (suc level) (omega arith) in
-      omega arith
+  upper = slot-room level start h e
 
   pub copy-fits : {n : ℕ} → n ≤ level * maxRows + maxRows + maxRows → Fits w64 n
   copy-fits k = omega (arith, upper, slots-fit)
@@ -189,7 +148,8 @@ module _ (start : List ℕ) (level : ℕ) (h : level + 1 < maxRows) (e : length 
 
   pub copied-slot : take (place + maxRows - place) (drop place (copied level start)) ≡ slot level start
   copied-slot =
-      ap₂ (λ (n : ℕ) (l : List ℕ). take n l) (cut place maxRows)
+      part-lent place maxRows (copied level start)
+      ∙ ap (take maxRows)
       (ap (drop place) (append-assoc (take place start) (take maxRows (slot level start)) (drop (place + maxRows) start))
       ∙ drop-at (take place start) (take maxRows (slot level start) ++ drop (place + maxRows) start) place front)
       ∙ ap (λ (l : List ℕ). take maxRows (l ++ drop (place + maxRows) start)) whole
@@ -231,18 +191,14 @@ module _ (start : List ℕ) (level : ℕ) (h : level + 1 < maxRows) (e : length 
 
       pub put-stays : (i : ℕ) → i ≤ level → slot i put ≡ slot i start
       put-stays i k =
-          let s : suc i * maxRows ≡ i * maxRows + maxRows = suc-mul i maxRows in
-          let t : suc level * maxRows ≡ place = suc-mul level maxRows in
-          let m : suc i ≤ suc level = omega arith in
-          let b : suc i * maxRows ≤ suc level * maxRows = mul-le-mul-right maxRows m in
-          ap (slot i) put-front
-          ∙ part-before (i * maxRows) maxRows place start (new ++ rest) (omega arith) (omega (arith, upper))
+          part-stays (i * maxRows) maxRows place start put
+          (ap (take place) put-front ∙ take-at (take place start) (new ++ rest) place front) (slot-before k)
 
       pub put-slot : length new ≡ maxRows → slot (level + 1) put ≡ new
       put-slot s =
           ap (slot (level + 1)) put-front
           ∙ ap (λ (n : ℕ). take maxRows (drop n (take place start ++ (new ++ rest))))
-          (ap (λ (n : ℕ). n * maxRows) (add-one level) ∙ suc-mul level maxRows)
+          (slot-next level)
           ∙ ap (take maxRows) (drop-at (take place start) (new ++ rest) place front)
           ∙ take-at new (rest) maxRows s
 

@@ -1,71 +1,39 @@
 -- Choosing, from its parts (specs/Matrix.antt, `picked`).
 --
---   takes-agree         rows that agree on the scan agree on what is taken of it
---   taken-agree         so of a needed pair what is taken tells what the scan tells
---   taken-pair          so they have the same first pair
 --   last-level, last-own   the classes by all entries taken; where no row is pending all are their own labels
+--   lent-pair           the first pair by labels as they are lent
 --   chosen-below        the entries taken lie within a row
 --   concluded-alike     the answer that two rows are alike
 --   concluded-told      the answer that all needed pairs are told apart
---   chosen-unfit        the answer that the memory is no such matrix
+--   chosen-unmarked, chosen-unfit   the answer that the memory is no such matrix, or that marks are missing
+--   fitting-fit         what the tests of a matrix and its marks tell
 --   chosen              the answer of a matrix
 use Prim.Native.Nat.{ℕ, _≤_, _<_}
 use native.Mathlib.Nat.{le-refl, le-of-eq}
 use mathlib.Core.Path.{_≡_, refl, sym, ap, ap₂, subst, _∙_}
-use mathlib.Core.Bool.{Bool, true, not, cond, _&&_}
-use mathlib.Core.List.{List, [], _∷_, _++_}
-use borrow.Author.Tests.{not-true}
-use lib.Dec.{eqb}
+use mathlib.Core.Bool.{Bool, true, not, cond, _&&_, and-false}
+use mathlib.Core.List.{List, []}
+use borrow.Author.Tests.{not-true, le-leb, lt-leb}
 use lib.ListN.{length, take, getD}
 use lib.Seq.{length-take-le, take-take}
-use Rattle.bits.proofs.Tests.{and-l, and-r, and-i}
-use Rattle.method.specs.Method.{Pair, agree, useful, takes, drops, signature, firstPair}
-use Rattle.classes.specs.Matrix.{cell, apart}
-use Rattle.picking.specs.Matrix.{allBelow, fits, picked, pickedBy, choiceOf, signatureOf}
-use Rattle.picking.specs.Matrix.Picked.{unfit}
-use Rattle.classes.specs.Labels.{pairTold, alikeMarked}
+use Rattle.bits.proofs.Tests.{and-i}
+use Rattle.method.specs.Method.{Pair, agree, drops, signature, firstPair}
+use Rattle.method.specs.Method.Pair.{nobody}
+use Rattle.matrix.specs.Matrix.{cell, apart, allBelow, fits, picked, pickedOver, pickedBy, choiceOf, signatureOf}
+use Rattle.matrix.specs.Matrix.Picked.{unfit}
+use Rattle.classes.specs.Labels.{pairTold, alikeMarked, pairsFit, Fit}
 use Rattle.picking.specs.Levels.{OwnLabels, slot, Level, Levels, TakenAll}
-use Rattle.picking.specs.declared.Choice.{Choice}
-use Rattle.picking.specs.declared.Found.the-variants.{Told, Alike, Unfit}
-use Rattle.picking.specs.declared.Signature.{Signature}
+use Rattle.matrix.proofs.Fits.{fits-fit}
+use Rattle.matrix.specs.declared.Choice.{Choice}
+use Rattle.matrix.specs.declared.Found.the-variants.{Told, Alike}
+use Rattle.matrix.specs.declared.Signature.{Signature}
 use Rattle.classes.specs.declared.Two.{Two}
 use Rattle.classes.specs.declared.Two.the-variants.{Nobody, Both}
-use Rattle.method.proofs.Pairs.{by-test, by-cond}
-use Rattle.method.proofs.Agreement.{agree-both}
-use Rattle.method.proofs.Takes.{takes-tell}
-use Rattle.method.proofs.Firsts.{firstPair-same}
+use Rattle.method.proofs.Takes.{taken-pair}
 use Rattle.picking.proofs.Marked.{labels-pair}
+use Rattle.classes.proofs.Fitting.{pairs-fit}
 use Rattle.classes.proofs.Partners.{none-pending}
-use Rattle.picking.proofs.Growing.{takes-below}
-
-module _ {E : Type 0} (coef : ℕ → E → ℕ) (rows : ℕ) (needed : ℕ → ℕ → Bool) where
-  pub takes-agree : (taken scan : List E) (a b : ℕ) → agree coef taken a b ≡ true → agree coef scan a b ≡ true
-      → agree coef (takes coef rows needed taken scan) a b ≡ true
-  unfolding takes agree
-  takes-agree taken [] a b h k = h
-  takes-agree taken (e ∷ scan) a b h k =
-      by-cond (λ m. agree coef (takes coef rows needed m scan) a b ≡ true) (useful coef rows needed taken e) (taken ++ (e ∷ [])) taken
-      (λ u. takes-agree (taken ++ (e ∷ [])) scan a b
-      (agree-both coef taken (e ∷ []) a b h (and-i (and-l (eqb (coef a e) (coef b e)) (agree coef scan a b) k) refl))
-      (and-r (eqb (coef a e) (coef b e)) (agree coef scan a b) k))
-      (λ u. takes-agree taken scan a b h (and-r (eqb (coef a e) (coef b e)) (agree coef scan a b) k))
-
-  module _ (scan : List E) where
-    pub taken-agree : (a b : ℕ) → a < b → b < rows → needed a b ≡ true → agree coef (takes coef rows needed [] scan) a b ≡ agree coef scan a b
-    unfolding agree
-    taken-agree a b h k n =
-        by-test (agree coef scan a b) (λ t. takes-agree [] scan a b refl t ∙ sym t)
-        (λ f. by-test (agree coef (takes coef rows needed [] scan) a b)
-        (λ t. t ∙ sym (takes-tell coef rows needed [] scan a b h k n t .1))
-        (λ g. g ∙ sym f))
-
-    pub taken-pair : firstPair rows (λ a b. needed a b && agree coef (takes coef rows needed [] scan) a b)
-        ≡ firstPair rows (λ a b. needed a b && agree coef scan a b)
-    taken-pair =
-        firstPair-same rows (λ a b. needed a b && agree coef (takes coef rows needed [] scan) a b) (λ a b. needed a b && agree coef scan a b)
-        (λ a b h k. by-test (needed a b)
-        (λ t. ap (λ (x : Bool). needed a b && x) (taken-agree a b h k t))
-        (λ f. ap (λ (x : Bool). x && agree coef (takes coef rows needed [] scan) a b) f ∙ sym (ap (λ (x : Bool). x && agree coef scan a b) f)))
+use Rattle.matrix.proofs.Within.{takes-below}
 
 module _ {two : Two} {p : Pair} (seen : pairTold two ≡ p) (l : List ℕ) where
   pub concluded-alike : (a b : ℕ) {s : Signature} → two ≡ Both a b → s ≡ signatureOf []
@@ -93,6 +61,13 @@ module _ (work : List ℕ) (width rows : ℕ) (marks : List ℕ) (count : ℕ) (
   last-own e =
       none-pending rows (slot count labels) (last-level .settled .covers) (ap (λ (n : ℕ). length (take n (slot count pending))) e)
 
+pub lent-pair : (rows : ℕ) (marks : List ℕ) {lent labels : List ℕ} {p : Pair} → lent ≡ labels → rows ≤ length marks → rows ≤ length labels
+    → p ≡ cond (pairsFit rows (length marks) (length lent)) (firstPair rows (alikeMarked lent marks)) nobody
+    → p ≡ firstPair rows (alikeMarked labels marks)
+lent-pair rows marks {labels = labels} same h k e =
+    e ∙ ap (λ (l : List ℕ). cond (pairsFit rows (length marks) (length l)) (firstPair rows (alikeMarked l marks)) nobody) same
+    ∙ pairs-fit rows (length marks) (length labels) (firstPair rows (alikeMarked labels marks)) h k
+
 module _ (work : List ℕ) (width rows : ℕ) (marks scan : List ℕ) where
   last-pair : {count : ℕ} {entries counts labels pending : List ℕ} → count ≤ length entries
       → TakenAll work width rows marks scan count entries counts labels pending
@@ -106,27 +81,29 @@ module _ (work : List ℕ) (width rows : ℕ) (marks scan : List ℕ) where
   unfolding allBelow
   chosen-below below taken = ap (allBelow width) (taken .all) ∙ takes-below (cell work width) rows (apart marks) width [] scan refl below
 
-  pub chosen-unfit : {t : Bool} {s : Signature} → t ≡ fits work width rows marks scan → not t ≡ true → s ≡ signatureOf []
-      → _≡_ {A = Choice} (record { found = Unfit; signature = s }) (choiceOf (picked work width rows marks scan))
+  pub chosen-unmarked : {r : Choice} → length marks < rows → r ≡ choiceOf unfit → r ≡ choiceOf (picked work width rows marks scan)
   unfolding picked
-  chosen-unfit {t} e f n =
-      ap (λ (s : Signature). record { found = Unfit; signature = s }) n
-      ∙ ap (λ (x : Bool). choiceOf (cond x (pickedBy (firstPair rows (λ a b. apart marks a b && agree (cell work width) scan a b))
-      (signature (cell work width) rows (apart marks) scan)) unfit))
-      (sym (not-true t f) ∙ e)
+  chosen-unmarked h e = e ∙ simp (lt-leb rows (length marks) h)
 
-  pub chosen : {count : ℕ} {entries counts labels pending : List ℕ} {r : Choice} → count ≤ length entries → fits work width rows marks scan ≡ true
+  pub chosen-unfit : {t : Bool} {r : Choice} → t ≡ fits work width rows scan → not t ≡ true → r ≡ choiceOf unfit → r ≡ choiceOf (picked work width rows marks scan)
+  unfolding picked
+  chosen-unfit {t} e f n = n ∙ simp (sym e ∙ not-true t f, and-false)
+
+  pub fitting-fit : rows ≤ length marks → fits work width rows scan ≡ true → Fit work width rows marks
+  fitting-fit h e =
+      let w = fits-fit work width rows scan e in
+      record { some = w .some; most = w .most; marked = h; filled = w .filled }
+
+  pub chosen : {count : ℕ} {entries counts labels pending : List ℕ} {r : Choice} → count ≤ length entries → rows ≤ length marks → fits work width rows scan ≡ true
       → TakenAll work width rows marks scan count entries counts labels pending
       → r ≡ choiceOf (pickedBy (firstPair rows (alikeMarked (slot count labels) marks))
       (drops (cell work width) rows (apart marks) (length (take count entries)) (take count entries)))
       → r ≡ choiceOf (picked work width rows marks scan)
-  unfolding picked signature
-  chosen {count} {entries} {counts} {labels} {pending} h f taken made =
+  unfolding picked pickedOver signature
+  chosen {count} {entries} {counts} {labels} {pending} h m f taken made =
       made
       ∙ ap₂ (λ (p : Pair) (l : List ℕ). choiceOf (pickedBy p l))
       (last-pair h taken ∙ ap (λ (l : List ℕ). firstPair rows (λ a b. apart marks a b && agree (cell work width) l a b)) (taken .all)
       ∙ taken-pair (cell work width) rows (apart marks) scan)
       (ap (λ (l : List ℕ). drops (cell work width) rows (apart marks) (length l) l) (taken .all))
-      ∙ ap (λ (x : Bool). choiceOf (cond x (pickedBy (firstPair rows (λ a b. apart marks a b && agree (cell work width) scan a b))
-      (signature (cell work width) rows (apart marks) scan)) unfit))
-      (sym f)
+      ∙ ap (λ (x : Bool). choiceOf (cond x (pickedOver work width rows (apart marks) scan) unfit)) (sym (and-i (le-leb rows (length marks) m) f))

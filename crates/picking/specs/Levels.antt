@@ -2,7 +2,6 @@
 --
 --   OwnLabels      every row is its own label
 --   clear          all pending rows have their labels' numbers at an entry
---   seek           the place of the first entry that isn't clear
 --   slot           the part of memory that has a level's numbers
 --   Level, Levels  the classes by entries taken, and those by the first of them, level by level
 --   Grows          what taking an entry does to the levels
@@ -12,14 +11,13 @@
 --   Dropping, Left     what dropping all asks for, and what it leaves
 use Prim.Native.Nat.{ℕ, suc, _+_, _*_, _≤_, _<_}
 use mathlib.Core.Path.{_≡_}
-use mathlib.Core.Bool.{Bool, true, cond, _&&_}
+use mathlib.Core.Bool.{Bool, true, _&&_}
 use mathlib.Core.List.{List, [], _∷_, _++_}
 use lib.Dec.{eqb}
 use lib.ListN.{length, take, drop, getD}
 use lib.Seq.{paste}
 use Rattle.method.specs.Method.{agree, takes, drops}
-use Rattle.classes.specs.Matrix.{cell, apart, maxRows}
-use Rattle.picking.specs.Matrix.{maxEntries}
+use Rattle.matrix.specs.Matrix.{cell, apart, maxRows, maxEntries}
 use Rattle.classes.specs.Labels.{Classed, Settled, Fit, Parts, Started}
 
 -- every row is its own label
@@ -31,10 +29,6 @@ OwnLabels rows labels = (c : ℕ) → c < rows → getD labels c 0 ≡ c
 unfoldable pub clear : (ℕ → ℕ → ℕ) → List ℕ → List ℕ → ℕ → Bool
 clear coef labels [] e = true
 clear coef labels (c ∷ more) e = eqb (coef c e) (coef (getD labels c 0) e) && clear coef labels more e
-
-unfoldable pub seek : (ℕ → Bool) → List ℕ → ℕ → ℕ
-seek test [] at = at
-seek test (e ∷ scan) at = cond (test e) (seek test scan (suc at)) at
 
 abbrev pub slot : ℕ → List ℕ → List ℕ
 slot i l = take maxRows (drop (i * maxRows) l)

@@ -1,18 +1,17 @@
 // Dropping: "Then, from the last taken to the first, one is dropped if the rest still tell all needed pairs apart."
-ghost use Prim.Native.Nat.{_+_, _*_, _≤_, _<_};
+ghost use Prim.Native.Nat.{_+_, _-_, _*_, _≤_, _<_};
 ghost use mathlib.Core.Path.{_≡_};
 ghost use mathlib.Core.Bool.{true, not};
 ghost use mathlib.Core.List.{_∷_};
 ghost use lib.ListN.{length, take, drop};
-ghost use Rattle.classes.specs.Matrix.{cell, apart, maxRows};
-ghost use Rattle.picking.specs.Matrix.{allBelow, maxEntries, signatureOf};
+ghost use Rattle.matrix.specs.Matrix.{cell, apart, maxRows, allBelow, maxEntries, signatureOf};
 ghost use Rattle.method.specs.Method.{drops};
-ghost use Rattle.classes.specs.Labels.{someOf, strayBy, lowestOf, valueIn, SomeComparable, Fit, SomeReady, Parts};
+ghost use Rattle.classes.specs.Labels.{someOf, strayBy, lowestOf, valueIn, SomeComparable, Fit, SomeReady, Parts, Fresh};
 ghost use Rattle.picking.specs.Levels.{slot, Levels, SomeDroppable, Drops, SomeDropping, DropsAll};
-use crate::MAX_ENTRIES;
-use crate::Signature;
 use crate::taking::Taken;
-use classes::MAX_ROWS;
+use matrix::MAX_ENTRIES;
+use matrix::MAX_ROWS;
+use matrix::Signature;
 
 // The entries kept stand at the end of an array, from `start` on; so many rows are pending by them.
 struct Kept {
@@ -20,7 +19,8 @@ struct Kept {
     pending: usize,
 }
 
-// Whether the entries of a level and those that the other classes are by tell all needed pairs apart.
+// Whether the entries of a level and those that the other classes are by tell all needed pairs apart. `noted` is used with a stamp that rises as the level
+// falls.
 fn told_at(
     marks: &[u8],
     labels: &[u16],
@@ -28,9 +28,10 @@ fn told_at(
     level: usize,
     count: usize,
     others: &[u16],
+    noted: &mut [u8],
 ) -> bool
-    requires { ⌜ SomeComparable (now marks) (slot level (now labels)) (take count (slot level (now pending))) (now others) × (count ≤ maxRows) × (level < maxRows) × (length (now labels) ≡ maxRows * maxRows) × (length (now pending) ≡ maxRows * maxRows) ⌝ }
-    ensures { λ r. ⌜ r ≡ not (someOf (strayBy (lowestOf (slot level (now (labels .entry))) (valueIn (now (others .entry)))) (now (marks .entry))) (take count (slot level (now (pending .entry))))) ⌝ }
+    requires { ⌜ SomeComparable (now marks) (slot level (now labels)) (take count (slot level (now pending))) (now others) × (count ≤ maxRows) × (level < maxRows) × (length (now labels) ≡ maxRows * maxRows) × (length (now pending) ≡ maxRows * maxRows) × (length (now noted) ≡ maxRows * maxRows) × Fresh (maxRows - level) (now noted) ⌝ }
+    ensures { λ r. ⌜ (r ≡ not (someOf (strayBy (lowestOf (slot level (now (labels .entry))) (valueIn (now (others .entry)))) (now (marks .entry))) (take count (slot level (now (pending .entry)))))) × Fresh (maxRows - level + 1) (now (noted .exit)) ⌝ }
 {
     let at = level * MAX_ROWS;
     classes::told_together(
@@ -38,6 +39,8 @@ fn told_at(
         &labels[at..at + MAX_ROWS],
         &pending[at..at + count],
         others,
+        noted,
+        (MAX_ROWS - level) as u8,
     )
 }
 
@@ -83,14 +86,25 @@ fn drop_at(
     others: &mut [u16],
     left: &mut [u16],
     entries: &mut [u16],
+    noted: &mut [u8],
 ) -> Kept
-    requires { ⌜ SomeDroppable (now work) width (now marks) level (slot level (now labels)) (slot level (now pending)) seen entry (kept .start) (now entries) (now others) (now left) (kept .pending) × (entry < width) × (level < maxRows) × (length (now labels) ≡ maxRows * maxRows) × (length (now pending) ≡ maxRows * maxRows) × (length (now others) ≡ maxRows) × (length (now left) ≡ maxRows) × (length (now entries) ≡ maxEntries) ⌝ }
-    ensures { λ r. ⌜ Drops (now (work .entry)) width (now (marks .entry)) level (slot level (now (labels .entry))) (slot level (now (pending .entry))) seen entry (kept .start) (now (entries .entry)) (now (others .entry)) (now (left .entry)) (kept .pending) (r .start) (now (entries .exit)) (now (others .exit)) (now (left .exit)) (r .pending) ⌝ }
+    requires { ⌜ SomeDroppable (now work) width (now marks) level (slot level (now labels)) (slot level (now pending)) seen entry (kept .start) (now entries) (now others) (now left) (kept .pending) × (entry < width) × (level < maxRows) × (length (now labels) ≡ maxRows * maxRows) × (length (now pending) ≡ maxRows * maxRows) × (length (now others) ≡ maxRows) × (length (now left) ≡ maxRows) × (length (now entries) ≡ maxEntries) × (length (now noted) ≡ maxRows * maxRows) × Fresh (maxRows - level) (now noted) ⌝ }
+    ensures { λ r. ⌜ Drops (now (work .entry)) width (now (marks .entry)) level (slot level (now (labels .entry))) (slot level (now (pending .entry))) seen entry (kept .start) (now (entries .entry)) (now (others .entry)) (now (left .entry)) (kept .pending) (r .start) (now (entries .exit)) (now (others .exit)) (now (left .exit)) (r .pending) × Fresh (maxRows - level + 1) (now (noted .exit)) ⌝ }
 {
-    if told_at(marks, labels, pending, level, seen, others) {
+    if told_at(marks, labels, pending, level, seen, others, noted) {
         return kept;
     }
     keep(work, width, marks, entry, kept, others, left, entries)
+}
+
+// No entry is kept yet.
+fn none_kept(pending: usize) -> Kept
+    ensures { λ r. ⌜ r ≡ record { start = maxEntries; pending = pending } ⌝ }
+{
+    Kept {
+        start: MAX_ENTRIES,
+        pending,
+    }
 }
 
 // From the last taken to the first. Gives the place from which on the entries kept stand.
@@ -104,15 +118,13 @@ fn drop_all(
     others: &mut [u16],
     left: &mut [u16],
     entries: &mut [u16],
+    noted: &mut [u8],
     count: usize,
 ) -> usize
-    requires { ⌜ SomeDropping (now work) width (now marks) (take (taken .count) (taken .entries)) (taken .pending) (now labels) (now pending) (now others) (now left) count × (taken .count ≤ maxEntries) × (allBelow width (take (taken .count) (taken .entries)) ≡ true) × (length (now labels) ≡ maxRows * maxRows) × (length (now pending) ≡ maxRows * maxRows) × (length (now others) ≡ maxRows) × (length (now left) ≡ maxRows) × (length (now entries) ≡ maxEntries) ⌝ }
+    requires { ⌜ SomeDropping (now work) width (now marks) (take (taken .count) (taken .entries)) (taken .pending) (now labels) (now pending) (now others) (now left) count × (taken .count ≤ maxEntries) × (allBelow width (take (taken .count) (taken .entries)) ≡ true) × (length (now labels) ≡ maxRows * maxRows) × (length (now pending) ≡ maxRows * maxRows) × (length (now others) ≡ maxRows) × (length (now left) ≡ maxRows) × (length (now entries) ≡ maxEntries) × (length (now noted) ≡ maxRows * maxRows) × Fresh 1 (now noted) ⌝ }
     ensures { λ r. ⌜ DropsAll (now (work .entry)) width (now (marks .entry)) (take (taken .count) (taken .entries)) (taken .pending) (now (labels .entry)) (now (pending .entry)) (now (others .entry)) (now (left .entry)) count r (now (entries .exit)) ⌝ }
 {
-    let mut kept = Kept {
-        start: MAX_ENTRIES,
-        pending: count,
-    };
+    let mut kept = none_kept(count);
     let mut level = taken.count;
     while 0 < level {
         level -= 1;
@@ -129,24 +141,10 @@ fn drop_all(
             others,
             left,
             entries,
+            noted,
         );
     }
     kept.start
-}
-
-// The kept entries from the start on, the places after them 0.
-fn aligned(start: usize, kept: &[u16]) -> Signature
-    requires { ⌜ (start ≤ maxEntries) × (length (now kept) ≡ maxEntries) ⌝ }
-    ensures { λ r. ⌜ r ≡ signatureOf (drop start (now (kept .entry))) ⌝ }
-{
-    let mut entries = [0u16; MAX_ENTRIES];
-    let count = kept.len() - start;
-    let mut i = 0;
-    while i < count {
-        entries[i] = kept[start + i];
-        i += 1;
-    }
-    Signature { count, entries }
 }
 
 // What dropping leaves of the entries taken.
@@ -165,6 +163,7 @@ pub(crate) fn signature(
     let mut others = [0u16; MAX_ROWS];
     let mut left = [0u16; MAX_ROWS];
     let mut kept = [0u16; MAX_ENTRIES];
+    let mut noted = [0u8; MAX_ROWS * MAX_ROWS];
     let count = classes::settling::start(&mut others, &mut left, rows, marks);
     let start = drop_all(
         work,
@@ -176,7 +175,8 @@ pub(crate) fn signature(
         &mut others,
         &mut left,
         &mut kept,
+        &mut noted,
         count,
     );
-    aligned(start, &kept)
+    matrix::aligned(start, &kept)
 }

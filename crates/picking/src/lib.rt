@@ -6,82 +6,17 @@ ghost use mathlib.Core.Bool.{true};
 ghost use mathlib.Core.List.{[]};
 ghost use lib.ListN.{length, take, getD};
 ghost use Rattle.method.specs.Method.{firstPair, drops};
-ghost use Rattle.classes.specs.Matrix.{cell, apart, maxRows};
-ghost use Rattle.picking.specs.Matrix.{allBelow, fits, picked, pickedBy, choiceOf, signatureOf, maxEntries};
+ghost use Rattle.matrix.specs.Matrix.{cell, apart, maxRows, allBelow, fits, picked, pickedBy, choiceOf, signatureOf, maxEntries};
 ghost use Rattle.classes.specs.Labels.{pairTold, alikeMarked, Fit};
 ghost use Rattle.picking.specs.Levels.{slot, OwnLabels, Levels};
-use classes::MAX_ROWS;
 use classes::Two;
+use matrix::Choice;
+use matrix::Found;
+use matrix::MAX_ROWS;
 use taking::Taken;
 
 mod dropping;
 mod taking;
-
-// The method takes fewer entries than there are rows.
-pub const MAX_ENTRIES: usize = 63;
-
-// Entries in the order of taking; the places past the count are 0.
-pub struct Signature {
-    pub count: usize,
-    pub entries: [u16; MAX_ENTRIES],
-}
-
-// All marks are told apart; or these two rows are not, the first such pair; or the lent memory is no such matrix.
-pub enum Found {
-    Told,
-    Alike(usize, usize),
-    Unfit,
-}
-
-pub struct Choice {
-    pub found: Found,
-    pub signature: Signature,
-}
-
-fn no_signature() -> Signature
-    ensures { λ r. ⌜ r ≡ signatureOf [] ⌝ }
-{
-    Signature {
-        count: 0,
-        entries: [0u16; MAX_ENTRIES],
-    }
-}
-
-// Whether every entry lies within a row.
-fn all_below(scan: &[u16], width: usize) -> bool
-    ensures { λ r. ⌜ r ≡ allBelow width (now (scan .entry)) ⌝ }
-{
-    let mut i = 0;
-    while i < scan.len() {
-        if width <= scan[i] as usize {
-            return false;
-        }
-        i += 1;
-    }
-    true
-}
-
-// Whether there are so many rows of so many numbers, a mark for each, and every entry lies within a row.
-fn fitting(work: &[u16], width: usize, rows: usize, marks: &[u8], scan: &[u16]) -> bool
-    ensures { λ r. ⌜ r ≡ fits (now (work .entry)) width rows (now (marks .entry)) (now (scan .entry)) ⌝ }
-{
-    if rows < 1 {
-        return false;
-    }
-    if MAX_ROWS < rows {
-        return false;
-    }
-    if marks.len() < rows {
-        return false;
-    }
-    if width < 1 {
-        return false;
-    }
-    if work.len() / width < rows {
-        return false;
-    }
-    all_below(scan, width)
-}
 
 // The first two rows that the entries taken do not tell apart and should. Mostly no row is pending: then there are no such rows.
 fn first_pair(rows: usize, marks: &[u8], taken: Taken, labels: &[u16]) -> Two
@@ -113,7 +48,7 @@ fn conclude(
     match pair {
         Two::Both(a, b) => Choice {
             found: Found::Alike(a, b),
-            signature: no_signature(),
+            signature: matrix::no_signature(),
         },
         Two::Nobody => Choice {
             found: Found::Told,
@@ -124,7 +59,7 @@ fn conclude(
 
 // The answer of a matrix. The levels of taking stand in two arrays, a label and a pending row for each row of each level.
 fn choose_fit(work: &[u16], width: usize, rows: usize, marks: &[u8], scan: &[u16]) -> Choice
-    requires { ⌜ fits (now work) width rows (now marks) (now scan) ≡ true ⌝ }
+    requires { ⌜ (rows ≤ length (now marks)) × (fits (now work) width rows (now scan) ≡ true) ⌝ }
     ensures { λ r. ⌜ r ≡ choiceOf (picked (now (work .entry)) width rows (now (marks .entry)) (now (scan .entry))) ⌝ }
 {
     let mut labels = [0u16; MAX_ROWS * MAX_ROWS];
@@ -137,11 +72,11 @@ fn choose_fit(work: &[u16], width: usize, rows: usize, marks: &[u8], scan: &[u16
 pub fn choose(work: &[u16], width: usize, rows: usize, marks: &[u8], scan: &[u16]) -> Choice
     ensures { λ r. ⌜ r ≡ choiceOf (picked (now (work .entry)) width rows (now (marks .entry)) (now (scan .entry))) ⌝ }
 {
-    if !fitting(work, width, rows, marks, scan) {
-        return Choice {
-            found: Found::Unfit,
-            signature: no_signature(),
-        };
+    if marks.len() < rows {
+        return matrix::no_choice();
+    }
+    if !matrix::fitting(work, width, rows, scan) {
+        return matrix::no_choice();
     }
     choose_fit(work, width, rows, marks, scan)
 }

@@ -4,12 +4,11 @@ ghost use Prim.Native.Nat.{_+_, _*_, _≤_, _<_};
 ghost use mathlib.Core.Path.{_≡_};
 ghost use mathlib.Core.Bool.{true};
 ghost use lib.ListN.{length, take, drop};
-ghost use Rattle.classes.specs.Matrix.{cell, maxRows};
-ghost use Rattle.picking.specs.Matrix.{allBelow, maxEntries};
+ghost use Rattle.matrix.specs.Matrix.{cell, maxRows, allBelow, maxEntries, seek};
 ghost use Rattle.classes.specs.Labels.{OpenFit, SomeReady, Fit, Started};
-ghost use Rattle.picking.specs.Levels.{clear, seek, slot, copied, Grows, SomeBegun, Takings, TakenAll};
-use crate::MAX_ENTRIES;
-use classes::MAX_ROWS;
+ghost use Rattle.picking.specs.Levels.{clear, slot, copied, Grows, SomeBegun, Takings, TakenAll};
+use matrix::MAX_ENTRIES;
+use matrix::MAX_ROWS;
 
 // The entries taken, in order, and the number of pending rows of each level.
 pub(crate) struct Taken {

@@ -30,8 +30,7 @@ use Rattle.job.specs.Record.{gateOf, faultOf, lines, emptyJob, noGates, noFault
 use Rattle.job.specs.declared.FaultEntry.{FaultEntry}
 use Rattle.job.specs.declared.GateEntry.{GateEntry}
 use Rattle.job.specs.declared.Job.{Job}
-use Rattle.reading.specs.Reading.{Entry, entryFields, unaryLinesOk, gate, faultLinesOk, fault, entriesFrom, spare}
-use Rattle.reading.specs.Reading.{fromEnd, fromFaults, fromFaultCount, fromOutput, fromGates, wholeJob, valueRead, reading}
+use Rattle.reading.specs.Reading.{Entry, entryFields, unaryLinesOk, gate, faultLinesOk, fault, entriesFrom, spare, fromEnd, fromFaults, fromFaultCount, fromOutput, fromGates, wholeJob, valueRead, reading}
 
 pub record EntryTaken (w : ℕ) (bits : List ℕ) (e : Entry) (rest : List ℕ) : Type 0 where
   pub text : bits ≡ bitsOf w (e .kind) ++ (bitsOf lineBits (e .a) ++ (bitsOf lineBits (e .b) ++ rest))

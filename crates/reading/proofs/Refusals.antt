@@ -17,8 +17,7 @@ use Rattle.job.specs.Check.{inputsOk, gateCountOk, outputOk, faultLineOk}
 use Rattle.job.specs.Layout.{inputCountBits, gateCountBits, gateKindBits, lineBits, faultCountBits, faultKindBits}
 use Rattle.job.specs.Record.{faultOf, lines, emptyJob}
 use Rattle.job.specs.declared.Job.{Job}
-use Rattle.reading.specs.Reading.{entryFields, unaryLinesOk, gate, faultLinesOk, fault, entriesFrom, spare, withGates, withOutput, withFaultCount, withFaults, withCounts}
-use Rattle.reading.specs.Reading.{fromEnd, fromFaults, fromFaultCount, fromOutput, fromGates, wholeJob, valueRead, reading}
+use Rattle.reading.specs.Reading.{entryFields, unaryLinesOk, gate, faultLinesOk, fault, entriesFrom, spare, withGates, withOutput, withFaultCount, withFaults, withCounts, fromEnd, fromFaults, fromFaultCount, fromOutput, fromGates, wholeJob, valueRead, reading}
 
 -- nine is the last of reading's numbers
 abbrev Known : {A : Type 0} → Answer A → Type 0

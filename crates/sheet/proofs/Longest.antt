@@ -37,8 +37,8 @@ use Rattle.spectra.proofs.WorkPlaces.{length-circuitSpectra, circuitSpectra-at}
 use Rattle.method.specs.Method.{Pair}
 use Rattle.method.specs.Method.Pair.{nobody, pair}
 use Rattle.method.proofs.Firsts.{firstPair-pair}
-use Rattle.picking.specs.Matrix.{signatureOf}
-use Rattle.classes.proofs.Cells.{cell-within}
+use Rattle.matrix.specs.Matrix.{signatureOf}
+use Rattle.matrix.proofs.Cells.{cell-within}
 use Rattle.choosing.specs.Choosing.{Choice, needed, signatureIn, sameTables, alikePair, choiceBy, chosenOf, chose}
 use Rattle.choosing.specs.declared.Purpose.the-variants.{Isolating}
 use Rattle.choosing.proofs.Bounded.{signature-short, signature-below}

@@ -28,9 +28,9 @@ use Rattle.spectra.proofs.WorkPlaces.{length-circuitSpectra}
 use Rattle.method.specs.Method.{Pair}
 use Rattle.method.specs.Method.Pair.{nobody, pair}
 use Rattle.method.proofs.Pairs.{by-test}
-use Rattle.picking.specs.Matrix.{signatureOf}
-use Rattle.picking.specs.declared.Signature.{Signature}
-use Rattle.picking.proofs.Within.{members-below, entry-below}
+use Rattle.matrix.specs.Matrix.{signatureOf}
+use Rattle.matrix.specs.declared.Signature.{Signature}
+use Rattle.matrix.proofs.Within.{members-below, entry-below}
 use Rattle.choosing.specs.Choosing.{Finding, Chose, signatureIn, alikePair, choiceBy, chosenOf, verdictTold}
 use Rattle.choosing.specs.Choosing.Finding.{chosen, alike}
 use Rattle.choosing.specs.declared.Purpose.the-variants.{Isolating}

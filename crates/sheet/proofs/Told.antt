@@ -11,8 +11,8 @@ use lib.ListN.{length}
 use Rattle.bits.specs.Answer.{number}
 use Rattle.bits.specs.declared.Refusal.{Refusal}
 use Rattle.tables.specs.declared.Counts.{Counts}
-use Rattle.picking.specs.Matrix.{maxEntries}
-use Rattle.picking.specs.declared.Signature.{Signature}
+use Rattle.matrix.specs.Matrix.{maxEntries}
+use Rattle.matrix.specs.declared.Signature.{Signature}
 use Rattle.choosing.specs.Choosing.{verdictTold}
 use Rattle.choosing.specs.declared.Verdict.{Verdict}
 use Rattle.choosing.specs.declared.Verdict.the-variants.{Done, Alike, Refused}

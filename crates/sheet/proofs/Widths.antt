@@ -16,8 +16,7 @@ use lib.Dec.{ltb}
 use lib.ListN.{length, length-append}
 use Rattle.tables.specs.declared.Counts.{Counts}
 use Rattle.method.proofs.Pairs.{by-cond}
-use Rattle.sheet.specs.Sheet.{digits, decimal, numbersText, inputsWord, gatesWord, faultsWord, signatureWord, refusedWord, alikeWord}
-use Rattle.sheet.specs.Sheet.{countsLine, signatureLine, circuitLine, circuitLines, refusedLine, alikeLine}
+use Rattle.sheet.specs.Sheet.{digits, decimal, numbersText, inputsWord, gatesWord, faultsWord, signatureWord, refusedWord, alikeWord, countsLine, signatureLine, circuitLine, circuitLines, refusedLine, alikeLine}
 
 -- ---- a number's digits
 

@@ -11,8 +11,8 @@ use mathlib.Core.List.{List}
 use lib.ListN.{length, getD}
 use Rattle.job.specs.Layout.{maxFaults}
 use Rattle.gates.specs.Rows.{splice}
-use Rattle.picking.specs.Matrix.{maxEntries}
-use Rattle.picking.specs.declared.Signature.{Signature}
+use Rattle.matrix.specs.Matrix.{maxEntries}
+use Rattle.matrix.specs.declared.Signature.{Signature}
 use Rattle.choosing.specs.declared.Verdict.{Verdict}
 use Rattle.choosing.specs.declared.Verdict.the-variants.{Done, Alike, Refused}
 use Rattle.sheet.specs.Sheet.{listOf}

@@ -19,7 +19,7 @@ use Rattle.bits.specs.Answer.Answer.{gives, refused}
 use Rattle.gates.specs.Rows.{splice}
 use Rattle.tables.specs.declared.Counts.{Counts}
 use Rattle.transform.specs.declared.Kind.the-variants.{Mrm}
-use Rattle.picking.specs.declared.Signature.{Signature}
+use Rattle.matrix.specs.declared.Signature.{Signature}
 use Rattle.choosing.specs.Choosing.{Finding, Chose, chosenOf, chose}
 use Rattle.choosing.specs.Choosing.Finding.{chosen, alike}
 use Rattle.choosing.specs.declared.Purpose.the-variants.{Isolating}

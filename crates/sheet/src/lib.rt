@@ -10,7 +10,7 @@ ghost use Rattle.sheet.specs.Sheet.{decimal, space, numbersText, countsL
 use choosing::Purpose;
 use choosing::Verdict;
 use job::MAX_FAULTS;
-use picking::Signature;
+use matrix::Signature;
 use tables::Counts;
 use transform::Kind;
 

@@ -42,8 +42,7 @@ use Rattle.job.proofs.Sizes.{all-lines, all-inputs, all-gates, all-faults}
 use Rattle.job.proofs.Unused.{length-noGates, length-noFaults}
 use Rattle.job.proofs.Check.{valid}
 use Rattle.job.proofs.Numbers.{gateKind-of, gateA-of, gateB-of, faultKind-of, faultA-of, faultB-of, gateOf-parts, faultOf-parts, gateKind-lt, faultKind-lt}
-use Rattle.reading.specs.Reading.{entryFields, unaryLinesOk, gate, faultLinesOk, fault, entriesFrom, spare}
-use Rattle.reading.specs.Reading.{fromEnd, fromFaults, fromFaultCount, fromOutput, fromGates, wholeJob, valueRead, reading}
+use Rattle.reading.specs.Reading.{entryFields, unaryLinesOk, gate, faultLinesOk, fault, entriesFrom, spare, fromEnd, fromFaults, fromFaultCount, fromOutput, fromGates, wholeJob, valueRead, reading}
 use Rattle.reading.proofs.Parts.{GateTaken, FaultTaken, Chain, EntriesTaken, sets-taken, Parts, reading-parts}
 use Rattle.reading.proofs.Valid.{reading-checked, reading-lengths, reading-valid}
 use Rattle.writing.specs.Writing.{entryBits, gateBits, faultBits, allBits, jobBits, written}

@@ -1,6 +1,6 @@
 -- `choosing::concluded` meets its contract.
 use mathlib.Core.Path.{sym, ap}
-use Rattle.picking.specs.declared.Found.{Found}
+use Rattle.matrix.specs.declared.Found.{Found}
 use Rattle.choosing.specs.Looking.{verdictOf}
 use Rattle.choosing.proofs.concluded.Statement.{statement}
 use Rattle.choosing.proofs.concluded.Tie as tie

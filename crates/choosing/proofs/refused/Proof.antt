@@ -1,6 +1,6 @@
 -- `choosing::refused` meets its contract.
 use mathlib.Core.Path.{refl}
-use Rattle.picking.specs.Matrix.{maxEntries, zeros}
+use Rattle.matrix.specs.Matrix.{maxEntries, zeros}
 use Rattle.choosing.proofs.refused.Statement.{statement}
 use Rattle.choosing.proofs.refused.Tie as tie
 

@@ -1,51 +1,24 @@
--- `classes::search_pairs` meets its contract.
-use native.Mathlib.Numerals.{add-one-le}
-use mir.Facts.{fits-le}
-use Prim.Native.Nat.{_-_}
+-- `classes::search_pairs` meets its contract: where a row has no mark or no label there is nobody.
+use lib.ListN.{length}
+use mathlib.Core.Path.{sym, _∙_}
 use denote.Ref.{now}
-use borrow.Author.Count.{falls}
+use Rattle.method.specs.Method.{firstPair}
 use Rattle.classes.specs.Labels.{alikeMarked}
-use Rattle.classes.proofs.Partners.{Unpaired, unpaired-none, unpaired-found, unpaired-next, unpaired-all}
+use Rattle.classes.proofs.Fitting.{pairs-unmarked, pairs-unlabelled, pairs-fit}
 use Rattle.classes.proofs.search_pairs.Statement.{statement}
 use Rattle.classes.proofs.search_pairs.Tie as tie
 
-abbrev Inv-loop : tie.InvT-loop
-Inv-loop rows marks labels a₀ a = Unpaired rows (alikeMarked labels marks) a
+returns : tie.Need-returns
+returns c = let a = c .before .before .before .args in pairs-unmarked (a .rows) (length (now (a .marks))) (length (now (a .labels))) (firstPair (a .rows) (alikeMarked (now (a .labels)) (now (a .marks)))) (c .if1 .taken)
 
-abbrev μ-loop : tie.MeasureT-loop
-μ-loop rows marks labels a₀ a = rows - a
+returns-2 : tie.Need-returns-2
+returns-2 c = let a = c .before .before .before .before .args in pairs-unlabelled (a .rows) (length (now (a .marks))) (length (now (a .labels))) (firstPair (a .rows) (alikeMarked (now (a .labels)) (now (a .marks)))) (c .if2 .taken)
 
-loop-holds : tie.Need-loop-holds Inv-loop μ-loop
-loop-holds c = let a = c .before .before .args in unpaired-none (a .rows) (alikeMarked (now (a .labels)) (now (a .marks)))
+first-two-requires : tie.Need-first-two-requires
+first-two-requires c κs = (c .before .if1 .left, c .if2 .left)
 
-partner-requires : tie.Need-partner-requires Inv-loop μ-loop
-partner-requires c κs = (c .before .before .before .before .pre .0, c .before .before .before .before .pre .1, c .loop-test .taken)
-
-returns : tie.Need-returns Inv-loop μ-loop
-returns c = let a = c .before .before .before .before .before .before .args in unpaired-found (a .rows) (alikeMarked (now (a .labels)) (now (a .marks))) (c .before .before .before .loop .inv) (c .before .before .loop-test .taken) (c .before .partner .ensures) (c .if1 .taken)
-
-add-a : tie.Need-add-a Inv-loop μ-loop
-add-a c = fits-le (add-one-le (c .before .before .loop-test .taken)) (c .before .before .before .before .before .before .fits .rows)
-
-loop-less : tie.Need-loop-less Inv-loop μ-loop
-loop-less c = falls _ _ (c .before .before .loop-test .taken)
-
-loop-again : tie.Need-loop-again Inv-loop μ-loop
-loop-again c = let a = c .before .before .before .before .before .before .args in unpaired-next (a .rows) (alikeMarked (now (a .labels)) (now (a .marks))) (c .before .before .before .loop .inv) (c .before .before .loop-test .taken) (c .before .partner .ensures) (c .if1 .left)
-
-returns-2 : tie.Need-returns-2 Inv-loop μ-loop
-returns-2 c = let a = c .before .before .before .before .args in unpaired-all (a .rows) (alikeMarked (now (a .labels)) (now (a .marks))) (c .before .loop .inv) (c .loop-test .left)
+returns-3 : tie.Need-returns-3
+returns-3 c = let a = c .before .before .before .before .before .args in c .first-two .ensures ∙ sym (pairs-fit (a .rows) (length (now (a .marks))) (length (now (a .labels))) (firstPair (a .rows) (alikeMarked (now (a .labels)) (now (a .marks)))) (c .before .before .if1 .left) (c .before .if2 .left))
 
 pub search-pairs-spec : {M : Type 1} → statement M
-search-pairs-spec =
-    tie.close
-    (tie.spec
-    Inv-loop
-    μ-loop
-    loop-holds
-    partner-requires
-    returns
-    add-a
-    loop-less
-    loop-again
-    returns-2)
+search-pairs-spec = tie.close (tie.spec returns returns-2 first-two-requires returns-3)

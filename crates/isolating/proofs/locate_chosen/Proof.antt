@@ -1,9 +1,8 @@
 -- `isolating::locate_chosen` meets its contract.
 use lib.ListN.{replicate}
 use denote.Ref.{now}
-use borrow.Author.Needs.{needs}
-use borrow.Author.Needs.{length-unmapped}
-use Rattle.picking.specs.Matrix.{maxEntries}
+use borrow.Author.Needs.{needs, length-unmapped}
+use Rattle.matrix.specs.Matrix.{maxEntries}
 use Rattle.isolating.proofs.Drawn.{inputs-shift, start-fits, signed-inside, signed-counted, row-asked, drawn-inside, drawn-counted, located-drawn, located-over}
 use Rattle.isolating.proofs.locate_chosen.Statement.{statement}
 use Rattle.isolating.proofs.locate_chosen.Tie as tie

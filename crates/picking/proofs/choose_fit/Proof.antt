@@ -2,11 +2,10 @@
 use borrow.Author.Needs.{length-unmapped}
 use mathlib.Core.Path.{refl, sym}
 use denote.Ref.{now}
-use Rattle.classes.specs.Matrix.{maxRows}
-use Rattle.picking.specs.Matrix.{maxEntries}
-use Rattle.classes.proofs.Sizes.{count-within}
-use Rattle.picking.proofs.Fits.{fits-fit}
-use Rattle.picking.proofs.Whole.{chosen, chosen-below}
+use Rattle.matrix.specs.Matrix.{maxRows, maxEntries}
+use Rattle.matrix.proofs.Sizes.{count-within}
+use Rattle.matrix.proofs.Fits.{fits-fit}
+use Rattle.picking.proofs.Whole.{chosen, chosen-below, fitting-fit}
 use Rattle.picking.proofs.choose_fit.Statement.{statement}
 use Rattle.picking.proofs.choose_fit.Tie as tie
 
@@ -18,7 +17,7 @@ slice-aggregate-take-2 c = refl
 
 take-requires : tie.Need-take-requires
 unfolding maxRows
-take-requires c κs = let a = c .before .before .before .before .before .args in ((fits-fit (now (a .work)) (a .width) (a .rows) (now (a .marks)) (now (a .scan)) (c .before .before .before .before .before .pre)) .0, (fits-fit (now (a .work)) (a .width) (a .rows) (now (a .marks)) (now (a .scan)) (c .before .before .before .before .before .pre)) .1, refl, refl)
+take-requires c κs = let a = c .before .before .before .before .before .args in (fitting-fit (now (a .work)) (a .width) (a .rows) (now (a .marks)) (now (a .scan)) (c .before .before .before .before .before .pre .0) (c .before .before .before .before .before .pre .1), fits-fit (now (a .work)) (a .width) (a .rows) (now (a .scan)) (c .before .before .before .before .before .pre .1) .within, refl, refl)
 
 slice-aggregate-conclude : tie.Need-slice-aggregate-conclude
 slice-aggregate-conclude c = sym (c .before .before .before .take .kept .1 .1 .1 .1 .1 .0)
@@ -28,11 +27,11 @@ slice-aggregate-conclude-2 c = sym (c .before .before .before .before .take .kep
 
 conclude-requires : tie.Need-conclude-requires
 unfolding maxRows
-conclude-requires c κs = let a = c .before .before .before .before .before .before .before .before .before .before .args in ((fits-fit (now (a .work)) (a .width) (a .rows) (now (a .marks)) (now (a .scan)) (c .before .before .before .before .before .before .before .before .before .before .pre)) .0, c .before .before .before .before .take .ensures .few, chosen-below (now (a .work)) (a .width) (a .rows) (now (a .marks)) (now (a .scan)) ((fits-fit (now (a .work)) (a .width) (a .rows) (now (a .marks)) (now (a .scan)) (c .before .before .before .before .before .before .before .before .before .before .pre)) .1) (c .before .before .before .before .take .ensures), c .before .before .before .before .take .ensures .levels, c .before .before .before .before .take .kept .1 .1 .1 .1 .1 .0, c .before .before .before .before .take .kept .1 .1 .1 .1 .1 .1 .0)
+conclude-requires c κs = let a = c .before .before .before .before .before .before .before .before .before .before .args in (fitting-fit (now (a .work)) (a .width) (a .rows) (now (a .marks)) (now (a .scan)) (c .before .before .before .before .before .before .before .before .before .before .pre .0) (c .before .before .before .before .before .before .before .before .before .before .pre .1), c .before .before .before .before .take .ensures .few, chosen-below (now (a .work)) (a .width) (a .rows) (now (a .marks)) (now (a .scan)) (fits-fit (now (a .work)) (a .width) (a .rows) (now (a .scan)) (c .before .before .before .before .before .before .before .before .before .before .pre .1) .within) (c .before .before .before .before .take .ensures), c .before .before .before .before .take .ensures .levels, c .before .before .before .before .take .kept .1 .1 .1 .1 .1 .0, c .before .before .before .before .take .kept .1 .1 .1 .1 .1 .1 .0)
 
 returns : tie.Need-returns
 unfolding maxEntries
-returns c = let a = c .before .before .before .before .before .before .before .before .before .before .before .args in chosen (now (a .work)) (a .width) (a .rows) (now (a .marks)) (now (a .scan)) (count-within (length-unmapped _ (c .before .before .before .before .before .take .result .entries) _ (c .before .before .before .before .before .take .ok .1 .1 .1 .0 .1 .0 .1)) (c .before .before .before .before .before .take .ensures .few)) (c .before .before .before .before .before .before .before .before .before .before .before .pre) (c .before .before .before .before .before .take .ensures) (c .conclude .ensures)
+returns c = let a = c .before .before .before .before .before .before .before .before .before .before .before .args in chosen (now (a .work)) (a .width) (a .rows) (now (a .marks)) (now (a .scan)) (count-within (length-unmapped _ (c .before .before .before .before .before .take .result .entries) _ (c .before .before .before .before .before .take .ok .1 .1 .1 .0 .1 .0 .1)) (c .before .before .before .before .before .take .ensures .few)) (c .before .before .before .before .before .before .before .before .before .before .before .pre .0) (c .before .before .before .before .before .before .before .before .before .before .before .pre .1) (c .before .before .before .before .before .take .ensures) (c .conclude .ensures)
 
 pub choose-fit-spec : {M : Type 1} → statement M
 choose-fit-spec =

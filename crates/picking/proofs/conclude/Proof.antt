@@ -3,9 +3,8 @@ use borrow.Author.Needs.{length-unmapped}
 use lib.ListN.{length, take}
 use denote.Ref.{now}
 use Rattle.method.specs.Method.{drops}
-use Rattle.classes.specs.Matrix.{cell, apart}
-use Rattle.picking.specs.Matrix.{maxEntries}
-use Rattle.classes.proofs.Sizes.{count-within}
+use Rattle.matrix.specs.Matrix.{cell, apart, maxEntries}
+use Rattle.matrix.proofs.Sizes.{count-within}
 use Rattle.picking.proofs.Whole.{last-own, concluded-alike, concluded-told}
 use Rattle.picking.proofs.conclude.Statement.{statement}
 use Rattle.picking.proofs.conclude.Tie as tie

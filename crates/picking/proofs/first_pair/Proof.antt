@@ -1,17 +1,14 @@
 -- `picking::first_pair` meets its contract.
-use native.Mathlib.Nat.{le-refl, le-trans, le-of-eq}
-use Prim.Native.Nat.{ℕ, _*_}
-use mathlib.Core.Path.{ap, sym, _∙_}
-use mathlib.Core.List.{List}
-use lib.ListN.{length}
+use native.Mathlib.Nat.{le-refl, le-add-right}
+use Prim.Native.Nat.{_*_}
 use denote.Ref.{now}
-use Rattle.method.specs.Method.{firstPair}
-use Rattle.classes.specs.Matrix.{maxRows}
-use Rattle.classes.specs.Labels.{alikeMarked}
+use Rattle.matrix.specs.Matrix.{maxRows}
 use Rattle.picking.specs.Levels.{slot}
-use Rattle.picking.proofs.Sizes.{entries-row}
+use Rattle.matrix.proofs.Sizes.{count-within, entries-row}
 use Rattle.classes.proofs.Partners.{own-unpaired}
-use Rattle.picking.proofs.Slots.{slot-fits, slot-add, slot-scaled, slot-ends, slot-inside, slot-length, slot-lent}
+use Rattle.picking.proofs.Slots.{slot-length, slot-lent}
+use Rattle.matrix.proofs.Slots.{slot-fits, slot-add, slot-scaled, slot-inside}
+use Rattle.picking.proofs.Whole.{lent-pair}
 use Rattle.picking.proofs.first_pair.Statement.{statement}
 use Rattle.picking.proofs.first_pair.Tie as tie
 
@@ -36,23 +33,22 @@ mul-search-pairs c = slot-scaled (entries-row (c .before .before .before .before
 
 sub-search-pairs : tie.Need-sub-search-pairs
 unfolding maxRows
-sub-search-pairs c = slot-ends (c .before .before .before .before .args .t3 .count * maxRows) maxRows
+sub-search-pairs c = le-add-right (c .before .before .before .before .args .t3 .count * maxRows) maxRows
 
 part-search-pairs-start : tie.Need-part-search-pairs-start
 unfolding maxRows
-part-search-pairs-start c = slot-ends (c .before .before .before .before .args .t3 .count * maxRows) maxRows
+part-search-pairs-start c = le-add-right (c .before .before .before .before .args .t3 .count * maxRows) maxRows
 
 part-search-pairs-end : tie.Need-part-search-pairs-end
 unfolding maxRows
 part-search-pairs-end c = slot-inside (entries-row (c .before .before .before .before .pre .2)) (now (c .before .before .before .before .args .labels)) (le-refl maxRows) (c .before .before .before .before .pre .4)
 
 search-pairs-requires : tie.Need-search-pairs-requires
-unfolding maxRows
-search-pairs-requires c κs = let a = c .before .before .before .before .before .args in (c .before .before .before .before .before .pre .1, le-trans (c .before .before .before .before .before .pre .0) (le-of-eq (sym (ap length (slot-lent (a .t3 .count) (now (a .labels))) ∙ slot-length (entries-row (c .before .before .before .before .before .pre .2)) (now (a .labels)) (c .before .before .before .before .before .pre .4)))))
+search-pairs-requires c κs = tt
 
 returns-2 : tie.Need-returns-2
 unfolding maxRows
-returns-2 c = let a = c .before .before .before .before .before .before .args in c .search-pairs .ensures ∙ ap (λ (l : List ℕ). firstPair (a .rows) (alikeMarked l (now (a .marks)))) (slot-lent (a .t3 .count) (now (a .labels)))
+returns-2 c = let a = c .before .before .before .before .before .before .args in let q = c .before .before .before .before .before .before .pre in lent-pair (a .rows) (now (a .marks)) (slot-lent (a .t3 .count) (now (a .labels))) (q .1) (count-within (slot-length (entries-row (q .2)) (now (a .labels)) (q .4)) (q .0)) (c .search-pairs .ensures)
 
 pub first-pair-spec : {M : Type 1} → statement M
 first-pair-spec =

@@ -1,8 +1,7 @@
 -- `reading::read_gates` meets its contract.
-use borrow.Author.Needs.{needs}
+use borrow.Author.Needs.{needs, zero≤}
 use native.Mathlib.Omega.{arith}
 use native.Mathlib.Nat.{sub-zero}
-use borrow.Author.Needs.{zero≤}
 use Prim.Native.Nat.{ℕ, _+_, _-_, _≤_}
 use mathlib.Core.Path.{_≡_, refl, sym, ap, _∙_}
 use denote.Ref.{now}

@@ -2,11 +2,10 @@
 use mathlib.Core.Path.{sym}
 use denote.Ref.{now}
 use lib.Seq.{length-take-le}
-use borrow.Author.Needs.{length-unmapped}
-use Rattle.picking.specs.Matrix.{maxEntries}
+use borrow.Author.Needs.{length-unmapped, needs}
+use Rattle.matrix.specs.Matrix.{maxEntries}
 use Rattle.sheet.proofs.Placed.{room-same, puts-same}
 use Rattle.sheet.proofs.Told.{told-refused, told-alike, told-done, printed-done, entries-inside}
-use borrow.Author.Needs.{needs}
 use Rattle.sheet.proofs.put_verdict.Statement.{statement}
 use Rattle.sheet.proofs.put_verdict.Tie as tie
 

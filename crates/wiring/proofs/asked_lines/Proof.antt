@@ -1,7 +1,6 @@
 -- `wiring::asked_lines` meets its contract.
 use Rattle.wiring.specs.Wiring.{lineCount}
-use borrow.Author.Needs.{length-unmapped}
-use borrow.Author.Needs.{needs}
+use borrow.Author.Needs.{length-unmapped, needs}
 use Rattle.wiring.proofs.asked_lines.Statement.{statement}
 use Rattle.wiring.proofs.asked_lines.Tie as tie
 

@@ -1,8 +1,7 @@
 -- `wiring::stems_of` meets its contract.
 use Rattle.wiring.specs.Wiring.{lineCount, nobody}
-use borrow.Author.Needs.{length-unmapped}
+use borrow.Author.Needs.{length-unmapped, needs}
 use Rattle.wiring.proofs.Noting.{numbers-blank}
-use borrow.Author.Needs.{needs}
 use Rattle.wiring.proofs.stems_of.Statement.{statement}
 use Rattle.wiring.proofs.stems_of.Tie as tie
 

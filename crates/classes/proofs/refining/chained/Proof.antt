@@ -6,18 +6,18 @@ use mathlib.Core.Path.{_≡_, refl, ap, _∙_}
 use mathlib.Core.List.{List}
 use lib.ListN.{length}
 use denote.Ref.{now}
-use Rattle.classes.specs.Matrix.{cell}
-use Rattle.classes.specs.Labels.{Walkable}
-use Rattle.classes.proofs.Sizes.{place-fits, start-fits}
-use Rattle.classes.proofs.Walking.{Walking, walk-cell, length-linked, walking-start, walking-le, walking-place, walking-step, walking-falls, walking-end}
+use Rattle.matrix.specs.Matrix.{cell}
+use Rattle.classes.specs.Labels.{Walking, Walkable}
+use Rattle.matrix.proofs.Sizes.{place-fits, start-fits}
+use Rattle.classes.proofs.Walking.{walk-cell, length-linked, walking-le, walking-place, walking-step, walking-falls, walking-end}
 use Rattle.classes.proofs.refining.chained.Statement.{statement}
 use Rattle.classes.proofs.refining.chained.Tie as tie
 
 abbrev Inv-loop : tie.InvT-loop
-Inv-loop work width entry next₀ label c value r₀ next r = (length next ≡ length next₀) × ((rows : ℕ) (L : List ℕ) → Walkable rows L (λ k. cell work width k entry) next₀ label c → Walking rows L (λ k. cell work width k entry) c next r)
+Inv-loop work width entry next₀ from c value r₀ next r = (length next ≡ length next₀) × ((rows : ℕ) (L : List ℕ) → Walkable rows L (λ k. cell work width k entry) next₀ from c → Walking rows L (λ k. cell work width k entry) c next r)
 
 abbrev μ-loop : tie.MeasureT-loop
-μ-loop work width entry next₀ label c value r₀ next r = c - r
+μ-loop work width entry next₀ from c value r₀ next r = c - r
 
 mul-value : tie.Need-mul-value Inv-loop μ-loop
 mul-value c = start-fits 1 (c .before .before .good .0 .1) (c .before .before .args .entry) (walk-cell (c .before .before .pre) (le-refl (c .before .before .args .c)))
@@ -32,7 +32,7 @@ shared-slice-read-value : tie.Need-shared-slice-read-value Inv-loop μ-loop
 shared-slice-read-value c = walk-cell (c .before .before .before .pre) (le-refl (c .before .before .before .args .c))
 
 loop-holds : tie.Need-loop-holds Inv-loop μ-loop
-loop-holds c = let a = c .before .before .before .args in (refl, λ rows L w. walking-start rows L (λ k. cell (now (a .work)) (a .width) k (a .entry)) (a .c) w)
+loop-holds c = (refl, λ rows L w. w .walking)
 
 mul-if1 : tie.Need-mul-if1 Inv-loop μ-loop
 mul-if1 c = let a = c .before .before .before .before .args in let s = c .before .before .before .before .pre in start-fits 1 (c .before .before .before .before .good .0 .1) (a .entry) (walk-cell s (walking-le (s .rows) (s .labels) (λ k. cell (now (a .work)) (a .width) k (a .entry)) (a .c) (c .loop .inv .1 (s .rows) (s .labels) (s .walkable))))

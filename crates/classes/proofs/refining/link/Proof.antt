@@ -4,7 +4,7 @@ use native.Mathlib.Nat.{le-of-lt}
 use mir.Syntax.{w8}
 use mir.Facts.{fits-widen}
 use lib.ListN.{length-set}
-use Rattle.classes.proofs.Sizes.{row-byte}
+use Rattle.matrix.proofs.Sizes.{row-byte}
 use Rattle.classes.proofs.Walking.{link-put, link-found}
 use Rattle.classes.proofs.refining.link.Statement.{statement}
 use Rattle.classes.proofs.refining.link.Tie as tie

@@ -8,9 +8,9 @@ use mathlib.Core.Path.{_≡_, refl, sym, _∙_}
 use lib.Dec.{lit<}
 use lib.ListN.{length}
 use denote.Ref.{now}
-use Rattle.classes.specs.Matrix.{cell, maxRows}
+use Rattle.matrix.specs.Matrix.{cell, maxRows}
 use Rattle.classes.specs.Labels.{Ready}
-use Rattle.classes.proofs.Sizes.{place-fits, row-place}
+use Rattle.matrix.proofs.Sizes.{place-fits, row-place}
 use Rattle.classes.proofs.Columns.{row-fits}
 use Rattle.classes.proofs.Relabelling.{Relabelling, relabelling-start, relabelling-row, relabelling-place, relabelling-label, relabelling-mark, relabelling-walkable, relabelling-some, relabelling-found, relabelling-flag, relabelling-found-mark, relabelling-next, relabelling-all}
 use Rattle.classes.proofs.refining.refine.Statement.{statement}

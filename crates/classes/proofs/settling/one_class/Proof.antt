@@ -7,8 +7,8 @@ use Prim.Native.Nat.{_-_}
 use mathlib.Core.Path.{refl}
 use lib.Dec.{lit<}
 use denote.Ref.{now}
-use Rattle.classes.specs.Matrix.{maxRows}
-use Rattle.classes.proofs.Sizes.{row-place}
+use Rattle.matrix.specs.Matrix.{maxRows}
+use Rattle.matrix.proofs.Sizes.{row-place}
 use Rattle.classes.proofs.Columns.{Filling, filling-start, filling-next, filling-all, filling-whole, filling-place, row-fits}
 use Rattle.classes.proofs.settling.one_class.Statement.{statement}
 use Rattle.classes.proofs.settling.one_class.Tie as tie

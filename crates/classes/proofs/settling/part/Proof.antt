@@ -1,33 +1,27 @@
--- `classes::settling::part` meets its contract: where the pending rows have one mark, by the shorter way.
-use denote.Ref.{now}
-use Rattle.classes.proofs.Sizes.{count-within, prefix-length}
-use Rattle.classes.proofs.Parting.{ready-fit, ready-open, ready-marked, ready-kept}
+-- `classes::settling::part` meets its contract: where the marks rise, by relabelling alone.
+use Rattle.matrix.proofs.Sizes.{count-within}
+use Rattle.classes.proofs.Relabelling.{ready-labelled}
+use Rattle.classes.proofs.Parting.{ready-open, ready-risen}
 use Rattle.classes.proofs.settling.part.Statement.{statement}
 use Rattle.classes.proofs.settling.part.Tie as tie
 
-slice-reshare-prefix-two-marks : tie.Need-slice-reshare-prefix-two-marks
-slice-reshare-prefix-two-marks c = count-within (c .before .before .before .before .pre .4) (c .before .before .before .before .pre .2)
+marks-rise-requires : tie.Need-marks-rise-requires
+marks-rise-requires c κs = tt
 
-slice-aggregate-two-marks : tie.Need-slice-aggregate-two-marks
-slice-aggregate-two-marks c = prefix-length (now (c .before .before .before .before .before .args .pending)) (c .before .before .before .before .before .pre .4) (c .before .before .before .before .before .pre .2)
-
-two-marks-requires : tie.Need-two-marks-requires
-two-marks-requires c κs = ready-marked (c .before .before .before .before .before .pre .0 .1)
-
-part-from-labels-requires : tie.Need-part-from-labels-requires
-part-from-labels-requires c κs = let q = c .before .before .before .before .before .before .before .before .before .pre in (count-within (q .4) (q .2), ready-open (q .0 .1) (q .3), ready-fit (q .0 .1) (q .3), q .1)
+relabel-requires : tie.Need-relabel-requires
+relabel-requires c κs = let q = c .before .before .before .before .before .before .before .before .pre in (count-within (q .4) (q .2), ready-open (q .0 .1) (q .3), (q .0 .0, ready-labelled (q .0 .1)), q .1)
 
 same-length : tie.Need-same-length
-same-length c = c .before .before .before .before .part-from-labels .kept .1 .1 .0
+same-length c = c .before .before .before .before .relabel .kept .1 .1 .0
 
 same-length-2 : tie.Need-same-length-2
-same-length-2 c = c .before .before .before .before .part-from-labels .kept .1 .1 .1 .0
+same-length-2 c = c .before .before .before .before .relabel .kept .1 .1 .1 .0
 
 returns : tie.Need-returns
-returns c = λ rows ready. ready-kept ready (c .before .before .before .before .before .before .before .before .two-marks .ensures) (c .before .before .before .before .before .before .before .if1 .taken) (c .before .before .before .before .part-from-labels .ensures)
+returns c = λ rows ready. ready-risen ready (c .before .before .before .before .before .before .before .before .before .before .before .before .before .args .entry) (c .before .before .before .before .before .before .before .before .marks-rise .ensures (c .before .before .before .before .before .before .before .if1 .taken)) (c .before .before .before .before .relabel .ensures)
 
 refine-and-settle-requires : tie.Need-refine-and-settle-requires
-refine-and-settle-requires c κs = c .before .before .before .before .before .before .before .before .before .pre
+refine-and-settle-requires c κs = c .before .before .before .before .before .before .before .before .pre
 
 same-length-3 : tie.Need-same-length-3
 same-length-3 c = c .before .before .before .before .refine-and-settle .kept .1 .1 .1 .0
@@ -42,10 +36,8 @@ pub part-spec : {M : Type 1} → statement M
 part-spec =
     tie.close
     (tie.spec
-    slice-reshare-prefix-two-marks
-    slice-aggregate-two-marks
-    two-marks-requires
-    part-from-labels-requires
+    marks-rise-requires
+    relabel-requires
     same-length
     same-length-2
     returns

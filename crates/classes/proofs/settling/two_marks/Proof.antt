@@ -8,7 +8,7 @@ use Prim.Native.Nat.{_-_}
 use lib.ListN.{length, getD}
 use denote.Ref.{now}
 use Rattle.classes.specs.Labels.{otherMark}
-use Rattle.classes.proofs.Sizes.{place-fits, first-place}
+use Rattle.matrix.proofs.Sizes.{place-fits, first-place}
 use Rattle.classes.proofs.Strays.{Passed, passed-none, passed-next, passed-one, passed-zero, other-mark, same-mark}
 use Rattle.classes.proofs.settling.two_marks.Statement.{statement}
 use Rattle.classes.proofs.settling.two_marks.Tie as tie

@@ -6,9 +6,9 @@ use lib.Dec.{lit<}
 use lib.ListN.{length-set}
 use Prim.Native.Nat.{_-_}
 use denote.Ref.{now}
-use Rattle.picking.specs.Matrix.{maxEntries}
-use Rattle.classes.proofs.Sizes.{count-within}
-use Rattle.picking.proofs.Resting.{start-place, start-back, kept-front}
+use Rattle.matrix.specs.Matrix.{maxEntries}
+use Rattle.matrix.proofs.Sizes.{count-within}
+use Rattle.matrix.proofs.Kept.{start-place, start-back, kept-front}
 use Rattle.picking.proofs.dropping.keep.Statement.{statement}
 use Rattle.picking.proofs.dropping.keep.Tie as tie
 
@@ -35,7 +35,7 @@ same-length-3 : tie.Need-same-length-3
 same-length-3 c = length-set (now (c .before .before .before .before .before .before .before .before .before .before .before .before .before .args .entries)) (c .before .before .before .before .before .before .before .before .before .before .before .before .before .args .kept .start - 1) (c .before .before .before .before .before .before .before .before .before .before .before .before .before .args .entry)
 
 returns : tie.Need-returns
-returns c = let a = c .before .before .before .before .before .before .before .before .before .before .before .before .before .args in (start-back (c .before .before .before .before .before .before .before .before .before .before .before .before .before .pre .6), kept-front (now (a .entries)) (a .entry) (a .kept .start) (c .before .before .before .before .before .before .before .before .before .before .before .before .before .pre .6) (count-within (c .before .before .before .before .before .before .before .before .before .before .before .before .before .pre .5) (c .before .before .before .before .before .before .before .before .before .before .before .before .before .pre .7)), c .before .before .before .before .before .part .ensures)
+returns c = let a = c .before .before .before .before .before .before .before .before .before .before .before .before .before .args in (start-back (c .before .before .before .before .before .before .before .before .before .before .before .before .before .pre .6), kept-front (now (a .entries)) (a .entry) (a .kept .start - 1) (start-back (c .before .before .before .before .before .before .before .before .before .before .before .before .before .pre .6)) (count-within (c .before .before .before .before .before .before .before .before .before .before .before .before .before .pre .5) (c .before .before .before .before .before .before .before .before .before .before .before .before .before .pre .7)), c .before .before .before .before .before .part .ensures)
 
 pub keep-spec : {M : Type 1} → statement M
 keep-spec =

@@ -1,11 +1,10 @@
 -- `picking::taking::copy_level` meets its contract: the numbers passed are copied.
 use native.Mathlib.Numerals.{add-one-le}
-use native.Mathlib.Omega.{arith}
 use borrow.Author.Count.{falls}
 use Prim.Native.Nat.{_-_}
 use denote.Ref.{now}
-use Rattle.classes.specs.Matrix.{maxRows}
-use Rattle.classes.proofs.Sizes.{row-place}
+use Rattle.matrix.specs.Matrix.{maxRows}
+use Rattle.matrix.proofs.Sizes.{row-place}
 use Rattle.picking.proofs.Slots.{Copying, copying-none, copying-next, copying-all, copying-length, copying-from, copying-to, copy-fits, copy-scaled, before-start, before-from, before-next, before-to}
 use Rattle.picking.proofs.taking.copy_level.Statement.{statement}
 use Rattle.picking.proofs.taking.copy_level.Tie as tie

@@ -1,11 +1,12 @@
 -- `picking::taking::first_level` meets its contract.
 use borrow.Author.Needs.{needs}
 use mathlib.Core.Path.{sym, _∙_}
+use lib.ListN.{take}
 use denote.Ref.{now}
-use Rattle.classes.specs.Matrix.{maxRows}
+use Rattle.matrix.specs.Matrix.{maxRows}
 use Rattle.classes.specs.Labels.{Started}
-use Rattle.classes.proofs.Sizes.{count-within, prefix-length}
-use Rattle.picking.proofs.Sizes.{slots-most}
+use Rattle.matrix.proofs.Sizes.{count-within, prefix-length, slots-most}
+use Rattle.classes.proofs.Fitting.{start-fitted}
 use Rattle.picking.proofs.Slots.{first-put, lent-as}
 use Rattle.picking.proofs.taking.first_level.Statement.{statement}
 use Rattle.picking.proofs.taking.first_level.Tie as tie
@@ -27,8 +28,7 @@ unfolding maxRows
 slice-aggregate-start-2 c = prefix-length (now (c .before .before .before .before .before .args .pending)) (c .before .before .before .before .before .pre .4) slots-most
 
 start-requires : tie.Need-start-requires
-unfolding maxRows
-start-requires c κs = (c .before .before .before .before .before .pre .0, c .before .before .before .before .before .pre .1, c .before .before .before .before .before .pre .2, sym (prefix-length (now (c .before .before .before .before .before .args .labels)) (c .before .before .before .before .before .pre .3) slots-most), sym (prefix-length (now (c .before .before .before .before .before .args .pending)) (c .before .before .before .before .before .pre .4) slots-most))
+start-requires c κs = tt
 
 same-length : tie.Need-same-length
 same-length c = search needs
@@ -38,7 +38,7 @@ same-length-2 c = search needs
 
 returns : tie.Need-returns
 unfolding maxRows
-returns c = let a = c .before .before .before .before .before .before .before .before .before .before .args in lent-as (λ x y. Started (a .rows) (now (a .marks)) x y (c .before .before .before .before .start .result)) (first-put (now (a .labels)) (c .before .before .before .before .start .last .0) (c .before .before .before .before .before .before .before .before .before .before .pre .3) (c .before .before .before .before .start .kept .0 ∙ sym (prefix-length (now (a .labels)) (c .before .before .before .before .before .before .before .before .before .before .pre .3) slots-most))) (first-put (now (a .pending)) (c .before .before .before .before .start .last .1 .0) (c .before .before .before .before .before .before .before .before .before .before .pre .4) (c .before .before .before .before .start .kept .1 .0 ∙ sym (prefix-length (now (a .pending)) (c .before .before .before .before .before .before .before .before .before .before .pre .4) slots-most))) (c .before .before .before .before .start .ensures)
+returns c = let a = c .before .before .before .before .before .before .before .before .before .before .args in let q = c .before .before .before .before .before .before .before .before .before .before .pre in let s = c .before .before .before .before .start in let l = sym (prefix-length (now (a .labels)) (q .3) slots-most) in let p = sym (prefix-length (now (a .pending)) (q .4) slots-most) in lent-as (λ x y. Started (a .rows) (now (a .marks)) x y (s .result)) (first-put (now (a .labels)) (s .last .0) (q .3) (s .kept .0 ∙ l)) (first-put (now (a .pending)) (s .last .1 .0) (q .4) (s .kept .1 .0 ∙ p)) (start-fitted (a .rows) (now (a .marks)) (take maxRows (now (a .labels))) (take maxRows (now (a .pending))) (q .0, q .1, q .2, l, p) (s .ensures))
 
 pub first-level-spec : {M : Type 1} → statement M
 first-level-spec =

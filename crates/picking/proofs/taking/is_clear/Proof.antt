@@ -4,14 +4,14 @@ use native.Mathlib.Numerals.{add-one-le}
 use borrow.Author.Needs.{scaled-fits}
 use mir.Syntax.{w16}
 use mir.Facts.{fits-widen}
-use Rattle.classes.proofs.Sizes.{place-fits, start-fits}
+use Rattle.matrix.proofs.Sizes.{place-fits, start-fits}
 use Prim.Native.Nat.{_-_}
 use lib.ListN.{length, getD}
 use denote.Ref.{now}
 use borrow.Author.Count.{falls}
-use Rattle.classes.specs.Matrix.{cell}
+use Rattle.matrix.specs.Matrix.{cell}
 use Rattle.classes.proofs.Cells.{row-cell, label-cell}
-use Rattle.picking.proofs.Seeking.{Clearing, clearing-none, clearing-stop, clearing-next, clearing-all}
+use Rattle.picking.proofs.Clearing.{Clearing, clearing-none, clearing-stop, clearing-next, clearing-all}
 use Rattle.picking.proofs.taking.is_clear.Statement.{statement}
 use Rattle.picking.proofs.taking.is_clear.Tie as tie
 

@@ -3,15 +3,16 @@ use native.Mathlib.Numerals.{add-one-le}
 use borrow.Author.Needs.{scaled-fits}
 use mir.Syntax.{w16}
 use mir.Facts.{fits-widen}
-use Rattle.classes.proofs.Sizes.{place-fits}
+use Rattle.matrix.proofs.Sizes.{place-fits}
 use Prim.Native.Nat.{_-_}
 use lib.ListN.{length}
 use denote.Ref.{now}
 use borrow.Author.Count.{falls}
-use Rattle.classes.specs.Matrix.{cell}
+use Rattle.matrix.specs.Matrix.{cell}
 use Rattle.picking.specs.Levels.{clear}
-use Rattle.picking.proofs.Seeking.{Seeking, seeking-none, seeking-stop, seeking-next, seeking-all, seek-idle}
-use Rattle.picking.proofs.Within.{entry-below}
+use Rattle.picking.proofs.Clearing.{clear-nothing}
+use Rattle.matrix.proofs.Seeking.{Seeking, seeking-none, seeking-stop, seeking-next, seeking-all, seek-idle}
+use Rattle.matrix.proofs.Within.{entry-below}
 use Rattle.picking.proofs.taking.next.Statement.{statement}
 use Rattle.picking.proofs.taking.next.Tie as tie
 
@@ -22,7 +23,7 @@ abbrev μ-loop : tie.MeasureT-loop
 μ-loop work width labels pending scan from at₀ at = length scan - at
 
 returns : tie.Need-returns Inv-loop μ-loop
-returns c = let a = c .before .before .before .before .before .args in seek-idle (cell (now (a .work)) (a .width)) (now (a .labels)) (now (a .pending)) (now (a .scan)) (a .from) (c .if1 .taken) (c .before .before .before .before .before .pre .2)
+returns c = let a = c .before .before .before .before .before .args in seek-idle (clear (cell (now (a .work)) (a .width)) (now (a .labels)) (now (a .pending))) (clear-nothing (cell (now (a .work)) (a .width)) (now (a .labels)) (now (a .pending)) (c .if1 .taken)) (now (a .scan)) (a .from) (c .before .before .before .before .before .pre .2)
 
 loop-holds : tie.Need-loop-holds Inv-loop μ-loop
 loop-holds c = let a = c .before .before .before .before .before .args in seeking-none (clear (cell (now (a .work)) (a .width)) (now (a .labels)) (now (a .pending))) (now (a .scan)) (a .from) (c .before .before .before .before .before .pre .2)

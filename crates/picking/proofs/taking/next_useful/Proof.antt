@@ -1,15 +1,15 @@
 -- `picking::taking::next_useful` meets its contract.
-use native.Mathlib.Nat.{le-refl}
-use Prim.Native.Nat.{_*_}
+use native.Mathlib.Nat.{le-refl, le-add-right}
+use Prim.Native.Nat.{_*_, ℕ}
 use mathlib.Core.Path.{ap₂, _∙_}
 use mathlib.Core.List.{List}
 use denote.Ref.{now}
-use Prim.Native.Nat.{ℕ}
 use lib.ListN.{drop}
-use Rattle.classes.specs.Matrix.{cell, maxRows}
+use Rattle.matrix.specs.Matrix.{cell, maxRows, seek}
 use Rattle.classes.specs.Labels.{OpenFit}
-use Rattle.picking.specs.Levels.{clear, seek}
-use Rattle.picking.proofs.Slots.{slot-fits, slot-add, slot-scaled, slot-ends, slot-inside, slot-lent, slot-front, lent-as}
+use Rattle.picking.specs.Levels.{clear}
+use Rattle.picking.proofs.Slots.{slot-lent, slot-front, lent-as}
+use Rattle.matrix.proofs.Slots.{slot-fits, slot-add, slot-scaled, slot-inside}
 use Rattle.picking.proofs.taking.next_useful.Statement.{statement}
 use Rattle.picking.proofs.taking.next_useful.Tie as tie
 
@@ -27,11 +27,11 @@ mul-next c = slot-scaled (c .before .before .before .before .pre .2)
 
 sub-next : tie.Need-sub-next
 unfolding maxRows
-sub-next c = slot-ends (c .before .before .before .before .args .level * maxRows) maxRows
+sub-next c = le-add-right (c .before .before .before .before .args .level * maxRows) maxRows
 
 part-next-start : tie.Need-part-next-start
 unfolding maxRows
-part-next-start c = slot-ends (c .before .before .before .before .args .level * maxRows) maxRows
+part-next-start c = le-add-right (c .before .before .before .before .args .level * maxRows) maxRows
 
 part-next-end : tie.Need-part-next-end
 unfolding maxRows
@@ -47,11 +47,11 @@ mul-next-2 c = slot-scaled (c .before .before .before .before .before .pre .2)
 
 sub-next-2 : tie.Need-sub-next-2
 unfolding maxRows
-sub-next-2 c = slot-ends (c .before .before .before .before .before .args .level * maxRows) (c .before .before .before .before .before .args .count)
+sub-next-2 c = le-add-right (c .before .before .before .before .before .args .level * maxRows) (c .before .before .before .before .before .args .count)
 
 part-next-start-2 : tie.Need-part-next-start-2
 unfolding maxRows
-part-next-start-2 c = slot-ends (c .before .before .before .before .before .args .level * maxRows) (c .before .before .before .before .before .args .count)
+part-next-start-2 c = le-add-right (c .before .before .before .before .before .args .level * maxRows) (c .before .before .before .before .before .args .count)
 
 part-next-end-2 : tie.Need-part-next-end-2
 unfolding maxRows

@@ -1,7 +1,6 @@
 -- `picking::taking::take` meets its contract.
 use mathlib.Core.Path.{refl, _∙_}
-use Rattle.classes.specs.Matrix.{maxRows}
-use Rattle.picking.specs.Matrix.{maxEntries}
+use Rattle.matrix.specs.Matrix.{maxRows, maxEntries}
 use denote.Ref.{now}
 use Rattle.picking.proofs.Growing.{begun-of}
 use Rattle.picking.proofs.taking.take.Statement.{statement}

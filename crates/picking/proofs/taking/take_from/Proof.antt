@@ -9,14 +9,12 @@ use mathlib.Core.Path.{_≡_, sym, _∙_}
 use lib.Dec.{lit<}
 use lib.ListN.{length}
 use denote.Ref.{now}
-use Rattle.classes.specs.Matrix.{maxRows}
-use Rattle.picking.specs.Matrix.{maxEntries}
+use Rattle.matrix.specs.Matrix.{maxRows, maxEntries}
 use Rattle.picking.specs.Levels.{Begun}
-use Rattle.classes.proofs.Sizes.{place-fits, row-place, row-byte}
-use Rattle.picking.proofs.Sizes.{some-rows, add-one-lt}
-use Rattle.picking.proofs.Within.{entry-below}
+use Rattle.matrix.proofs.Sizes.{place-fits, row-place, row-byte, some-rows, add-one-lt}
+use Rattle.matrix.proofs.Within.{entry-below}
 use Rattle.picking.proofs.Slots.{slot-length}
-use Rattle.picking.proofs.Growing.{level-ready, level-fit, sought-falls, Taking, taking-level, taking-place, taking-room, taking-next-place, taking-grown, taking-next, taking-end, begun-level, taking-start}
+use Rattle.picking.proofs.Growing.{level-ready, level-fit, next-falls, Taking, taking-level, taking-place, taking-room, taking-next-place, taking-grown, taking-next, taking-end, begun-level, taking-start}
 use Rattle.picking.proofs.taking.take_from.Statement.{statement}
 use Rattle.picking.proofs.taking.take_from.Tie as tie
 
@@ -51,7 +49,7 @@ unfolding maxEntries
 mul-entries c = let a = c .before .before .before .before .before .before .before .before .before .before .before .before .before .args in scaled-fits _ 63 2 (taking-room (now (a .work)) (a .width) (c .before .before .before .before .before .before .before .before .before .before .before .before .before .pre .0 .0) (now (a .marks)) (now (a .scan)) (c .before .before .loop .inv .2 (c .before .before .before .before .before .before .before .before .before .before .before .before .before .pre .0 .0) (c .before .before .before .before .before .before .before .before .before .before .before .before .before .pre .0 .1)) (c .before .loop-test .taken)) (lit< tt)
 
 slice-write-entries : tie.Need-slice-write-entries Inv-loop μ-loop
-slice-write-entries c = let a = c .before .before .before .before .before .before .before .before .before .before .before .before .before .args in let w = c .before .before .loop .inv .2 (c .before .before .before .before .before .before .before .before .before .before .before .before .before .pre .0 .0) (c .before .before .before .before .before .before .before .before .before .before .before .before .before .pre .0 .1) in lt-of-lt-of-le (taking-room (now (a .work)) (a .width) (c .before .before .before .before .before .before .before .before .before .before .before .before .before .pre .0 .0) (now (a .marks)) (now (a .scan)) w (c .before .loop-test .taken)) (le-of-eq (sym (w .entries-sized)))
+slice-write-entries c = let a = c .before .before .before .before .before .before .before .before .before .before .before .before .before .args in let w = c .before .before .loop .inv .2 (c .before .before .before .before .before .before .before .before .before .before .before .before .before .pre .0 .0) (c .before .before .before .before .before .before .before .before .before .before .before .before .before .pre .0 .1) in lt-of-lt-of-le (taking-room (now (a .work)) (a .width) (c .before .before .before .before .before .before .before .before .before .before .before .before .before .pre .0 .0) (now (a .marks)) (now (a .scan)) w (c .before .loop-test .taken)) (le-of-eq (sym (w .climbing .entries-sized)))
 
 cast-take-one : tie.Need-cast-take-one Inv-loop μ-loop
 cast-take-one c = fits-widen {w = w16} tt (c .before .before .shared-slice-known4 .given (c .before .before .before .before .loop .at))
@@ -66,7 +64,7 @@ cast-counts-2 : tie.Need-cast-counts-2 Inv-loop μ-loop
 cast-counts-2 c = let a = c .before .before .before .before .before .before .before .before .before .before .before .before .before .before .before .before .before .before .before .before .args in row-byte (taking-grown (now (a .work)) (a .width) (c .before .before .before .before .before .before .before .before .before .before .before .before .before .before .before .before .before .before .before .before .pre .0 .0) (now (a .marks)) (now (a .scan)) (c .before .before .before .before .before .before .before .before .before .loop .inv .2 (c .before .before .before .before .before .before .before .before .before .before .before .before .before .before .before .before .before .before .before .before .pre .0 .0) (c .before .before .before .before .before .before .before .before .before .before .before .before .before .before .before .before .before .before .before .before .pre .0 .1)) (c .before .before .before .before .before .before .before .before .loop-test .taken) (c .before .before .before .before .take-one .ensures) .settled .few)
 
 slice-write-counts-2 : tie.Need-slice-write-counts-2 Inv-loop μ-loop
-slice-write-counts-2 c = let a = c .before .before .before .before .before .before .before .before .before .before .before .before .before .before .before .before .before .before .before .before .args in let w = c .before .before .before .before .before .before .before .before .before .loop .inv .2 (c .before .before .before .before .before .before .before .before .before .before .before .before .before .before .before .before .before .before .before .before .pre .0 .0) (c .before .before .before .before .before .before .before .before .before .before .before .before .before .before .before .before .before .before .before .before .pre .0 .1) in lt-of-lt-of-le (taking-next-place (now (a .work)) (a .width) (c .before .before .before .before .before .before .before .before .before .before .before .before .before .before .before .before .before .before .before .before .pre .0 .0) (now (a .marks)) (now (a .scan)) w (c .before .before .before .before .before .before .before .before .loop-test .taken)) (le-of-eq (sym (w .counts-sized)))
+slice-write-counts-2 c = let a = c .before .before .before .before .before .before .before .before .before .before .before .before .before .before .before .before .before .before .before .before .args in let w = c .before .before .before .before .before .before .before .before .before .loop .inv .2 (c .before .before .before .before .before .before .before .before .before .before .before .before .before .before .before .before .before .before .before .before .pre .0 .0) (c .before .before .before .before .before .before .before .before .before .before .before .before .before .before .before .before .before .before .before .before .pre .0 .1) in lt-of-lt-of-le (taking-next-place (now (a .work)) (a .width) (c .before .before .before .before .before .before .before .before .before .before .before .before .before .before .before .before .before .before .before .before .pre .0 .0) (now (a .marks)) (now (a .scan)) w (c .before .before .before .before .before .before .before .before .loop-test .taken)) (le-of-eq (sym (w .climbing .counts-sized)))
 
 add-next-useful : tie.Need-add-next-useful Inv-loop μ-loop
 add-next-useful c = place-fits 1 (c .before .before .before .before .before .before .before .before .before .before .before .before .before .before .before .before .before .before .before .before .before .before .good .1 .1 .1 .0 .1) (add-one-le (c .before .before .before .before .before .before .before .before .before .before .loop-test .taken))
@@ -75,7 +73,7 @@ next-useful-requires-2 : tie.Need-next-useful-requires-2 Inv-loop μ-loop
 next-useful-requires-2 c κs = let a = c .before .before .before .before .before .before .before .before .before .before .before .before .before .before .before .before .before .before .before .before .before .before .args in let l = taking-grown (now (a .work)) (a .width) (c .before .before .before .before .before .before .before .before .before .before .before .before .before .before .before .before .before .before .before .before .before .before .pre .0 .0) (now (a .marks)) (now (a .scan)) (c .before .before .before .before .before .before .before .before .before .before .before .loop .inv .2 (c .before .before .before .before .before .before .before .before .before .before .before .before .before .before .before .before .before .before .before .before .before .before .pre .0 .0) (c .before .before .before .before .before .before .before .before .before .before .before .before .before .before .before .before .before .before .before .before .before .before .pre .0 .1)) (c .before .before .before .before .before .before .before .before .before .before .loop-test .taken) (c .before .before .before .before .before .before .take-one .ensures) in (level-fit (c .before .before .before .before .before .before .before .before .before .before .before .before .before .before .before .before .before .before .before .before .before .before .pre .0 .1 .fit) l (slot-length (taking-next-place (now (a .work)) (a .width) (c .before .before .before .before .before .before .before .before .before .before .before .before .before .before .before .before .before .before .before .before .before .before .pre .0 .0) (now (a .marks)) (now (a .scan)) (c .before .before .before .before .before .before .before .before .before .before .before .loop .inv .2 (c .before .before .before .before .before .before .before .before .before .before .before .before .before .before .before .before .before .before .before .before .before .before .pre .0 .0) (c .before .before .before .before .before .before .before .before .before .before .before .before .before .before .before .before .before .before .before .before .before .before .pre .0 .1)) (c .before .before .before .before .before .before .before .before .before .before .loop-test .taken)) (c .before .before .before .before .before .before .take-one .last .1 .1 .1 .0) (c .before .before .before .before .before .before .take-one .kept .1 .1 .1 .0 ∙ c .before .before .before .before .before .before .before .before .before .before .before .loop .inv .0)), l .settled .few, taking-next-place (now (a .work)) (a .width) (c .before .before .before .before .before .before .before .before .before .before .before .before .before .before .before .before .before .before .before .before .before .before .pre .0 .0) (now (a .marks)) (now (a .scan)) (c .before .before .before .before .before .before .before .before .before .before .before .loop .inv .2 (c .before .before .before .before .before .before .before .before .before .before .before .before .before .before .before .before .before .before .before .before .before .before .pre .0 .0) (c .before .before .before .before .before .before .before .before .before .before .before .before .before .before .before .before .before .before .before .before .before .before .pre .0 .1)) (c .before .before .before .before .before .before .before .before .before .before .loop-test .taken), (c .before .before .before .before .before .before .take-one .kept .1 .1 .1 .0 ∙ c .before .before .before .before .before .before .before .before .before .before .before .loop .inv .0), (c .before .before .before .before .before .before .take-one .kept .1 .1 .1 .1 .0 ∙ c .before .before .before .before .before .before .before .before .before .before .before .loop .inv .1), c .before .before .before .before .before .before .before .before .before .before .before .before .before .before .before .before .before .before .before .before .before .before .pre .1, add-one-le (c .before .before .before .before .before .before .before .before .before .before .loop-test .taken))
 
 loop-less : tie.Need-loop-less Inv-loop μ-loop
-loop-less c = let a = c .before .before .before .before .before .before .before .before .before .before .before .before .before .before .before .before .before .before .before .before .before .before .before .args in sought-falls (taking-grown (now (a .work)) (a .width) (c .before .before .before .before .before .before .before .before .before .before .before .before .before .before .before .before .before .before .before .before .before .before .before .pre .0 .0) (now (a .marks)) (now (a .scan)) (c .before .before .before .before .before .before .before .before .before .before .before .before .loop .inv .2 (c .before .before .before .before .before .before .before .before .before .before .before .before .before .before .before .before .before .before .before .before .before .before .before .pre .0 .0) (c .before .before .before .before .before .before .before .before .before .before .before .before .before .before .before .before .before .before .before .before .before .before .before .pre .0 .1)) (c .before .before .before .before .before .before .before .before .before .before .before .loop-test .taken) (c .before .before .before .before .before .before .before .take-one .ensures)) (now (a .scan)) (c .before .before .before .before .before .before .before .before .before .before .before .before .loop .at + 1) (c .next-useful2 .ensures) (add-one-lt (c .before .before .before .before .before .before .before .before .before .before .before .before .loop .at)) (add-one-le (c .before .before .before .before .before .before .before .before .before .before .before .loop-test .taken))
+loop-less c = let a = c .before .before .before .before .before .before .before .before .before .before .before .before .before .before .before .before .before .before .before .before .before .before .before .args in next-falls (taking-grown (now (a .work)) (a .width) (c .before .before .before .before .before .before .before .before .before .before .before .before .before .before .before .before .before .before .before .before .before .before .before .pre .0 .0) (now (a .marks)) (now (a .scan)) (c .before .before .before .before .before .before .before .before .before .before .before .before .loop .inv .2 (c .before .before .before .before .before .before .before .before .before .before .before .before .before .before .before .before .before .before .before .before .before .before .before .pre .0 .0) (c .before .before .before .before .before .before .before .before .before .before .before .before .before .before .before .before .before .before .before .before .before .before .before .pre .0 .1)) (c .before .before .before .before .before .before .before .before .before .before .before .loop-test .taken) (c .before .before .before .before .before .before .before .take-one .ensures)) (now (a .scan)) (c .before .before .before .before .before .before .before .before .before .before .before .before .loop .at + 1) (c .next-useful2 .ensures) (add-one-lt (c .before .before .before .before .before .before .before .before .before .before .before .before .loop .at)) (add-one-le (c .before .before .before .before .before .before .before .before .before .before .before .loop-test .taken))
 
 loop-again : tie.Need-loop-again Inv-loop μ-loop
 loop-again c = let a = c .before .before .before .before .before .before .before .before .before .before .before .before .before .before .before .before .before .before .before .before .before .before .before .args in ((c .before .before .before .before .before .before .before .take-one .kept .1 .1 .1 .0 ∙ c .before .before .before .before .before .before .before .before .before .before .before .before .loop .inv .0), (c .before .before .before .before .before .before .before .take-one .kept .1 .1 .1 .1 .0 ∙ c .before .before .before .before .before .before .before .before .before .before .before .before .loop .inv .1), λ rows begun. taking-next (now (a .work)) (a .width) rows (now (a .marks)) (now (a .scan)) (c .before .before .before .before .before .before .before .before .before .before .before .before .loop .inv .2 rows begun) (c .before .before .before .before .before .before .before .before .before .before .before .loop-test .taken) (c .before .before .before .before .before .before .before .take-one .ensures) (c .next-useful2 .ensures))
@@ -87,10 +85,10 @@ same-length-2 : tie.Need-same-length-2 Inv-loop μ-loop
 same-length-2 c = c .before .loop .inv .1 ∙ sym (c .before .before .before .before .before .before .before .before .before .before .before .before .pre .3)
 
 same-length-3 : tie.Need-same-length-3 Inv-loop μ-loop
-same-length-3 c = c .before .loop .inv .2 (c .before .before .before .before .before .before .before .before .before .before .before .before .pre .0 .0) (c .before .before .before .before .before .before .before .before .before .before .before .before .pre .0 .1) .entries-sized ∙ sym (c .before .before .before .before .before .before .before .before .before .before .before .before .pre .4)
+same-length-3 c = c .before .loop .inv .2 (c .before .before .before .before .before .before .before .before .before .before .before .before .pre .0 .0) (c .before .before .before .before .before .before .before .before .before .before .before .before .pre .0 .1) .climbing .entries-sized ∙ sym (c .before .before .before .before .before .before .before .before .before .before .before .before .pre .4)
 
 same-length-4 : tie.Need-same-length-4 Inv-loop μ-loop
-same-length-4 c = c .before .loop .inv .2 (c .before .before .before .before .before .before .before .before .before .before .before .before .pre .0 .0) (c .before .before .before .before .before .before .before .before .before .before .before .before .pre .0 .1) .counts-sized ∙ sym (c .before .before .before .before .before .before .before .before .before .before .before .before .pre .5)
+same-length-4 c = c .before .loop .inv .2 (c .before .before .before .before .before .before .before .before .before .before .before .before .pre .0 .0) (c .before .before .before .before .before .before .before .before .before .before .before .before .pre .0 .1) .climbing .counts-sized ∙ sym (c .before .before .before .before .before .before .before .before .before .before .before .before .pre .5)
 
 returns : tie.Need-returns Inv-loop μ-loop
 returns c = let a = c .before .before .before .before .before .before .before .before .before .before .before .before .args in λ rows begun. taking-end (now (a .work)) (a .width) rows (now (a .marks)) (now (a .scan)) (c .before .loop .inv .2 rows begun) (c .loop-test .left)

@@ -1,12 +1,12 @@
 -- `picking::taking::take_one` meets its contract.
-use native.Mathlib.Nat.{le-refl}
+use native.Mathlib.Nat.{le-refl, le-add-right}
 use Prim.Native.Nat.{_+_, _*_}
 use mathlib.Core.Path.{_∙_}
 use lib.ListN.{take}
 use denote.Ref.{now}
-use Rattle.classes.specs.Matrix.{maxRows}
+use Rattle.matrix.specs.Matrix.{maxRows}
 use Rattle.classes.specs.Labels.{SomeReady}
-use Rattle.picking.proofs.Slots.{copy-fits, copy-scaled, before-start, before-next, slot-ends, after-room, after-slot, after-slot-length, put-length, lent-as}
+use Rattle.picking.proofs.Slots.{copy-fits, copy-scaled, before-start, before-next, after-room, after-slot, after-slot-length, put-length, lent-as}
 use Rattle.picking.proofs.Growing.{grown}
 use Rattle.picking.proofs.taking.take_one.Statement.{statement}
 use Rattle.picking.proofs.taking.take_one.Tie as tie
@@ -35,11 +35,11 @@ mul-part c = copy-scaled (now (c .before .before .before .before .before .before
 
 sub-part : tie.Need-sub-part
 unfolding maxRows
-sub-part c = slot-ends (c .before .before .before .before .before .before .before .before .before .before .before .before .args .level * maxRows + maxRows) maxRows
+sub-part c = le-add-right (c .before .before .before .before .before .before .before .before .before .before .before .before .args .level * maxRows + maxRows) maxRows
 
 part-part-start : tie.Need-part-part-start
 unfolding maxRows
-part-part-start c = slot-ends (c .before .before .before .before .before .before .before .before .before .before .before .before .args .level * maxRows + maxRows) maxRows
+part-part-start c = le-add-right (c .before .before .before .before .before .before .before .before .before .before .before .before .args .level * maxRows + maxRows) maxRows
 
 part-part-end : tie.Need-part-part-end
 unfolding maxRows
@@ -55,11 +55,11 @@ mul-part-2 c = copy-scaled (now (c .before .before .before .before .before .befo
 
 sub-part-2 : tie.Need-sub-part-2
 unfolding maxRows
-sub-part-2 c = slot-ends (c .before .before .before .before .before .before .before .before .before .before .before .before .before .args .level * maxRows + maxRows) maxRows
+sub-part-2 c = le-add-right (c .before .before .before .before .before .before .before .before .before .before .before .before .before .args .level * maxRows + maxRows) maxRows
 
 part-part-start-2 : tie.Need-part-part-start-2
 unfolding maxRows
-part-part-start-2 c = slot-ends (c .before .before .before .before .before .before .before .before .before .before .before .before .before .args .level * maxRows + maxRows) maxRows
+part-part-start-2 c = le-add-right (c .before .before .before .before .before .before .before .before .before .before .before .before .before .args .level * maxRows + maxRows) maxRows
 
 part-part-end-2 : tie.Need-part-part-end-2
 unfolding maxRows

@@ -1,0 +1,10 @@
+pub mod Sizes
+pub mod Cells
+pub mod Within
+pub mod Seeking
+pub mod Kept
+pub mod Slots
+pub mod Climbing
+pub mod Fits
+pub mod Aligning
+pub mod Over
