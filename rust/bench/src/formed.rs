@@ -16,22 +16,11 @@ type Lines = [[u8; 32]; MOST_LINES];
 /// The packed tables of all circuits, 32 bytes each.
 type Tables = [[u8; 32]; MOST_FAULTS + 1];
 
-/// A place in a string of bits: a byte, and a number of bits from that byte's first on.
-#[derive(Clone, Copy)]
-struct Cursor {
-    byte: usize,
-    bit: u8,
-}
-
-/// The field of `width` bits at a place, and the place behind it.
+/// The field of `width` bits at a place, the number of a bit, and the place behind it.
 #[inline]
-fn field(bytes: &[u8], at: Cursor, width: usize) -> Option<(u32, Cursor)> {
-    if bytes.len() <= at.byte {
-        return None;
-    }
-    let first = at.byte + usize::from(at.bit / 8);
-    let end = usize::from(at.bit % 8) + width;
-    let next = Cursor { byte: first + end / 8, bit: (end % 8) as u8 };
+fn field(bytes: &[u8], at: usize, width: usize) -> Option<(u32, usize)> {
+    let first = at / 8;
+    let end = at % 8 + width;
     let four = match bytes.get(first..first + 4) {
         Some(four) => u32::from_be_bytes(four.try_into().expect("four bytes")),
         None => {
@@ -44,12 +33,12 @@ fn field(bytes: &[u8], at: Cursor, width: usize) -> Option<(u32, Cursor)> {
             u32::from_be_bytes(four)
         }
     };
-    Some((four >> (32 - end) & ((1 << width) - 1), next))
+    Some((four >> (32 - end) & ((1 << width) - 1), at + width))
 }
 
 /// The job that these bytes are, each field read by itself.
 pub fn read(bytes: &[u8]) -> Result<Job, Refusal> {
-    let Some((inputs, at)) = field(bytes, Cursor { byte: 0, bit: 0 }, 4) else { return Err(1) };
+    let Some((inputs, at)) = field(bytes, 0, 4) else { return Err(1) };
     if inputs == 0 || inputs as usize > MOST_INPUTS {
         return Err(2);
     }
@@ -73,8 +62,8 @@ pub fn read(bytes: &[u8]) -> Result<Job, Refusal> {
         let (fault, next) = read_fault(bytes, at, inputs, lines)?;
         (*place, at) = (fault, next);
     }
-    let left = bytes.get(at.byte..).unwrap_or(&[]);
-    if left.len() > usize::from(at.bit != 0) || left.iter().any(|byte| byte << at.bit != 0) {
+    let left = bytes.get(at / 8..).unwrap_or(&[]);
+    if left.len() > usize::from(at % 8 != 0) || left.iter().any(|byte| byte << (at % 8) != 0) {
         return Err(9);
     }
     let [inputs, gate_count, output, fault_count] = [inputs, gate_count, output, fault_count].map(|count| count as u8);
@@ -82,7 +71,7 @@ pub fn read(bytes: &[u8]) -> Result<Job, Refusal> {
 }
 
 #[inline]
-fn read_gate(bytes: &[u8], at: Cursor, own: u32) -> Result<(Gate, Cursor), Refusal> {
+fn read_gate(bytes: &[u8], at: usize, own: u32) -> Result<(Gate, usize), Refusal> {
     let Some((kind, at)) = field(bytes, at, 3) else { return Err(1) };
     let Some((a, at)) = field(bytes, at, 7) else { return Err(1) };
     let Some((b, at)) = field(bytes, at, 7) else { return Err(1) };
@@ -107,7 +96,7 @@ fn read_gate(bytes: &[u8], at: Cursor, own: u32) -> Result<(Gate, Cursor), Refus
 }
 
 #[inline]
-fn read_fault(bytes: &[u8], at: Cursor, inputs: u32, lines: u32) -> Result<(Fault, Cursor), Refusal> {
+fn read_fault(bytes: &[u8], at: usize, inputs: u32, lines: u32) -> Result<(Fault, usize), Refusal> {
     let Some((kind, at)) = field(bytes, at, 2) else { return Err(1) };
     let Some((a, at)) = field(bytes, at, 7) else { return Err(1) };
     let Some((b, at)) = field(bytes, at, 7) else { return Err(1) };
