@@ -11,15 +11,15 @@
 --   chosen-unfit        the answer that the memory is no such matrix
 --   chosen              the answer of a matrix
 use Prim.Native.Nat.{ℕ, suc, _+_, _-_, _*_, _≤_, _<_}
-use native.Mathlib.Nat.{le-refl, le-of-eq}
+use native.Mathlib.Nat.{le-refl}
 use native.Mathlib.Omega.{arith}
-use mathlib.Core.Path.{_≡_, refl, sym, ap, ap₂, subst, _∙_}
+use mathlib.Core.Path.{_≡_, sym, ap, ap₂, subst, _∙_}
 use mathlib.Core.Bool.{Bool, true, not, cond, _&&_}
 use mathlib.Core.List.{List, []}
 use borrow.Author.Tests.{not-true, eq-eqb, le-leb}
 use lib.Dec.{eqb, leb, ltb}
 use lib.ListN.{length, take, drop, getD, length-drop}
-use lib.Seq.{length-take-le, take-take, getD-take, getD-drop}
+use lib.Seq.{length-take-le, getD-take, getD-drop}
 use Rattle.bits.specs.Passing.{passing}
 use Rattle.bits.proofs.Tests.{and-i}
 use Rattle.method.specs.Method.{Pair, takes, drops, signature}
@@ -34,8 +34,9 @@ use Rattle.covering.specs.Covering.{untold, Fit, Level, TakenAll, Droppa
 use Rattle.covering.proofs.Untold.{untold-start, untold-nobody, untold-pair}
 use Rattle.matrix.proofs.Slots.{part-first, slot-inside}
 use Rattle.matrix.proofs.Sizes.{entries-row, some-rows}
-use Rattle.matrix.proofs.Within.{takes-below}
+use Rattle.matrix.proofs.Within.{taken-below}
 use Rattle.matrix.proofs.Kept.{taken-few}
+use Rattle.matrix.proofs.Climbing.{levels-last}
 
 -- ---- taking
 
@@ -67,12 +68,11 @@ module _ (work : List ℕ) (width rows : ℕ) (scan : List ℕ) (f : fits work w
 
   pub droppable : {count : ℕ} {entries counts lists : List ℕ} → length entries ≡ maxEntries → TakenAll work width rows scan count entries counts lists
       → Droppable work width rows (take count entries) counts lists
-  unfolding allBelow
   droppable {count} {entries} e t =
       record {
         fit = fit-of;
         few = taken-few entries e (t .few);
-        below = ap (allBelow width) (t .all) ∙ takes-below (cell work width) rows fromFirst width [] scan refl scan-below;
+        below = ap (allBelow width) (t .all) ∙ taken-below (cell work width) rows fromFirst width scan scan-below;
         levels = t .levels;
       }
 
@@ -82,8 +82,7 @@ pub last-level : {work : List ℕ} {width rows : ℕ} {counts lists : List ℕ} 
     → Droppable work width rows (take last entries) counts lists → last ≤ length entries
     → Level (cell work width) rows (take last entries) lists last (getD counts last 0)
 last-level {work} {width} {rows} {counts} {lists} entries last d h =
-    subst (λ (l : List ℕ). Level (cell work width) rows l lists last (getD counts last 0)) (take-take last last entries (le-refl last))
-    (d .levels last (le-of-eq (sym (length-take-le last entries h))))
+    levels-last (λ l i n. Level (cell work width) rows l lists i n) entries counts last h (d .levels)
 
 pub first-inside : {last : ℕ} (lists : List ℕ) → last < maxRows → length lists ≡ maxRows * maxRows → last * maxRows < length lists
 first-inside lists place size = omega (arith, slot-inside place lists (le-refl maxRows) size, some-rows)

@@ -1,12 +1,13 @@
 -- Taking, level by level: a level for each entry taken, whatever is known of it.
 --
+--   levels-last      what is known of the last level, where it is known of each
 --   Climbing         what a loop knows that has taken the entries of a level: of each level up to it, `Level` by the entries taken there and its count
 --   climbing-start, climbing-next, climbing-end   its start, its step and its end
 --   climbing-level   what it knows of its last level
 --   climbing-place, climbing-room, climbing-next-place   there is room for another entry, and its level has a place
 --   climbing-longer  the entries of the next level
 use Prim.Native.Nat.{ℕ, suc, _+_, _≤_, _<_}
-use native.Mathlib.Nat.{le-refl, eq-or-lt-of-le}
+use native.Mathlib.Nat.{le-refl, eq-or-lt-of-le, le-of-eq}
 use native.Mathlib.Numerals.{add-one}
 use native.Mathlib.Omega.{arith}
 use mathlib.Core.Path.{_≡_, sym, ap, subst, _∙_}
@@ -21,6 +22,13 @@ use Rattle.method.proofs.Bounded.{takes-bounded}
 use Rattle.matrix.specs.Matrix.{maxRows, maxEntries, seek}
 use Rattle.matrix.proofs.Sizes.{rows-entries}
 use Rattle.matrix.proofs.Seeking.{sought-within, sought-goes, sought-useful}
+
+pub levels-last : (Level : List ℕ → ℕ → ℕ → Type 0) (entries counts : List ℕ) (last : ℕ) → last ≤ length entries
+    → ((i : ℕ) → i ≤ length (take last entries) → Level (take i (take last entries)) i (getD counts i 0))
+    → Level (take last entries) last (getD counts last 0)
+levels-last Level entries counts last h levels =
+    subst (λ (l : List ℕ). Level l last (getD counts last 0)) (take-take last last entries (le-refl last))
+    (levels last (le-of-eq (sym (length-take-le last entries h))))
 
 pub record Climbing (coef : ℕ → ℕ → ℕ) (rows : ℕ) (needed : ℕ → ℕ → Bool) (scan : List ℕ) (Level : List ℕ → ℕ → ℕ → Type 0)
     (entries counts : List ℕ) (level count at : ℕ) : Type 0 where
@@ -41,8 +49,7 @@ module _ {coef : ℕ → ℕ → ℕ} {rows : ℕ} {needed : ℕ → ℕ → Boo
   pub climbing-level : Level (take level entries) level count
   climbing-level =
       subst (λ (x : ℕ). Level (take level entries) level x) (w .current)
-      (subst (λ (l : List ℕ). Level l level (getD counts level 0)) (take-take level level entries (le-refl level))
-      (w .levels level (omega (arith, so-many))))
+      (levels-last Level entries counts level (omega (arith, w .few, w .entries-sized)) (w .levels))
 
   pub climbing-place : level < maxRows
   climbing-place = omega (arith, w .few, rows-entries)

@@ -2,7 +2,7 @@
 --
 --   entry-below     the entry at a place does
 --   members-below   if each entry does, they all do
---   takes-below     entries taken from a scan do
+--   taken-below     if those of a scan do, those taken from it do
 use Prim.Native.Nat.{ℕ, zero, suc, _<_}
 use native.Mathlib.Nat.{not-suc-le-zero, le-of-suc-le-suc}
 use mathlib.Core.Path.{_≡_, refl}
@@ -34,7 +34,7 @@ below-append width [] m h k = k
 below-append width (x ∷ l) m h k =
     and-i (and-l (ltb x width) (allBelow width l) h) (below-append width l m (and-r (ltb x width) (allBelow width l) h) k)
 
-pub takes-below : (coef : ℕ → ℕ → ℕ) (rows : ℕ) (needed : ℕ → ℕ → Bool) (width : ℕ) (taken scan : List ℕ) → allBelow width taken ≡ true
+takes-below : (coef : ℕ → ℕ → ℕ) (rows : ℕ) (needed : ℕ → ℕ → Bool) (width : ℕ) (taken scan : List ℕ) → allBelow width taken ≡ true
     → allBelow width scan ≡ true → allBelow width (takes coef rows needed taken scan) ≡ true
 unfolding takes allBelow
 takes-below coef rows needed width taken [] h k = h
@@ -43,3 +43,8 @@ takes-below coef rows needed width taken (e ∷ scan) h k =
     (λ u. takes-below coef rows needed width (taken ++ (e ∷ [])) scan
     (below-append width taken (e ∷ []) h (and-i (and-l (ltb e width) (allBelow width scan) k) refl)) (and-r (ltb e width) (allBelow width scan) k))
     (λ u. takes-below coef rows needed width taken scan h (and-r (ltb e width) (allBelow width scan) k))
+
+pub taken-below : (coef : ℕ → ℕ → ℕ) (rows : ℕ) (needed : ℕ → ℕ → Bool) (width : ℕ) (scan : List ℕ) → allBelow width scan ≡ true
+    → allBelow width (takes coef rows needed [] scan) ≡ true
+unfolding allBelow
+taken-below coef rows needed width scan k = takes-below coef rows needed width [] scan refl k

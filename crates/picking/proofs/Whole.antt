@@ -9,13 +9,11 @@
 --   fitting-fit         what the tests of a matrix and its marks tell
 --   chosen              the answer of a matrix
 use Prim.Native.Nat.{ℕ, _≤_, _<_}
-use native.Mathlib.Nat.{le-refl, le-of-eq}
-use mathlib.Core.Path.{_≡_, refl, sym, ap, ap₂, subst, _∙_}
+use mathlib.Core.Path.{_≡_, sym, ap, ap₂, _∙_}
 use mathlib.Core.Bool.{Bool, true, not, cond, _&&_, and-false}
 use mathlib.Core.List.{List, []}
 use borrow.Author.Tests.{not-true, le-leb, lt-leb}
 use lib.ListN.{length, take, getD}
-use lib.Seq.{length-take-le, take-take}
 use Rattle.bits.proofs.Tests.{and-i}
 use Rattle.method.specs.Method.{Pair, agree, drops, signature, firstPair}
 use Rattle.method.specs.Method.Pair.{nobody}
@@ -33,7 +31,8 @@ use Rattle.method.proofs.Takes.{taken-pair}
 use Rattle.picking.proofs.Marked.{labels-pair}
 use Rattle.classes.proofs.Fitting.{pairs-fit}
 use Rattle.classes.proofs.Partners.{none-pending}
-use Rattle.matrix.proofs.Within.{takes-below}
+use Rattle.matrix.proofs.Within.{taken-below}
+use Rattle.matrix.proofs.Climbing.{levels-last}
 
 module _ {two : Two} {p : Pair} (seen : pairTold two ≡ p) (l : List ℕ) where
   pub concluded-alike : (a b : ℕ) {s : Signature} → two ≡ Both a b → s ≡ signatureOf []
@@ -53,9 +52,7 @@ module _ (work : List ℕ) (width rows : ℕ) (marks : List ℕ) (count : ℕ) (
   -- the classes by all entries taken
   pub last-level : Level work width rows marks (take count entries) (slot count labels) (slot count pending) (getD counts count 0)
   last-level =
-      subst (λ (l : List ℕ). Level work width rows marks l (slot count labels) (slot count pending) (getD counts count 0))
-      (take-take count count entries (le-refl count))
-      (levels count (le-of-eq (sym (length-take-le count entries h))))
+      levels-last (λ l i n. Level work width rows marks l (slot i labels) (slot i pending) n) entries counts count h levels
 
   pub last-own : getD counts count 0 ≡ 0 → OwnLabels rows (slot count labels)
   last-own e =
@@ -78,8 +75,7 @@ module _ (work : List ℕ) (width rows : ℕ) (marks scan : List ℕ) where
 
   pub chosen-below : {count : ℕ} {entries counts labels pending : List ℕ} → allBelow width scan ≡ true
       → TakenAll work width rows marks scan count entries counts labels pending → allBelow width (take count entries) ≡ true
-  unfolding allBelow
-  chosen-below below taken = ap (allBelow width) (taken .all) ∙ takes-below (cell work width) rows (apart marks) width [] scan refl below
+  chosen-below below taken = ap (allBelow width) (taken .all) ∙ taken-below (cell work width) rows (apart marks) width scan below
 
   pub chosen-unmarked : {r : Choice} → length marks < rows → r ≡ choiceOf unfit → r ≡ choiceOf (picked work width rows marks scan)
   unfolding picked

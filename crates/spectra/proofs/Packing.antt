@@ -13,13 +13,13 @@
 --   packing-first    the eight entries of the next byte have indices that fit a usize
 --   packing-more     one byte more
 --   packing-all      all bytes: the packed parities
---   copied-more      one byte more of a table is copied to the start of a list
---   copied-all       all bytes of a table are copied to the start of a list
+--   copied-whole     a table is copied to the start of a list
 use Prim.Native.Nat.{ℕ, _+_, _*_, _^_, _≤_, _<_}
 use native.Mathlib.Omega.{arith}
-use native.Mathlib.Nat.{le-antisymm}
+use native.Mathlib.Nat.{le-antisymm, le-refl}
 use native.Mathlib.Numerals.{add-one}
 use mathlib.Core.Path.{_≡_, refl, sym, ap, _∙_}
+use mathlib.Core.Bool.{Bool, cond}
 use mathlib.Core.List.{List, [], _∷_, _++_}
 use mathlib.Core.Logic.{⊎-elim}
 use lib.ListN.{length, set}
@@ -30,7 +30,9 @@ use Rattle.bits.specs.Bits.{valueFrom}
 use Rattle.bits.specs.Packed.{tabulate, packed}
 use Rattle.bits.proofs.Below.{lt-or-ge}
 use Rattle.bits.proofs.Packed.{tabulate-more, tabulate-at, tabulate-past, length-packed, packed-at}
-use Rattle.gates.specs.Rows.{splice}
+use lib.Seq.{take-all}
+use Rattle.gates.specs.Rows.{part, splice, copyFits}
+use Rattle.gates.proofs.Fitting.{copy-fits}
 use Rattle.gates.proofs.Splice.{Written, written-none, written-length, written-all}
 use Rattle.transform.specs.Operations.{at}
 use Rattle.transform.proofs.Writing.{tabulate-list, splice-whole, filled-more}
@@ -108,9 +110,9 @@ module _ {k : ℕ} {numbers start : List ℕ} (p : Packs k numbers start) where
         written-all w (omega (arith, written-length w)) ∙ ap (λ (n : ℕ). splice start 0 (tabulate n (at new))) (sym len)
         ∙ ap (splice start 0) (tabulate-list new) ∙ splice-whole start new len
 
-pub copied-more : (out table : List ℕ) {after : List ℕ} {i : ℕ} → Written out 0 (length table) (at table) after i → i < length table
-    → Written out 0 (length table) (at table) (set after i (at table i)) (i + 1)
-copied-more out table {after} {i} w h = filled-more w (at table i) h refl
-
-pub copied-all : (out table after : List ℕ) {i : ℕ} → Written out 0 (length table) (at table) after i → length table ≤ i → after ≡ splice out 0 table
-copied-all out table after w h = written-all w h ∙ ap (splice out 0) (tabulate-list table)
+-- a table copied to the start of a list, where there is room
+pub copied-whole : (out table : List ℕ) {after : List ℕ} → length table ≤ length out
+    → after ≡ cond (copyFits 0 0 (length table) (length out) (length table)) (splice out 0 (part 0 (length table) table)) out → after ≡ splice out 0 table
+copied-whole out table h e =
+    e ∙ ap (λ (t : Bool). cond t (splice out 0 (part 0 (length table) table)) out) (copy-fits 0 0 (length table) (length out) (length table) (omega arith) (omega arith))
+    ∙ ap (splice out 0) (take-all (length table) table (le-refl (length table)))

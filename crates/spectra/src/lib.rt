@@ -128,18 +128,6 @@ fn same(a: &[u16], b: &[u16]) -> bool
     true
 }
 
-// Copies a table to the start of `out`.
-fn copy(out: &mut [u8], table: &[u8])
-    requires { ⌜ length (now table) ≤ length (now out) ⌝ }
-    ensures { λ r. ⌜ now (out .exit) ≡ splice (now (out .entry)) 0 (now (table .entry)) ⌝ }
-{
-    let mut i = 0;
-    while i < table.len() {
-        out[i] = table[i];
-        i += 1;
-    }
-}
-
 // Recovers the table, makes its spectrum, and compares.
 fn undo_in(
     table: &mut [u8],
@@ -161,7 +149,7 @@ fn undo_in(
     if out.len() < table.len() {
         return Outcome::Refused(Refusal::Memory);
     }
-    copy(out, table);
+    gates::copy(out, 0, table, 0, table.len());
     Outcome::Done
 }
 

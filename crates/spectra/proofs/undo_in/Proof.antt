@@ -3,6 +3,7 @@ use mathlib.Core.Path.{sym, _∙_}
 use borrow.Author.Tests.{not-true, not-false}
 use denote.Ref.{now}
 use Rattle.spectra.proofs.Undoing.{compares, undo-none, undo-memory, undo-done}
+use Rattle.spectra.proofs.Packing.{copied-whole}
 use Rattle.spectra.proofs.undo_in.Statement.{statement}
 use Rattle.spectra.proofs.undo_in.Tie as tie
 
@@ -34,7 +35,7 @@ returns-2 : tie.Need-returns-2
 returns-2 c = let a = c .before .before .before .before .before .before .before .before .before .before .before .before .before .before .before .before .before .before .before .before .args in let l = c .before .before .before .before .before .before .before .before .before .before .before .before .before .before .before .before .before .before .before .before .pre in undo-memory (a .n) (now (a .numbers)) (a .kind) (a .k) (now (a .out)) (l .some) (l .few) (l .polarity) (sym (not-false _ (c .before .if1 .left)) ∙ c .before .before .same .ensures ∙ compares l (a .kind) (c .before .before .before .before .before .before .before .before .before .before .before .before .before .recover .last .1 .0) (c .before .before .before .before .before .before .before .before .before .before .before .before .before .recover .ensures) (c .before .before .before .before .before .before .before .before .before .before .sums .given) (c .before .before .before .before .before .before .row-spectra .ensures)) (c .before .before .before .before .before .before .before .before .before .before .before .before .before .recover .ensures) (c .if2 .taken)
 
 copy-requires : tie.Need-copy-requires
-copy-requires c κs = c .before .before .if2 .left
+copy-requires c κs = tt
 
 same-length-5 : tie.Need-same-length-5
 same-length-5 c = c .before .before .before .before .before .before .before .before .before .before .before .before .before .before .before .before .before .before .recover .kept .0
@@ -46,7 +47,7 @@ same-length-7 : tie.Need-same-length-7
 same-length-7 c = c .before .before .copy .kept .0
 
 returns-3 : tie.Need-returns-3
-returns-3 c = let a = c .before .before .before .before .before .before .before .before .before .before .before .before .before .before .before .before .before .before .before .before .before .before .before .before .before .args in let l = c .before .before .before .before .before .before .before .before .before .before .before .before .before .before .before .before .before .before .before .before .before .before .before .before .before .pre in undo-done (a .n) (now (a .numbers)) (a .kind) (a .k) (now (a .out)) (l .some) (l .few) (l .polarity) (sym (not-false _ (c .before .before .before .before .before .before .if1 .left)) ∙ c .before .before .before .before .before .before .before .same .ensures ∙ compares l (a .kind) (c .before .before .before .before .before .before .before .before .before .before .before .before .before .before .before .before .before .before .recover .last .1 .0) (c .before .before .before .before .before .before .before .before .before .before .before .before .before .before .before .before .before .before .recover .ensures) (c .before .before .before .before .before .before .before .before .before .before .before .before .before .before .before .sums .given) (c .before .before .before .before .before .before .before .before .before .before .before .row-spectra .ensures)) (c .before .before .before .before .before .before .before .before .before .before .before .before .before .before .before .before .before .before .recover .ensures) (c .before .before .before .before .before .if2 .left) (c .before .before .copy .ensures)
+returns-3 c = let a = c .before .before .before .before .before .before .before .before .before .before .before .before .before .before .before .before .before .before .before .before .before .before .before .before .before .args in let l = c .before .before .before .before .before .before .before .before .before .before .before .before .before .before .before .before .before .before .before .before .before .before .before .before .before .pre in undo-done (a .n) (now (a .numbers)) (a .kind) (a .k) (now (a .out)) (l .some) (l .few) (l .polarity) (sym (not-false _ (c .before .before .before .before .before .before .if1 .left)) ∙ c .before .before .before .before .before .before .before .same .ensures ∙ compares l (a .kind) (c .before .before .before .before .before .before .before .before .before .before .before .before .before .before .before .before .before .before .recover .last .1 .0) (c .before .before .before .before .before .before .before .before .before .before .before .before .before .before .before .before .before .before .recover .ensures) (c .before .before .before .before .before .before .before .before .before .before .before .before .before .before .before .sums .given) (c .before .before .before .before .before .before .before .before .before .before .before .row-spectra .ensures)) (c .before .before .before .before .before .before .before .before .before .before .before .before .before .before .before .before .before .before .recover .ensures) (c .before .before .before .before .before .if2 .left) (copied-whole (now (a .out)) (c .before .before .before .before .before .before .before .before .before .before .before .before .before .before .before .before .before .before .recover .last .0) (c .before .before .before .before .before .if2 .left) (c .before .before .copy .ensures))
 
 pub undo-in-spec : {M : Type 1} → statement M
 undo-in-spec =
