@@ -41,6 +41,7 @@ use Rattle.classes.specs.Labels.{Holds}
 use Rattle.matrix.specs.Matrix.{cell, fromFirst, maxRows, allBelow, fits, picked, pickedBy, pickedOver, covered, choiceOf, signatureOf}
 use Rattle.method.specs.Method.{agree, signature, firstPair, Pair}
 use Rattle.method.specs.Method.Pair.{nobody, pair}
+use Rattle.matrix.specs.declared.Choice.{Choice as Picking}
 use Rattle.matrix.proofs.Cells.{cell-within}
 use Rattle.matrix.proofs.Fits.{fits-fit}
 use Rattle.matrix.proofs.Over.{picked-over, covered-over}

@@ -1,4 +1,4 @@
--- The tests of a matrix and its marks (specs/Matrix.antt).
+-- The tests of a matrix (specs/Matrix.antt).
 --
 --   fits-told       the tests hold, as the code finds them
 --   fits-fit        what the tests tell
