@@ -13,6 +13,7 @@ use mathlib.Core.Bool.{Bool, not, _&&_}
 use mathlib.Core.List.{List, [], _++_}
 use lib.Count.{ones}
 use lib.Dec.{leb, eqb}
+use lib.ListN.{length}
 use Rattle.bits.specs.Answer.{Answer, Fills, leaves, number, unless, onward}
 use Rattle.bits.specs.Answer.Answer.{gives, refused}
 use Rattle.job.specs.declared.Job.{Job}
