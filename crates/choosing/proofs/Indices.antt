@@ -6,17 +6,20 @@
 --   scan-has, scan-below         every index below N is looked at, and no other
 --   length-scanTo                no more indices are listed than there are
 --   length-all                   and as many, once no index has a higher order
+--   length-one                   with no input there is one index, of order 0
+--   pascal                       Pascal's rule: with one input more, an index has its bit and one order more, or has it not
 --   agree-scan, scan-agree       rows agree on all indices when their coefficients are the same
 use Prim.Native.Nat.{ℕ, zero, suc, _+_, _^_, _≤_, _<_}
-use native.Mathlib.Nat.{not-suc-le-zero, eq-or-lt-of-le, le-of-suc-le-suc}
+use native.Mathlib.Nat.{not-suc-le-zero, eq-or-lt-of-le, le-of-suc-le-suc, le-refl, add-zero, add-suc, one-mul}
+use native.Mathlib.Numerals.{add-one}
 use native.Mathlib.Omega.{arith}
 use mathlib.Core.Path.{_≡_, refl, sym, ap, _∙_}
 use mathlib.Core.Bool.{Bool, true, false, cond}
 use mathlib.Core.Logic.{⊎-elim}
 use mathlib.Core.List.{List, [], _∷_, List·Memᴰ, List·Memᴰ·head, List·Memᴰ·tail, List·Memᴰ·not-nil, List·Memᴰ·cases-cons, List·Memᴰ·append-cases, List·Memᴰ·eq-of-singleton, Memᴰ·append-left, Memᴰ·append-right}
 use borrow.Author.Tests.{eq-eqb, ne-eqb, eqb-true, lt-ltb, le-ltb}
-use lib.Count.{ones, ones-le}
-use lib.Dec.{eqb, ltb}
+use lib.Count.{ones, onesIn, ones-le, ones-cat}
+use lib.Dec.{eqb, ltb, leb·suc-suc}
 use lib.ListN.{length, length-append}
 use Rattle.bits.proofs.Below.{lt-or-ge}
 use Rattle.bits.proofs.Tests.{and-l, and-r, and-i, clash}
@@ -137,6 +140,26 @@ length-all (suc size) order h =
     let s : length (scanTo (suc size) order) ≡ length (scanTo size order) + 1 = length-suc size order ∙ rw (lt-ltb (ones size) order (h size (omega arith))) in
     let small : length (scanTo size order) ≡ size = length-all size order (λ e l. h e (omega arith)) in
     omega arith
+
+pub length-one : (order : ℕ) → length (scanTo 1 (suc order)) ≡ 1
+length-one order = length-all 1 (suc order) (λ e h. omega (arith, ones-le 0 e h))
+
+one-more : (m i : ℕ) → i < 2 ^ m → ones (2 ^ m + i) ≡ suc (ones i)
+unfolding ones onesIn
+one-more m i h = ap (λ (x : ℕ). ones (x + i)) (sym (one-mul (2 ^ m))) ∙ ones-cat m 1 i h ∙ omega arith
+
+-- the first so many indices that have the bit of one input more are, by order, those that have it not
+length-more : (m i order : ℕ) → i ≤ 2 ^ m → length (scanTo (2 ^ m + i) (suc order)) ≡ length (scanTo (2 ^ m) (suc order)) + length (scanTo i order)
+length-more m zero order h = ap (λ (x : ℕ). length (scanTo x (suc order))) (add-zero (2 ^ m)) ∙ omega (arith, length-none order)
+length-more m (suc i) order h =
+    let last : ltb (ones (2 ^ m + i)) (suc order) ≡ ltb (ones i) order = ap (λ (x : ℕ). ltb x (suc order)) (one-more m i h) ∙ leb·suc-suc (suc (ones i)) order in
+    let upper = length-suc (2 ^ m + i) (suc order) ∙ ap (λ (t : Bool). length (scanTo (2 ^ m + i) (suc order)) + cond t 1 0) last in
+    ap (λ (x : ℕ). length (scanTo x (suc order))) (add-suc (2 ^ m) i) ∙ omega (arith, upper, length-suc i order, length-more m i order (omega arith))
+
+pub pascal : (m order : ℕ) → length (scanTo (2 ^ (m + 1)) (suc order)) ≡ length (scanTo (2 ^ m) (suc order)) + length (scanTo (2 ^ m) order)
+pascal m order =
+    let double : 2 ^ (m + 1) ≡ 2 ^ m + 2 ^ m = ap (λ (x : ℕ). 2 ^ x) (add-one m) ∙ omega arith in
+    ap (λ (x : ℕ). length (scanTo x (suc order))) double ∙ length-more m (2 ^ m) order (le-refl (2 ^ m))
 
 -- ---- rows that agree on them
 

@@ -5,23 +5,25 @@
 --   place-few, place-apart     its place is below the number of indices, and no other index has it
 --   Raised                     numbers, one for each order, that each index below e has raised by one
 --   raised-none, raised-at, raised-next      their start, the one that index e raises, and their step
---   counts-none, counts-few, counts-all      raised from 0, they count the indices of each order
---   Starting                   what a loop has done after so many orders: their first places are there
---   starting-none, starting-fits, starting-next, starting-all   its start, its room, its step and its end
+--   Summing                    what a loop has done from the highest order down to one: each number has the one before added
+--   summing-none, summing-next, summing-all                     its start, its step and its end
+--   summing-inside, summing-before, summing-fits                its two places, and the room for their sum
+--   Starting                   the first place of each order, with so many inputs
+--   starting-none, starting-few, starting-next, starting-all    its start, its room, its step and its end
 --   Placing                    what a loop has done after e turns: the indices below e stand at their places
 --   placing-none, placing-inside, placing-next, placing-all     its start, its room, its step and its end
 --   placed-listed              indices that stand at their places are listed in the order of looking
---   shifted-few                the number of indices as the code works it out
+--   shifted-few, shifted-firsts              the number of indices as the code works it out
 --   listed-length, listed-within             a list that stands in an array is no longer than the array
-use Prim.Native.Nat.{ℕ, zero, suc, _+_, _*_, _%_, _^_, _≤_, _<_, min}
-use native.Mathlib.Nat.{not-suc-le-zero, eq-or-lt-of-le, le-of-suc-le-suc, le-refl, zero-add}
+use Prim.Native.Nat.{ℕ, zero, suc, _+_, _-_, _*_, _%_, _^_, _≤_, _<_, min}
+use native.Mathlib.Nat.{not-suc-le-zero, eq-or-lt-of-le, le-of-suc-le-suc, le-refl}
 use native.Mathlib.Numerals.{add-one}
 use native.Mathlib.Omega.{arith}
 use mathlib.Core.Path.{_≡_, refl, sym, ap, ap₂, subst, _∙_}
 use mathlib.Core.Bool.{Bool, true, false, cond}
 use mathlib.Core.Logic.{⊎-elim}
 use mathlib.Core.List.{List, [], _∷_, _++_, append-nil, append-assoc}
-use mir.Syntax.{w16}
+use mir.Syntax.{w16, w64}
 use mir.Val.{Fits}
 use borrow.Author.Tests.{eq-eqb, ne-eqb, eqb-true, eqb-false}
 use lib.Count.{ones, ones-le}
@@ -37,9 +39,8 @@ use Rattle.bits.specs.Passing.{passing}
 use Rattle.method.proofs.Pairs.{by-test}
 use Rattle.classes.specs.Labels.{Holds}
 use Rattle.choosing.specs.Choosing.{scanTo, scanOrder}
-use Rattle.choosing.specs.Looking.{maxPlaces, maxOrders, ofOrder, placeOf, Placed, Listed}
-use Rattle.classes.proofs.Columns.{Filling, filling-start, filling-next, filling-all}
-use Rattle.choosing.proofs.Indices.{length-passing, passing-more, length-scanTo, length-all}
+use Rattle.choosing.specs.Looking.{maxPlaces, maxOrders, Few, summed, ofOrder, placeOf, Placed, Listed}
+use Rattle.choosing.proofs.Indices.{length-passing, passing-more, length-scanTo, length-all, length-one, pascal}
 use Rattle.choosing.proofs.Sizes.{places-fit}
 
 -- ---- one index
@@ -134,7 +135,7 @@ module _ {base : ℕ → ℕ} {e order : ℕ} {l : List ℕ} (w : Raised base e 
       ap (λ (j : ℕ). length (ofOrder k j)) (add-one e) ∙ order-same k e (λ p. d (p ∙ sym o)) in
       getD-set-other l order k (x + 1) 0 d ∙ w .held k b ∙ ap (λ (i : ℕ). base k + i) (sym same)
 
-  pub raised-next : {x : ℕ} → x ≡ getD l order 0 → Raised base (e + 1) (set l order (x + 1))
+  raised-next : {x : ℕ} → x ≡ getD l order 0 → Raised base (e + 1) (set l order (x + 1))
   raised-next {x} p =
       record {
         long = length-set l order (x + 1) ∙ w .long;
@@ -144,44 +145,88 @@ module _ {base : ℕ → ℕ} {e order : ℕ} {l : List ℕ} (w : Raised base e 
             (λ f. raised-other k x b (eqb-false k order f));
       }
 
-pub counts-none : Raised (λ order. 0) 0 (replicate maxOrders 0)
-counts-none = raised-none (λ order. 0) (replicate maxOrders 0) (length-replicate maxOrders 0) (λ order h. getD-replicate maxOrders order 0 0 h)
-
-pub counts-few : {e order : ℕ} {l : List ℕ} → Raised (λ order. 0) e l → e < maxPlaces → order ≡ ones e → getD l order 0 < maxPlaces
-counts-few {e} w h o = omega (arith, raised-at w h o, length-order e (ones e), length-scanTo e (suc (ones e)))
-
--- raised from 0, they count the indices of each order
-pub counts-all : {size e : ℕ} {l : List ℕ} → Raised (λ order. 0) e l → e ≤ size → size ≤ e → Holds maxOrders (λ order. length (ofOrder order size)) l
-counts-all {size} {e} w h k order b =
-    let end : e ≡ size = omega arith in
-    w .held order b ∙ ap (λ (x : ℕ). 0 + length (ofOrder order x)) end ∙ zero-add (length (ofOrder order size))
-
 -- ---- the first place of each order
 
-pub record Starting (size order place : ℕ) (l : List ℕ) : Type 0 where
-  pub reached : place ≡ length (scanTo size order)
-  pub starts : Filling maxOrders maxOrders (λ order. length (scanTo size order)) l order
+pub record Summing (start : List ℕ) (order : ℕ) (l : List ℕ) : Type 0 where
+  pub within : order < maxOrders
+  pub long : length l ≡ maxOrders
+  pub done : (k : ℕ) → order < k → k < maxOrders → getD l k 0 ≡ summed start k
+  pub kept : (k : ℕ) → k ≤ order → getD l k 0 ≡ getD start k 0
 
-pub starting-none : (size : ℕ) (l : List ℕ) → length l ≡ maxOrders → Starting size 0 0 l
-unfolding scanTo
-starting-none size l e = record { reached = refl; starts = filling-start maxOrders (λ order. length (scanTo size order)) l e }
+pub summing-none : (start : List ℕ) → length start ≡ maxOrders → Summing start maxInputs start
+unfolding maxOrders
+summing-none start e =
+    record { within = omega arith; long = e; done = λ k (a : maxInputs < k) (b : k < suc maxInputs). absurd (omega arith); kept = λ k h. refl }
 
-module _ {size order place count : ℕ} {l : List ℕ} (w : Starting size order place l) (c : count ≡ length (ofOrder order size)) where
-  starting-sum : place + count ≡ length (scanTo size (suc order))
-  starting-sum = omega (arith, w .reached, c, length-order size order)
+summed-before : (l : List ℕ) (order : ℕ) → 0 < order → getD l order 0 + getD l (order - 1) 0 ≡ summed l order
+summed-before l zero h = absurd (not-suc-le-zero h)
+summed-before l (suc order) h = let e : suc order - 1 ≡ order = omega arith in ap (λ (x : ℕ). getD l (suc order) 0 + getD l x 0) e
 
-  pub starting-fits : size ≤ maxPlaces → place + count ≤ maxPlaces
-  starting-fits few = omega (arith, starting-sum, length-scanTo size (suc order))
+module _ {start l : List ℕ} {order : ℕ} (w : Summing start order l) where
+  pub summing-inside : order < length l
+  summing-inside = omega (arith, w .within, w .long)
 
-  pub starting-next : order < maxOrders → Starting size (order + 1) (place + count) (set l order place)
-  starting-next h =
+  pub summing-before : order - 1 < length l
+  summing-before = omega (arith, w .within, w .long)
+
+  pub summing-fits : Few start → Fits w64 (getD l order 0 + getD l (order - 1) 0)
+  summing-fits few =
+      let a = w .kept order (le-refl order) in
+      let b = w .kept (order - 1) (omega arith) in
+      omega (arith, few order (w .within), few (order - 1) (omega (arith, w .within)), places-fit)
+
+  summed-at : 0 < order → getD l order 0 + getD l (order - 1) 0 ≡ summed start order
+  summed-at h = ap₂ (λ (x y : ℕ). x + y) (w .kept order (le-refl order)) (w .kept (order - 1) (omega arith)) ∙ summed-before start order h
+
+  pub summing-next : {v : ℕ} → v ≡ getD l order 0 + getD l (order - 1) 0 → 0 < order → Summing start (order - 1) (set l order v)
+  summing-next {v} e h =
       record {
-        reached = starting-sum ∙ ap (λ (x : ℕ). length (scanTo size x)) (sym (add-one order));
-        starts = filling-next (w .starts) (le-refl maxOrders) h (w .reached);
+        within = omega (arith, w .within);
+        long = length-set l order v ∙ w .long;
+        done = λ k (a : order - 1 < k) b.
+            ⊎-elim
+            (λ (p : order ≡ k). ap (λ (x : ℕ). getD (set l order v) x 0) (sym p) ∙ getD-set-same l order v 0 summing-inside ∙ e ∙ summed-at h ∙ ap (summed start) p)
+            (λ (m : order < k). getD-set-other l order k v 0 (λ (p : k ≡ order). absurd (omega arith)) ∙ w .done k m b)
+            (eq-or-lt-of-le (omega arith));
+        kept = λ k (a : k ≤ order - 1). getD-set-other l order k v 0 (λ (p : k ≡ order). absurd (omega arith)) ∙ w .kept k (omega arith);
       }
 
-pub starting-all : {size order place : ℕ} {l : List ℕ} → Starting size order place l → maxOrders ≤ order → Holds maxOrders (λ order. length (scanTo size order)) l
-starting-all w h = filling-all (w .starts) h
+  pub summing-all : order ≤ 0 → Holds maxOrders (summed start) l
+  summing-all h zero b = w .kept zero (omega arith)
+  summing-all h (suc k) b = w .done (suc k) (omega arith) b
+
+pub record Starting (n m : ℕ) (l : List ℕ) : Type 0 where
+  pub within : m ≤ n
+  pub long : length l ≡ maxOrders
+  pub held : Holds maxOrders (λ order. length (scanTo (2 ^ m) order)) l
+
+start-held : Holds maxOrders (λ order. length (scanTo 1 order)) (set (replicate maxOrders 1) 0 0)
+unfolding scanTo
+start-held zero h = getD-set-same (replicate maxOrders 1) 0 0 0 (omega (arith, length-replicate {A = ℕ} maxOrders 1))
+start-held (suc order) h =
+    getD-set-other (replicate maxOrders 1) 0 (suc order) 0 0 (λ (e : suc order ≡ 0). absurd (omega arith))
+    ∙ getD-replicate maxOrders (suc order) 1 0 h ∙ sym (length-one order)
+
+pub starting-none : (n : ℕ) → Starting n 0 (set (replicate maxOrders 1) 0 0)
+starting-none n =
+    record { within = omega arith; long = length-set (replicate maxOrders 1) 0 0 ∙ length-replicate maxOrders 1; held = start-held }
+
+module _ {n m : ℕ} {l : List ℕ} (w : Starting n m l) (h : m < n) where
+  pub starting-few : n ≤ maxInputs → (length l ≡ maxOrders) × Few l
+  unfolding maxPlaces
+  starting-few few =
+      (w .long, λ order b. omega (arith, w .held order b, length-scanTo (2 ^ m) order, pow-mono {i = m} {j = maxInputs} (omega arith)))
+
+  summed-start : (order : ℕ) → order < maxOrders → summed l order ≡ length (scanTo (2 ^ (m + 1)) order)
+  unfolding scanTo
+  summed-start zero b = w .held zero b
+  summed-start (suc order) b = ap₂ (λ (x y : ℕ). x + y) (w .held (suc order) b) (w .held order (omega arith)) ∙ sym (pascal m order)
+
+  pub starting-next : {after : List ℕ} → length after ≡ length l → Holds maxOrders (summed l) after → Starting n (m + 1) after
+  starting-next e s = record { within = omega arith; long = e ∙ w .long; held = λ order b. s order b ∙ summed-start order b }
+
+pub starting-all : {n m : ℕ} {l : List ℕ} → Starting n m l → n ≤ m → Holds maxOrders (λ order. length (scanTo (2 ^ n) order)) l
+starting-all {n} {m} w h order b = let e : m ≡ n = omega (arith, w .within) in w .held order b ∙ ap (λ (x : ℕ). length (scanTo (2 ^ x) order)) e
 
 -- ---- all indices
 
@@ -284,6 +329,10 @@ module _ {n : ℕ} (few : n ≤ maxInputs) where
   pub shifted-few : shifted n ≤ maxPlaces
   unfolding maxPlaces
   shifted-few = rw shifted-is (pow-mono {i = n} {j = maxInputs} few)
+
+  pub shifted-firsts : (l : List ℕ) → Holds maxOrders (λ order. length (scanTo (2 ^ n) order)) l
+      → Holds maxOrders (λ order. length (scanTo (shifted n) order)) l
+  shifted-firsts l h order b = h order b ∙ ap (λ (x : ℕ). length (scanTo x order)) (sym shifted-is)
 
   pub placed-listed : {count : ℕ} {places : List ℕ} → length places ≡ maxPlaces → (count ≡ shifted n) × Placed (shifted n) places
       → Listed (scanOrder n) count places

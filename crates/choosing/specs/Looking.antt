@@ -2,6 +2,8 @@
 --
 --   maxPlaces   the most coefficients of a circuit
 --   maxOrders   the most orders of an index
+--   Few         no number of an array is above the most coefficients
+--   summed      each number of an array and the one before it
 --   ofOrder     the indices of one order below a bound
 --   placeOf     the place of an index in the order of looking
 --   Placed      the indices stand at their places
@@ -9,7 +11,7 @@
 --   Filled      the counts are a job's, and its spectra lie within the work
 --   choiceIn    the choice over any coefficients of the counted circuits
 --   answerOf    the answer that stands for a choice
-use Prim.Native.Nat.{ℕ, suc, _+_, _*_, _^_, _≤_, _<_}
+use Prim.Native.Nat.{ℕ, zero, suc, _+_, _*_, _^_, _≤_, _<_}
 use mathlib.Core.Path.{_≡_}
 use mathlib.Core.Bool.{_&&_}
 use mathlib.Core.List.{List}
@@ -39,6 +41,14 @@ maxPlaces = 2 ^ maxInputs
 -- 0 to 8
 unfoldable pub maxOrders : ℕ
 maxOrders = suc maxInputs
+
+-- a number for each order
+abbrev pub Few : List ℕ → Type 0
+Few l = (order : ℕ) → order < maxOrders → getD l order 0 ≤ maxPlaces
+
+abbrev pub summed : List ℕ → ℕ → ℕ
+summed l zero = getD l 0 0
+summed l (suc order) = getD l (suc order) 0 + getD l order 0
 
 abbrev pub ofOrder : ℕ → ℕ → List ℕ
 ofOrder order e = passing (λ i. eqb (ones i) order) e

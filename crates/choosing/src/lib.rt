@@ -11,7 +11,7 @@ ghost use Rattle.matrix.specs.Matrix.{cell, maxRows, fits, pickedOver, choiceOf
 ghost use Rattle.choosing.specs.Choosing.{mark, needed, scanTo, scanOrder, chosenOf, chose, verdictTold};
 ghost use Rattle.choosing.specs.declared.Purpose.the-variants.{Isolating};
 ghost use Rattle.choosing.specs.declared.Verdict.the-variants.{Refused};
-ghost use Rattle.choosing.specs.Looking.{maxPlaces, maxOrders, ofOrder, Placed, Listed, Filled, choiceIn, verdictOf, answerOf};
+ghost use Rattle.choosing.specs.Looking.{maxPlaces, maxOrders, Few, summed, Placed, Listed, Filled, choiceIn, verdictOf, answerOf};
 use bits::Refusal;
 use matrix::Choice;
 use matrix::Found;
@@ -94,34 +94,30 @@ fn orders_below(size: usize) -> Orders
     Orders { of }
 }
 
-// How many indices below `size` there are of each order.
-fn count_orders(orders: &[u8], size: usize) -> PerOrder
-    requires { ⌜ (size ≤ maxPlaces) × (length (now orders) ≡ maxPlaces) × Holds size ones (now orders) ⌝ }
-    ensures { λ r. ⌜ Holds maxOrders (λ order. length (ofOrder order size)) (r .of) ⌝ }
+// The first places with one input more: an index has the new input's bit, and its order is one more, or has it not. From the highest order down, so that
+// each sum takes the places as they were.
+fn add_input(firsts: &mut [usize])
+    requires { ⌜ (length (now firsts) ≡ maxOrders) × Few (now firsts) ⌝ }
+    ensures { λ r. ⌜ Holds maxOrders (summed (now (firsts .entry))) (now (firsts .exit)) ⌝ }
 {
-    let mut of = [0usize; MAX_ORDERS];
-    let mut e = 0;
-    while e < size {
-        let order = orders[e] as usize;
-        of[order] = of[order] + 1;
-        e += 1;
+    let mut order = MAX_ORDERS - 1;
+    while 0 < order {
+        firsts[order] = firsts[order] + firsts[order - 1];
+        order -= 1;
     }
-    PerOrder { of }
 }
 
-// The place of the first index of each order, after all those of lower order.
-fn first_places(orders: &[u8], size: usize) -> PerOrder
-    requires { ⌜ (size ≤ maxPlaces) × (length (now orders) ≡ maxPlaces) × Holds size ones (now orders) ⌝ }
-    ensures { λ r. ⌜ Holds maxOrders (λ order. length (scanTo size order)) (r .of) ⌝ }
+// The place of the first index of each order, after all those of lower order: sums of binomial coefficients.
+fn first_places(n: usize) -> PerOrder
+    requires { ⌜ n ≤ maxInputs ⌝ }
+    ensures { λ r. ⌜ Holds maxOrders (λ order. length (scanTo (2 ^ n) order)) (r .of) ⌝ }
 {
-    let counts = count_orders(orders, size);
-    let mut of = [0usize; MAX_ORDERS];
-    let mut place = 0;
-    let mut order = 0;
-    while order < MAX_ORDERS {
-        of[order] = place;
-        place += counts.of[order];
-        order += 1;
+    let mut of = [1usize; MAX_ORDERS];
+    of[0] = 0;
+    let mut m = 0;
+    while m < n {
+        add_input(&mut of);
+        m += 1;
     }
     PerOrder { of }
 }
@@ -151,7 +147,7 @@ fn scan_order(n: usize) -> Scan
 {
     let size = 1 << n;
     let orders = orders_below(size);
-    let firsts = first_places(&orders.of, size);
+    let firsts = first_places(n);
     put_indices(&orders.of, firsts, size)
 }
 

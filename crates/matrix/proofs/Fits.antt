@@ -2,47 +2,80 @@
 --
 --   fits-told       the tests hold, as the code finds them
 --   fits-fit        what the tests tell
---   Bounding        what a loop knows that has compared i entries with the width: all below
---   bounding-none, bounding-stop, bounding-next, bounding-all    its start, its ways out and its step
+--   larger-first, larger-second   the larger of two numbers, as the code finds it
+--   Bounding        what a loop knows of the largest of the first i entries
+--   bounding-none, bounding-next, bounding-all    its start, its step and its end
 --   unfit-none, unfit-many, unfit-width, unfit-work  one of the tests fails
 --   fit-entries     all but the last hold
 use Prim.Native.Nat.{ℕ, suc, _+_, _*_, _/_, _≤_, _<_}
 use native.Mathlib.Nat.{le-div-iff-mul-le, div-lt-iff-lt-mul}
 use native.Mathlib.Numerals.{add-one}
 use native.Mathlib.Omega.{arith}
-use mathlib.Core.Path.{_≡_, refl, sym, ap, _∙_}
-use mathlib.Core.Bool.{Bool, true, false, not, _&&_, and-false}
+use mathlib.Core.Path.{_≡_, sym, ap, ap₂, _∙_}
+use mathlib.Core.Bool.{Bool, true, false, not, cond, _&&_, and-true, and-false, and-assoc}
+use mathlib.Core.Logic.{⊎-elim}
 use mathlib.Core.List.{List}
 use borrow.Author.Tests.{not-false, lt-ltb, le-ltb, leb-true, le-leb, lt-leb}
 use lib.Dec.{leb, ltb}
 use lib.ListN.{length, getD, drop, drop-of-length-le}
 use lib.Seq.{drop-cons}
+use mir.Syntax.{w64}
+use mir.Val.{Fits}
+use Rattle.bits.proofs.Below.{lt-or-ge}
 use Rattle.bits.proofs.Tests.{and-l, and-r}
 use Rattle.matrix.specs.Matrix.{maxRows, allBelow, fits}
 
 -- ---- every entry lies within a row
 
-pub record Bounding (width : ℕ) (scan : List ℕ) (i : ℕ) : Type 0 where
+module _ (a b : ℕ) where
+  pub larger-first : b ≤ a → a ≡ cond (ltb a b) b a
+  larger-first h = simp (le-ltb a b h)
+
+  pub larger-second : a < b → b ≡ cond (ltb a b) b a
+  larger-second h = simp (lt-ltb a b h)
+
+  -- the larger of two numbers is below a width when both are
+  larger-below : (width : ℕ) → ltb (cond (ltb a b) b a) width ≡ ltb a width && ltb b width
+  larger-below width =
+      ⊎-elim
+      (λ (h : a < b). ap (λ (x : ℕ). ltb x width) (sym (larger-second h)) ∙
+      ⊎-elim (λ (l : b < width). simp (lt-ltb b width l, lt-ltb a width (omega arith)))
+      (λ (l : width ≤ b). simp (le-ltb b width l, and-false))
+      (lt-or-ge b width))
+      (λ (h : b ≤ a). ap (λ (x : ℕ). ltb x width) (sym (larger-first h)) ∙
+      ⊎-elim (λ (l : a < width). simp (lt-ltb a width l, lt-ltb b width (omega arith)))
+      (λ (l : width ≤ a). simp (le-ltb a width l))
+      (lt-or-ge a width))
+      (lt-or-ge a b)
+
+pub record Bounding (width : ℕ) (scan : List ℕ) (largest i : ℕ) : Type 0 where
+  pub fits : Fits w64 largest
   pub within : i ≤ length scan
-  pub rest : allBelow width scan ≡ allBelow width (drop i scan)
+  pub rest : allBelow width scan ≡ ltb largest width && allBelow width (drop i scan)
 
-pub bounding-none : (width : ℕ) (scan : List ℕ) → Bounding width scan 0
-bounding-none width scan = record { within = omega arith; rest = refl }
+pub bounding-none : (width : ℕ) (scan : List ℕ) → 1 ≤ width → Bounding width scan 0 0
+bounding-none width scan h = record { fits = omega arith; within = omega arith; rest = simp (lt-ltb 0 width h) }
 
-module _ {width : ℕ} {scan : List ℕ} {i : ℕ} (w : Bounding width scan i) where
-  next : i < length scan → allBelow width scan ≡ ltb (getD scan i 0) width && allBelow width (drop (suc i) scan)
+module _ {width : ℕ} {scan : List ℕ} {largest i : ℕ} (w : Bounding width scan largest i) where
+  next : i < length scan → allBelow width scan ≡ ltb largest width && (ltb (getD scan i 0) width && allBelow width (drop (suc i) scan))
   unfolding allBelow
-  next h = w .rest ∙ ap (allBelow width) (drop-cons scan i 0 h)
+  next h = w .rest ∙ ap (λ (l : List ℕ). ltb largest width && allBelow width l) (drop-cons scan i 0 h)
 
-  pub bounding-stop : i < length scan → width ≤ getD scan i 0 → false ≡ allBelow width scan
-  bounding-stop h l = sym (next h ∙ rw (le-ltb (getD scan i 0) width l))
+  pub bounding-next : {r : ℕ} → Fits w64 r → i < length scan → r ≡ cond (ltb largest (getD scan i 0)) (getD scan i 0) largest
+      → Bounding width scan r (i + 1)
+  bounding-next {r} f h e =
+      let below : ltb r width ≡ ltb largest width && ltb (getD scan i 0) width = ap (λ (x : ℕ). ltb x width) e ∙ larger-below largest (getD scan i 0) width in
+      record {
+        fits = f;
+        within = omega arith;
+        rest = next h
+            ∙ sym (and-assoc (ltb largest width) (ltb (getD scan i 0) width) (allBelow width (drop (suc i) scan)))
+            ∙ ap₂ (λ (t : Bool) (j : ℕ). t && allBelow width (drop j scan)) (sym below) (sym (add-one i));
+      }
 
-  pub bounding-next : i < length scan → getD scan i 0 < width → Bounding width scan (i + 1)
-  bounding-next h l = record { within = omega arith; rest = next h ∙ rw (lt-ltb (getD scan i 0) width l, add-one) }
-
-  pub bounding-all : length scan ≤ i → true ≡ allBelow width scan
+  pub bounding-all : length scan ≤ i → ltb largest width ≡ allBelow width scan
   unfolding allBelow
-  bounding-all h = sym (w .rest ∙ rw (drop-of-length-le scan {i = i} h))
+  bounding-all h = sym (w .rest ∙ ap (λ (l : List ℕ). ltb largest width && allBelow width l) (drop-of-length-le scan {i = i} h) ∙ and-true (ltb largest width))
 
 -- ---- the tests together
 

@@ -4,7 +4,7 @@ ghost use mathlib.Core.Path.{_≡_};
 ghost use mathlib.Core.Bool.{cond, _&&_};
 ghost use mathlib.Core.List.{[]};
 ghost use Prim.Native.Nat.{_≤_};
-ghost use lib.Dec.{leb, eqb};
+ghost use lib.Dec.{leb, ltb, eqb};
 ghost use lib.ListN.{length, drop};
 ghost use Rattle.matrix.specs.Matrix.{maxEntries, allBelow, fits, signatureOf, choiceOf};
 ghost use Rattle.matrix.specs.Matrix.Picked.{unfit};
@@ -52,18 +52,28 @@ pub fn no_choice() -> Choice
     }
 }
 
-// Whether every entry lies within a row.
+// The larger of two numbers, without a branch.
+fn larger(a: u16, b: u16) -> u16
+    ensures { λ r. ⌜ r ≡ cond (ltb a b) b a ⌝ }
+{
+    if a < b {
+        return b;
+    }
+    a
+}
+
+// Whether every entry lies within a row: whether the largest does.
 fn all_below(scan: &[u16], width: usize) -> bool
+    requires { ⌜ 1 ≤ width ⌝ }
     ensures { λ r. ⌜ r ≡ allBelow width (now (scan .entry)) ⌝ }
 {
+    let mut largest = 0;
     let mut i = 0;
     while i < scan.len() {
-        if width <= scan[i] as usize {
-            return false;
-        }
+        largest = larger(largest, scan[i]);
         i += 1;
     }
-    true
+    (largest as usize) < width
 }
 
 // Whether there are so many rows of so many numbers, and every entry lies within a row.

@@ -3,7 +3,7 @@ use native.Mathlib.Omega.{arith}
 use borrow.Author.Needs.{length-unmapped}
 use Rattle.job.specs.Layout.{maxInputs}
 use Rattle.choosing.specs.Looking.{maxPlaces}
-use Rattle.choosing.proofs.Ordered.{shifted-few, placed-listed}
+use Rattle.choosing.proofs.Ordered.{shifted-few, shifted-firsts, placed-listed}
 use Rattle.choosing.proofs.scan_order.Statement.{statement}
 use Rattle.choosing.proofs.scan_order.Tie as tie
 
@@ -15,16 +15,15 @@ orders-below-requires : tie.Need-orders-below-requires
 orders-below-requires c κs = shifted-few (c .pre)
 
 first-places-requires : tie.Need-first-places-requires
-unfolding maxPlaces maxInputs
-first-places-requires c κs = (shifted-few (c .before .before .before .before .pre), c .first-places-arg2 .given .0, c .before .before .before .orders-below .ensures)
+first-places-requires c κs = c .before .pre
 
 put-indices-requires : tie.Need-put-indices-requires
 unfolding maxPlaces maxInputs
-put-indices-requires c κs = (shifted-few (c .before .before .before .before .before .before .before .before .pre), c .before .before .before .before .first-places-arg2 .given .0, c .before .before .before .before .before .before .before .orders-below .ensures, c .before .before .before .first-places .ensures)
+put-indices-requires c κs = (shifted-few (c .before .before .before .before .before .pre), c .put-indices-arg2 .given .0, c .before .before .before .before .orders-below .ensures, shifted-firsts (c .before .before .before .before .before .pre) (c .before .before .before .first-places .result .of) (c .before .before .before .first-places .ensures))
 
 returns : tie.Need-returns
 unfolding maxPlaces maxInputs
-returns c = placed-listed (c .before .before .before .before .before .before .before .before .before .pre) (length-unmapped _ (c .put-indices .result .of) _ (c .put-indices .ok .1 .1 .1 .0 .1 .0 .1)) (c .put-indices .ensures)
+returns c = placed-listed (c .before .before .before .before .before .before .pre) (length-unmapped _ (c .put-indices .result .of) _ (c .put-indices .ok .1 .1 .1 .0 .1 .0 .1)) (c .put-indices .ensures)
 
 pub scan-order-spec : {M : Type 1} → statement M
 scan-order-spec =

@@ -1,4 +1,4 @@
--- `matrix::all_below` meets its contract.
+-- `matrix::all_below` meets its contract: the largest of the entries passed is known.
 use native.Mathlib.Numerals.{add-one-le}
 use borrow.Author.Needs.{scaled-fits}
 use mir.Syntax.{w16}
@@ -8,42 +8,42 @@ use Prim.Native.Nat.{_-_}
 use lib.ListN.{length}
 use denote.Ref.{now}
 use borrow.Author.Count.{falls}
-use Rattle.matrix.proofs.Fits.{Bounding, bounding-none, bounding-stop, bounding-next, bounding-all}
+use Rattle.matrix.proofs.Fits.{Bounding, bounding-none, bounding-next, bounding-all}
 use Rattle.matrix.proofs.all_below.Statement.{statement}
 use Rattle.matrix.proofs.all_below.Tie as tie
 
 abbrev Inv-loop : tie.InvT-loop
-Inv-loop scan width i₀ i = Bounding width scan i
+Inv-loop scan width largest₀ i₀ largest i = Bounding width scan largest i
 
 abbrev μ-loop : tie.MeasureT-loop
-μ-loop scan width i₀ i = length scan - i
+μ-loop scan width largest₀ i₀ largest i = length scan - i
 
 loop-holds : tie.Need-loop-holds Inv-loop μ-loop
-loop-holds c = bounding-none (c .args .width) (now (c .args .scan))
+loop-holds c = bounding-none (c .before .args .width) (now (c .before .args .scan)) (c .before .pre)
 
-mul-if1 : tie.Need-mul-if1 Inv-loop μ-loop
-mul-if1 c = scaled-fits _ (length (now (c .before .before .args .scan))) 2 (c .loop-test .taken) (c .before .before .good .0 .1)
+mul-larger : tie.Need-mul-larger Inv-loop μ-loop
+mul-larger c = scaled-fits _ (length (now (c .before .before .before .args .scan))) 2 (c .loop-test .taken) (c .before .before .before .good .0 .1)
 
-shared-slice-read-if1 : tie.Need-shared-slice-read-if1 Inv-loop μ-loop
-shared-slice-read-if1 c = c .before .loop-test .taken
+shared-slice-read-larger : tie.Need-shared-slice-read-larger Inv-loop μ-loop
+shared-slice-read-larger c = c .before .loop-test .taken
 
-cast-if1 : tie.Need-cast-if1 Inv-loop μ-loop
-cast-if1 c = fits-widen {w = w16} tt (c .shared-slice-known .given (c .before .before .loop .i))
-
-returns : tie.Need-returns Inv-loop μ-loop
-returns c = bounding-stop (c .before .before .before .loop .inv) (c .before .before .loop-test .taken) (c .if1 .taken)
+larger-requires : tie.Need-larger-requires Inv-loop μ-loop
+larger-requires c κs = tt
 
 add-i : tie.Need-add-i Inv-loop μ-loop
-add-i c = place-fits 1 (c .before .before .before .before .good .0 .1) (add-one-le (c .before .before .loop-test .taken))
+add-i c = place-fits 1 (c .before .before .before .before .before .good .0 .1) (add-one-le (c .before .before .loop-test .taken))
 
 loop-less : tie.Need-loop-less Inv-loop μ-loop
 loop-less c = falls _ _ (c .before .before .loop-test .taken)
 
 loop-again : tie.Need-loop-again Inv-loop μ-loop
-loop-again c = bounding-next (c .before .before .before .loop .inv) (c .before .before .loop-test .taken) (c .if1 .left)
+loop-again c = bounding-next (c .before .before .before .loop .inv) (fits-widen {w = w16} tt (record { fits = c .larger .ok })) (c .before .before .loop-test .taken) (c .larger .ensures)
 
-returns-2 : tie.Need-returns-2 Inv-loop μ-loop
-returns-2 c = bounding-all (c .before .loop .inv) (c .loop-test .left)
+cast-result : tie.Need-cast-result Inv-loop μ-loop
+cast-result c = c .before .loop .inv .fits
+
+returns : tie.Need-returns Inv-loop μ-loop
+returns c = bounding-all (c .before .loop .inv) (c .loop-test .left)
 
 pub all-below-spec : {M : Type 1} → statement M
 all-below-spec =
@@ -52,11 +52,11 @@ all-below-spec =
     Inv-loop
     μ-loop
     loop-holds
-    mul-if1
-    shared-slice-read-if1
-    cast-if1
-    returns
+    mul-larger
+    shared-slice-read-larger
+    larger-requires
     add-i
     loop-less
     loop-again
-    returns-2)
+    cast-result
+    returns)

@@ -23,7 +23,7 @@ returns-4 : tie.Need-returns-4
 returns-4 c = let a = c .before .before .before .before .before .before .args in unfit-work (now (a .work)) (a .width) (a .rows) (now (a .scan)) (c .before .if3 .left) (c .if4 .taken)
 
 all-below-requires : tie.Need-all-below-requires
-all-below-requires c κs = tt
+all-below-requires c κs = c .before .if3 .left
 
 returns-5 : tie.Need-returns-5
 unfolding maxRows
