@@ -24,6 +24,7 @@ use lib.ListN.{length, length-append}
 use Rattle.bits.proofs.Below.{lt-or-ge}
 use Rattle.bits.proofs.Tests.{and-l, and-r, and-i, clash}
 use Rattle.bits.specs.Passing.{passing}
+use Rattle.bits.proofs.Passing.{at-most}
 use Rattle.method.specs.Method.{agree}
 use Rattle.choosing.specs.Choosing.{scanTo, scanOrder}
 
@@ -121,16 +122,12 @@ unfolding scanTo passing
 length-none zero = refl
 length-none (suc order) = rw length-append (omega (arith, length-none order))
 
-cond-le : (u : Bool) → cond u 1 0 ≤ 1
-cond-le true = omega arith
-cond-le false = omega arith
-
 pub length-scanTo : (size order : ℕ) → length (scanTo size order) ≤ size
 length-scanTo zero order = let e = length-none order in omega arith
 length-scanTo (suc size) order =
     let s = length-suc size order in
     let small = length-scanTo size order in
-    let one = cond-le (ltb (ones size) order) in
+    let one = at-most (ltb (ones size) order) in
     omega arith
 
 -- if all orders below a size are few, all indices are listed

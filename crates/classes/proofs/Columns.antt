@@ -13,7 +13,7 @@ use mathlib.Core.List.{List}
 use borrow.Author.Count.{below-none, below-more}
 use lib.ListN.{length, getD, set, replicate, length-set, getD-replicate}
 use lib.Seq.{getD-set-same, getD-set-other}
-use mir.Syntax.{w16}
+use mir.Syntax.{w8}
 use mir.Val.{Fits}
 use Rattle.matrix.specs.Matrix.{maxRows}
 use Rattle.classes.specs.Labels.{Holds}
@@ -30,7 +30,7 @@ pub record Filling (room rows : ℕ) (f : ℕ → ℕ) (of : List ℕ) (c : ℕ)
 pub filling-start : {room : ℕ} (rows : ℕ) (f : ℕ → ℕ) (of : List ℕ) → length of ≡ room → Filling room rows f of 0
 filling-start rows f of e = record { within = omega arith; whole = e; done = below-none (λ (k : ℕ). getD of k 0 ≡ f k) }
 
-pub row-fits : {rows c : ℕ} → rows ≤ maxRows → c < rows → Fits w16 c
+pub row-fits : {rows c : ℕ} → rows ≤ maxRows → c < rows → Fits w8 c
 row-fits h l = omega (arith, rows-fit)
 
 module _ {room rows : ℕ} {f : ℕ → ℕ} {of : List ℕ} {c : ℕ} (w : Filling room rows f of c) where

@@ -20,7 +20,7 @@ use mathlib.Core.List.{List}
 use borrow.Author.Tests.{eqb-true, eqb-false, eq-eqb, ne-eqb, not-true}
 use lib.Dec.{eqb}
 use lib.ListN.{length, take, getD, set}
-use mir.Syntax.{w16}
+use mir.Syntax.{w8}
 use mir.Val.{Fits}
 use Rattle.bits.proofs.Tests.{and-l, and-r, and-i, clash}
 use Rattle.method.proofs.Pairs.{by-test, someBelow-some, some-someBelow}
@@ -125,7 +125,7 @@ module _ (mixed : List ℕ) (flags : Flags mixed) {c label : ℕ} (low : label �
   pub flag-less : getD mixed label 0 * (c - label) ≤ c
   flag-less = let m : getD mixed label 0 ≤ 1 = flags .flags label (omega arith) in omega (arith, mul-le-mul-right (c - label) m)
 
-  pub flag-fits : Fits w16 (getD mixed label 0 * (c - label))
+  pub flag-fits : Fits w8 (getD mixed label 0 * (c - label))
   flag-fits = omega (arith, flag-less, rows-fit)
 
 -- two rules that say the same of the rows listed

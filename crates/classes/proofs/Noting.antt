@@ -9,6 +9,7 @@
 --   noting-notable  what noting the next row asks for
 --   noting-stop, noting-next   the next row's labels were noted before, or they were not
 --   noting-all      the labels of no row were
+--   repeated-either   the pending rows of either column will do
 --   rising-strays   where the marks rise, a row whose labels a row before has is one whose mark is not its label's
 use Prim.Native.Nat.{ℕ, _+_, _*_, _/_, _%_, _≤_, _<_}
 use native.Mathlib.Decide.{ℕ-discrete}
@@ -26,10 +27,10 @@ use lib.Seq.{getD-set-same, getD-set-other}
 use Rattle.method.proofs.Pairs.{by-test, by-cond}
 use Rattle.matrix.specs.Matrix.{maxRows}
 use Rattle.matrix.proofs.Cells.{cell-within}
-use Rattle.classes.specs.Labels.{Comparable, Rise, repeated, pairPlace, labelNoted, Notable, Fresh, both, lowestOf, valueIn, strayBy, someOf}
+use Rattle.classes.specs.Labels.{Low, Comparable, Rise, repeated, pairPlace, labelNoted, Notable, Fresh, both, lowestOf, valueIn, strayBy, someOf}
 use Rattle.classes.proofs.Listed.{some-same, listing}
-use Rattle.classes.proofs.Refined.{lowest-le, lowest-both, one-lowest, both-found, same-label, same-value}
-use Rattle.classes.proofs.Strays.{Passed, passed-none, passed-stop, passed-next, passed-all}
+use Rattle.classes.proofs.Refined.{lowest-le, lowest-both, one-lowest, both-found, same-label, same-value, lowest-own, lowest-either}
+use Rattle.classes.proofs.Strays.{some-as, some-covered, Passed, passed-none, passed-stop, passed-next, passed-all}
 
 -- ---- places
 
@@ -118,7 +119,7 @@ module _ (labels others pending : List ℕ) (stamp : ℕ) where
       → (true ≡ not (someOf (repeated labels others) pending)) × Fresh (stamp + 1) seen
   noting-all w h = (passed-all (repeated labels others) pending (w .passed) h, w .fresh)
 
-  module _ {rows : ℕ} {marks : List ℕ} (q : Comparable rows marks labels pending others) {seen : List ℕ} {i : ℕ} (w : Noting seen i) (h : i < length pending) where
+  module _ {rows : ℕ} (q : Comparable rows labels pending others) {seen : List ℕ} {i : ℕ} (w : Noting seen i) (h : i < length pending) where
     abbrev c : ℕ
     c = getD pending i 0
 
@@ -284,11 +285,24 @@ module _ (labels others pending : List ℕ) (stamp : ℕ) where
                   let f = noted-next .from p (omega (arith, length-set next (placeOf c) stamp)) (sym (getD-set-other next (placeOf c) p stamp 0 d) ∙ s) in
                   (f .0, (λ j x y. ascends (f .0) j (omega (arith, f .1)) x y), f .2)
 
+-- ---- the pending rows of either column
+
+pub repeated-either : {rows : ℕ} {labels pending others left : List ℕ} → Comparable rows labels pending others → Comparable rows others left labels
+    → someOf (repeated others labels) left ≡ someOf (repeated labels others) pending
+repeated-either {rows} {labels} {pending} {others} {left} q o =
+    some-covered (repeated others labels) (o .covers) (λ c h e. first others labels (o .low) c h e)
+    ∙ some-as (repeated others labels) (repeated labels others) rows
+    (λ c h. ap (λ (x : ℕ). not (eqb x c)) (lowest-either rows others labels (o .low) (q .low) c h))
+    ∙ sym (some-covered (repeated labels others) (q .covers) (λ c h e. first labels others (q .low) c h e))
+  where
+    first : (L M : List ℕ) → Low rows L → (c : ℕ) → c < rows → getD L c 0 ≡ c → repeated L M c ≡ false
+    first L M low c h e = ap not (eq-eqb (lowestOf L (valueIn M) c) c (lowest-own rows L (valueIn M) low c h e))
+
 -- ---- marks that rise
 
-pub rising-strays : {rows : ℕ} {marks labels pending others : List ℕ} → Comparable rows marks labels pending others → Rise marks
+pub rising-strays : {rows : ℕ} (marks : List ℕ) {labels pending others : List ℕ} → rows ≤ length marks → Comparable rows labels pending others → Rise marks
     → someOf (repeated labels others) pending ≡ someOf (strayBy (lowestOf labels (valueIn others)) marks) pending
-rising-strays {rows} {marks} {labels} {pending} {others} q rise =
+rising-strays {rows} marks {labels} {pending} {others} marked q rise =
     some-same (repeated labels others) (strayBy (lowestOf labels (valueIn others)) marks) pending
     (λ i h. same (getD pending i 0) (q .listed i h))
   where
@@ -301,5 +315,5 @@ rising-strays {rows} {marks} {labels} {pending} {others} q rise =
         (λ f.
         let l : lowestOf labels (valueIn others) c ≤ c = lowest-le rows labels (valueIn others) (q .low) c h in
         let m : getD marks (lowestOf labels (valueIn others) c) 0 < getD marks c 0 =
-        rise (lowestOf labels (valueIn others) c) c (omega (arith, l, eqb-false (lowestOf labels (valueIn others) c) c f)) (omega (arith, q .marked)) in
+        rise (lowestOf labels (valueIn others) c) c (omega (arith, l, eqb-false (lowestOf labels (valueIn others) c) c f)) (omega (arith, marked)) in
         ap not (f ∙ sym (ne-eqb (getD marks c 0) (getD marks (lowestOf labels (valueIn others) c) 0) (λ e. omega arith))))

@@ -52,11 +52,11 @@ flagged-flags marks labels mixed list e flagged =
 module _ {work : List ℕ} {width rows : ℕ} {marks L list : List ℕ} (ready : Ready work width rows marks L list) where
   pub ready-fit : length L ≡ maxRows → OpenFit work width L list
   ready-fit e =
-      passing-fit work width rows L (ready .covers .test) list (ready .fit .most) (ready .fit .filled) (omega (arith, ready .fit .most)) (ready .low)
+      passing-fit work width rows L (ready .covers .test) list (ready .fit .sized .most) (ready .fit .sized .filled) (omega (arith, ready .fit .sized .most)) (ready .low)
       (ready .covers .listed)
 
   pub ready-open : length L ≡ maxRows → OpenSettle L list
-  ready-open e = covered-settle L list (ready .fit .most) e (ready .low) (ready .covers)
+  ready-open e = covered-settle L list (ready .fit .sized .most) e (ready .low) (ready .covers)
 
   -- where no class of two rows has one mark
   pub ready-risen : (entry : ℕ) → Rise marks → {labels pending : List ℕ} {count : ℕ}
@@ -81,7 +81,7 @@ module _ {work : List ℕ} {width rows : ℕ} {marks L list : List ℕ} (ready :
     covers = refined-covers rows L (λ c. cell work width c entry) R (ready .low) (refined .labels-by) (ready .covers)
 
     pub refined-open : length R ≡ maxRows → OpenSettle R list
-    refined-open e = covered-settle R list (ready .fit .most) e (refined .labels-by .low) covers
+    refined-open e = covered-settle R list (ready .fit .sized .most) e (refined .labels-by .low) covers
 
     pub refined-flags : length mixed ≡ maxRows → Flags mixed
     refined-flags e = flagged-flags marks R mixed list e (refined .flagged)

@@ -13,13 +13,14 @@
 --   lowest-lowest   it is the first of its class with its value
 --   one-lowest      rows of one class and value have one such row
 --   lowest-own      a row that is its own label is such a row
+--   lowest-either   of two columns of labels either may come first
 use Prim.Native.Nat.{ℕ, zero, suc, _+_, _-_, _≤_, _<_}
 use native.Mathlib.Nat.{eq-or-lt-of-le, le-antisymm}
 use native.Mathlib.Numerals.{add-one}
 use native.Mathlib.Omega.{arith}
 use mathlib.Core.Path.{_≡_, refl, sym, ap, subst, _∙_}
 use mathlib.Core.Bool.{Bool, true, false, cond, _&&_, and-false}
-use mathlib.Core.Logic.{_⊎_, ⊎-elim}
+use mathlib.Core.Logic.{⊎-elim}
 use mathlib.Core.List.{List}
 use borrow.Author.Tests.{eqb-true, eq-eqb, ne-eqb}
 use lib.Dec.{eqb}
@@ -221,3 +222,19 @@ module _ (rows : ℕ) (labels values : List ℕ) (low : Low rows labels) where
 
       pub met-le : r ≤ c
       met-le = refined-le rows labels (valueIn values) low c h met-at
+
+-- ---- two columns of labels
+
+-- the lowest row by the one column and the other has both labels by the other and the one
+lowest-under : (rows : ℕ) (L M : List ℕ) → Low rows L → Low rows M → (c : ℕ) → c < rows → lowestOf L (valueIn M) c ≤ lowestOf M (valueIn L) c
+lowest-under rows L M low other c h =
+    let o = lowest-both rows M (valueIn L) other c h in
+    let e : getD L (lowestOf M (valueIn L) c) 0 ≡ getD L c 0 = same-value M (valueIn L) (lowestOf M (valueIn L) c) c o in
+    let m : lowestOf M (valueIn L) c ≤ c = lowest-le rows M (valueIn L) other c h in
+    let l : getD L (lowestOf M (valueIn L) c) 0 ≤ lowestOf M (valueIn L) c = low (lowestOf M (valueIn L) c) (omega arith) in
+    lowest-first (λ k. both L (valueIn M) k c) (c - getD L c 0) (getD L c 0) (lowestOf M (valueIn L) c)
+    (subst (λ (x : ℕ). x ≤ lowestOf M (valueIn L) c) e l)
+    (both-found L (valueIn M) (lowestOf M (valueIn L) c) c e (same-label M (valueIn L) (lowestOf M (valueIn L) c) c o))
+
+pub lowest-either : (rows : ℕ) (L M : List ℕ) → Low rows L → Low rows M → (c : ℕ) → c < rows → lowestOf L (valueIn M) c ≡ lowestOf M (valueIn L) c
+lowest-either rows L M low other c h = le-antisymm (lowest-under rows L M low other c h) (lowest-under rows M L other low c h)

@@ -30,7 +30,7 @@ use Rattle.classes.proofs.Refined.{same-label, lowest-own, refined-le, 
 use Rattle.classes.proofs.Linking.{Linking, linking-start, linking-walkable, linking-some, linking-next, linking-found}
 
 pub ready-labelled : {work : List ℕ} {width rows : ℕ} {marks L list : List ℕ} → Ready work width rows marks L list → Labelled work width rows L list
-ready-labelled ready = record { most = ready .fit .most; filled = ready .fit .filled; low = ready .low; own = ready .own; covers = ready .covers }
+ready-labelled ready = record { most = ready .fit .sized .most; filled = ready .fit .sized .filled; low = ready .low; own = ready .own; covers = ready .covers }
 
 -- ---- classes that hold two marks
 
@@ -126,7 +126,7 @@ module _ (work : List ℕ) (width rows : ℕ) (marks L list : List ℕ) (entry :
       old-label = writing-ahead (w .written) (listing (ready .covers) .ascends) h
 
       pub relabelling-row : c < maxRows
-      relabelling-row = omega (arith, inside, ready .fit .most)
+      relabelling-row = omega (arith, inside, ready .fit .sized .most)
 
       pub relabelling-place : c < length labels
       relabelling-place = omega (arith, relabelling-row, w .written .sized)

@@ -7,7 +7,7 @@
 --   stray-found, stray-not                              whether a row's mark is its label's, by comparing
 --   some-as         tests that are the same below a bound
 --   split-pair      a class holds two marks if two of its rows have
---   some-strays     only listed rows need be looked at
+--   some-covered, some-strays   only listed rows need be looked at
 --   one-mark        where no row has another mark than its label's, rows of one class have one mark
 use Prim.Native.Nat.{ℕ, zero, suc, _+_, _≤_, _<_}
 use native.Mathlib.Numerals.{add-one}
@@ -108,14 +108,19 @@ module _ (rows : ℕ) (marks L : List ℕ) where
       (λ t. split-by d b k q (λ u. m (eqb-true (getD marks a 0) (getD marks d 0) t ∙ sym u)))
       (λ f. split-by d a h p (eqb-false (getD marks a 0) (getD marks d 0) f))
 
+-- a test that fails of rows that are their own labels
+pub some-covered : (test : ℕ → Bool) {rows : ℕ} {labels list : List ℕ} → Covers rows labels list
+    → ((c : ℕ) → c < rows → getD labels c 0 ≡ c → test c ≡ false) → someOf test list ≡ someBelow rows test
+some-covered test {rows} covers own =
+    ap (someOf test) (covers .listed)
+    ∙ some-passing test (covers .test) rows
+    ∙ some-as (λ c. covers .test c && test c) test rows
+    (λ c h. by-test (covers .test c) (λ t. ap (λ (x : Bool). x && test c) t)
+    (λ f. ap (λ (x : Bool). x && test c) f ∙ sym (own c h (covers .others c h f))))
+
 -- of the rows by two columns of labels, only one that is not its own label in the first can have another mark than its label
 pub some-strays : (rows : ℕ) (marks L M list : List ℕ) → Low rows L → Covers rows L list
     → someOf (stray (met rows L M) marks) list ≡ someBelow rows (stray (met rows L M) marks)
 some-strays rows marks L M list low covers =
-    ap (someOf (stray (met rows L M) marks)) (covers .listed)
-    ∙ some-passing (stray (met rows L M) marks) (covers .test) rows
-    ∙ some-as (λ c. covers .test c && stray (met rows L M) marks c) (stray (met rows L M) marks) rows
-    (λ c h. by-test (covers .test c) (λ t. ap (λ (x : Bool). x && stray (met rows L M) marks c) t)
-    (λ f.
-    ap (λ (x : Bool). x && stray (met rows L M) marks c) f
-    ∙ sym (stray-not (met rows L M) marks c (ap (λ (x : ℕ). getD marks x 0) (sym (met-own rows L M low c h (covers .others c h f)))))))
+    some-covered (stray (met rows L M) marks) covers
+    (λ c h e. stray-not (met rows L M) marks c (ap (λ (x : ℕ). getD marks x 0) (sym (met-own rows L M low c h e))))

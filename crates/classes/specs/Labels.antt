@@ -15,7 +15,8 @@
 --   someOf         a test holds of one of some rows
 --   Covers         rows among which are all that are not their own labels
 --   OpenFit        what reading the pending rows' numbers, and their labels', asks for
---   Comparable     what comparing labels in two columns asks for
+--   Comparable     what comparing labels in two columns asks for, by the rows pending in the first
+--   SomeComparable, SomeMarked, SomeTwo, SomeBoth   there are so many rows, with a mark for each or not, by the pending rows of one column or of both
 --   repeated       a row before has a row's labels in both columns
 --   pairPlace, labelNoted   where two labels are noted, and memory where a row's label is
 --   Fresh          no place of some memory has a stamp yet
@@ -29,8 +30,8 @@
 --   settledOf, settledBy   the label that a row has when the other classes are dissolved, by a test and by numbers
 --   OpenSettle, Flags, Labelled   what relabelling the pending rows asks for
 --   Written, moves, Settles   what it does, by a rule that gives each row its new label
---   Rise           marks that rise from row to row
---   Fit            there are so many rows of so many numbers, and a mark for each
+--   rises, Rise    each mark is below the next; marks that rise from row to row
+--   Fitted         there are so many rows of so many numbers, and a mark for each
 --   Settled        the pending rows are listed, and all classes that are left hold two marks
 --   Ready, Refined, Parts   what parting classes by an entry asks for, what refining does, and what parting does
 --   Started        the classes by no entry
@@ -46,7 +47,7 @@ use Rattle.bits.specs.Packed.{tabulate}
 use Rattle.bits.specs.Passing.{passing, filtered}
 use Rattle.method.specs.Method.{someBelow, Pair}
 use Rattle.method.specs.Method.Pair.{nobody, pair}
-use Rattle.matrix.specs.Matrix.{cell, apart, maxRows}
+use Rattle.matrix.specs.Matrix.{cell, apart, maxRows, Fit}
 use Rattle.classes.specs.declared.Two.{Two}
 use Rattle.classes.specs.declared.Two.the-variants.{Nobody, Both}
 
@@ -139,9 +140,8 @@ pub record OpenFit (work : List ℕ) (width : ℕ) (labels rows : List ℕ) : Ty
   pub filled : (i : ℕ) → i < length rows → suc (getD rows i 0) * width ≤ length work
   pub low : (i : ℕ) → i < length rows → getD labels (getD rows i 0) 0 ≤ getD rows i 0
 
--- labels in two columns, with the marks of the rows
-pub record Comparable (rows : ℕ) (marks labels pending others : List ℕ) : Type 0 where
-  pub marked : rows ≤ length marks
+-- labels in two columns, and the rows that are pending in the first
+pub record Comparable (rows : ℕ) (labels pending others : List ℕ) : Type 0 where
   pub labelled : rows ≤ length labels
   pub other : rows ≤ length others
   pub low : Low rows labels
@@ -151,8 +151,21 @@ pub record Comparable (rows : ℕ) (marks labels pending others : List ℕ) : Ty
   pub own : Own rows labels
   pub covers : Covers rows labels pending
 
-abbrev pub SomeComparable : List ℕ → List ℕ → List ℕ → List ℕ → Type 0
-SomeComparable marks labels pending others = (rows : ℕ) × Comparable rows marks labels pending others
+abbrev pub SomeComparable : List ℕ → List ℕ → List ℕ → Type 0
+SomeComparable labels pending others = (rows : ℕ) × Comparable rows labels pending others
+
+-- and each row has a mark
+abbrev pub SomeMarked : List ℕ → List ℕ → List ℕ → List ℕ → Type 0
+SomeMarked marks labels pending others = (rows : ℕ) × (rows ≤ length marks) × Comparable rows labels pending others
+
+-- labels in two columns, and the rows that are pending in each
+abbrev pub SomeTwo : List ℕ → List ℕ → List ℕ → List ℕ → Type 0
+SomeTwo labels pending others left = (rows : ℕ) × Comparable rows labels pending others × Comparable rows others left labels
+
+-- and each row has a mark
+abbrev pub SomeBoth : List ℕ → List ℕ → List ℕ → List ℕ → List ℕ → Type 0
+SomeBoth marks labels pending others left =
+    (rows : ℕ) × (rows ≤ length marks) × Comparable rows labels pending others × Comparable rows others left labels
 
 -- a row before has a row's labels in both columns
 abbrev pub repeated : List ℕ → List ℕ → ℕ → Bool
@@ -311,17 +324,23 @@ pub record Settles (rule : ℕ → ℕ) (old list labels pending : List ℕ) (co
   pub listed : take count pending ≡ filtered (moves rule) list
   pub written : Written rule old list labels
 
+-- one mark is not below the next
+abbrev pub fallsAt : List ℕ → ℕ → Bool
+fallsAt marks i = not (ltb (getD marks i 0) (getD marks (suc i) 0))
+
+-- each mark is below the next
+unfoldable pub rises : List ℕ → Bool
+rises marks = not (someBelow (length marks - 1) (fallsAt marks))
+
 -- marks that rise from row to row: every two rows have different marks
 abbrev pub Rise : List ℕ → Type 0
 Rise marks = (a b : ℕ) → a < b → b < length marks → getD marks a 0 < getD marks b 0
 
 -- ---- parting
 
-pub record Fit (work : List ℕ) (width rows : ℕ) (marks : List ℕ) : Type 0 where
-  pub some : 1 ≤ rows
-  pub most : rows ≤ maxRows
+pub record Fitted (work : List ℕ) (width rows : ℕ) (marks : List ℕ) : Type 0 where
+  pub sized : Fit work width rows
   pub marked : rows ≤ length marks
-  pub filled : rows * width ≤ length work
 
 -- the first so many of `pending` are the pending rows, and all classes that are left hold two marks
 pub record Settled (rows : ℕ) (marks labels pending : List ℕ) (count : ℕ) : Type 0 where
@@ -330,7 +349,7 @@ pub record Settled (rows : ℕ) (marks labels pending : List ℕ) (count : ℕ) 
   pub mixed : Mixed rows marks labels
 
 pub record Ready (work : List ℕ) (width rows : ℕ) (marks labels list : List ℕ) : Type 0 where
-  pub fit : Fit work width rows marks
+  pub fit : Fitted work width rows marks
   pub low : Low rows labels
   pub own : Own rows labels
   pub covers : Covers rows labels list

@@ -2,12 +2,12 @@
 // label.
 ghost use Prim.Native.Nat.{ℕ, _+_, _-_, _*_, _≤_, _<_};
 ghost use mathlib.Core.Path.{_≡_};
-ghost use mathlib.Core.Bool.{not, cond};
+ghost use mathlib.Core.Bool.{true, not, cond};
 ghost use lib.Dec.{ltb};
 ghost use lib.ListN.{length};
 ghost use Rattle.method.specs.Method.{firstPair, pairWith, Pair};
 ghost use Rattle.method.specs.Method.Pair.{nobody, pair};
-ghost use Rattle.classes.specs.Labels.{both, valueIn, strayBy, someOf, lowestFrom, lowestOf, alikeMarked, pairTold, pairsFit, SomeComparable, Fresh};
+ghost use Rattle.classes.specs.Labels.{both, valueIn, strayBy, someOf, lowestFrom, lowestOf, alikeMarked, pairTold, pairsFit, SomeMarked, SomeBoth, Fresh, Rise};
 ghost use Rattle.matrix.specs.Matrix.{maxRows};
 
 mod refining;
@@ -21,7 +21,7 @@ pub enum Two {
 }
 
 // The lowest row, from a row on, that has the labels of row c in both columns.
-fn lowest(labels: &[u16], others: &[u16], from: usize, c: usize) -> usize
+fn lowest(labels: &[u8], others: &[u8], from: usize, c: usize) -> usize
     requires { ⌜ (c < length (now labels)) × (c < length (now others)) × (from ≤ c) ⌝ }
     ensures { λ r. ⌜ r ≡ lowestFrom (λ k. both (now (labels .entry)) (valueIn (now (others .entry))) k c) (c - from) from ⌝ }
 {
@@ -47,8 +47,8 @@ fn larger(a: usize, b: usize) -> usize
 
 // Whether every pending row has the mark of the lowest row that has its labels in both columns. No row before its labels has them: a row that is its own label in
 // the one column is the lowest that has both.
-fn told_by_marks(marks: &[u8], labels: &[u16], pending: &[u16], others: &[u16]) -> bool
-    requires { ⌜ SomeComparable (now marks) (now labels) (now pending) (now others) ⌝ }
+fn told_by_marks(marks: &[u8], labels: &[u8], pending: &[u8], others: &[u8]) -> bool
+    requires { ⌜ SomeMarked (now marks) (now labels) (now pending) (now others) ⌝ }
     ensures { λ r. ⌜ r ≡ not (someOf (strayBy (lowestOf (now (labels .entry)) (valueIn (now (others .entry)))) (now (marks .entry))) (now (pending .entry))) ⌝ }
 {
     let mut i = 0;
@@ -63,27 +63,29 @@ fn told_by_marks(marks: &[u8], labels: &[u16], pending: &[u16], others: &[u16]) 
     true
 }
 
-// Whether the entries of these and of the other classes together tell all needed pairs apart. The lent memory is used with a greater stamp each time, which stands
-// for clearing it.
+// Whether the entries of these and of the other classes together tell all needed pairs apart, given the pending rows of both. The lent memory is used with a greater
+// stamp each time, which stands for clearing it. Marks that are known to rise need no looking at.
 pub fn told_together(
     marks: &[u8],
-    labels: &[u16],
-    pending: &[u16],
-    others: &[u16],
+    labels: &[u8],
+    pending: &[u8],
+    others: &[u8],
+    left: &[u8],
     seen: &mut [u8],
     stamp: u8,
+    rising: bool,
 ) -> bool
-    requires { ⌜ SomeComparable (now marks) (now labels) (now pending) (now others) × (length (now seen) ≡ maxRows * maxRows) × Fresh stamp (now seen) ⌝ }
+    requires { ⌜ SomeBoth (now marks) (now labels) (now pending) (now others) (now left) × (length (now seen) ≡ maxRows * maxRows) × Fresh stamp (now seen) × (rising ≡ true → Rise (now marks)) ⌝ }
     ensures { λ r. ⌜ (r ≡ not (someOf (strayBy (lowestOf (now (labels .entry)) (valueIn (now (others .entry)))) (now (marks .entry))) (now (pending .entry)))) × Fresh (stamp + 1) (now (seen .exit)) ⌝ }
 {
-    if crate::settling::marks_rise(marks) {
-        return crate::telling::told_apart(labels, pending, others, seen, stamp);
+    if rising {
+        return crate::telling::told_by_fewer(labels, pending, others, left, seen, stamp);
     }
     told_by_marks(marks, labels, pending, others)
 }
 
 // The lowest row after row a that has its label and not its mark, or `rows`.
-fn partner(rows: usize, marks: &[u8], labels: &[u16], a: usize) -> usize
+fn partner(rows: usize, marks: &[u8], labels: &[u8], a: usize) -> usize
     requires { ⌜ (rows ≤ length (now marks)) × (rows ≤ length (now labels)) × (a < rows) ⌝ }
     ensures { λ r. ⌜ (r ≤ rows) × ((other : Pair) → pairWith a (alikeMarked (now (labels .entry)) (now (marks .entry)) a) (rows - (a + 1)) (a + 1) other ≡ cond (ltb r rows) (pair a r) other) ⌝ }
 {
@@ -100,7 +102,7 @@ fn partner(rows: usize, marks: &[u8], labels: &[u16], a: usize) -> usize
 }
 
 // The first two rows of one class whose marks differ, by the lower, then by the higher, where every row has a mark and a label.
-fn first_two(rows: usize, marks: &[u8], labels: &[u16]) -> Two
+fn first_two(rows: usize, marks: &[u8], labels: &[u8]) -> Two
     requires { ⌜ (rows ≤ length (now marks)) × (rows ≤ length (now labels)) ⌝ }
     ensures { λ r. ⌜ pairTold r ≡ firstPair rows (alikeMarked (now (labels .entry)) (now (marks .entry))) ⌝ }
 {
@@ -116,7 +118,7 @@ fn first_two(rows: usize, marks: &[u8], labels: &[u16]) -> Two
 }
 
 // The first two rows of one class whose marks differ. Nobody where there are fewer marks or labels than rows.
-pub fn search_pairs(rows: usize, marks: &[u8], labels: &[u16]) -> Two
+pub fn search_pairs(rows: usize, marks: &[u8], labels: &[u8]) -> Two
     ensures { λ r. ⌜ pairTold r ≡ cond (pairsFit rows (length (now (marks .entry))) (length (now (labels .entry)))) (firstPair rows (alikeMarked (now (labels .entry)) (now (marks .entry)))) nobody ⌝ }
 {
     if marks.len() < rows {

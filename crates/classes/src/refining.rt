@@ -95,7 +95,7 @@ pub(crate) fn first_alike(
 }
 
 // One if two marks of a class differ, or did before.
-fn mixes(before: u16, a: u8, b: u8) -> u16
+fn mixes(before: u8, a: u8, b: u8) -> u8
     ensures { λ r. ⌜ r ≡ cond (not (eqb a b)) 1 before ⌝ }
 {
     if a == b {
@@ -109,11 +109,11 @@ pub(crate) fn refine(
     work: &[u16],
     width: usize,
     marks: &[u8],
-    labels: &mut [u16],
-    pending: &[u16],
+    labels: &mut [u8],
+    pending: &[u8],
     entry: usize,
     next: &mut [u8],
-    mixed: &mut [u16],
+    mixed: &mut [u8],
 )
     requires { ⌜ SomeReady (now work) width (now marks) (now labels) (now pending) × (entry < width) × (length (now labels) ≡ maxRows) × (length (now next) ≡ maxRows) × (length (now mixed) ≡ maxRows) × Holds maxRows (λ c. 0) (now next) × Holds maxRows (λ c. 0) (now mixed) ⌝ }
     ensures { λ r. ⌜ Refines (now (work .entry)) width (now (marks .entry)) (now (pending .entry)) entry (now (labels .entry)) (now (labels .exit)) (now (mixed .exit)) ⌝ }
@@ -122,7 +122,7 @@ pub(crate) fn refine(
     while i < pending.len() {
         let c = pending[i] as usize;
         let r = chained(work, width, entry, next, labels[c] as usize, c);
-        labels[c] = r as u16;
+        labels[c] = r as u8;
         mixed[r] = mixes(mixed[r], marks[c], marks[r]);
         i += 1;
     }

@@ -5,11 +5,11 @@ ghost use mathlib.Core.Bool.{true, not, cond};
 ghost use lib.Dec.{eqb, ltb};
 ghost use lib.ListN.{length, take, getD};
 ghost use Rattle.matrix.specs.Matrix.{cell, maxRows};
-ghost use Rattle.classes.specs.Labels.{Holds, lowestOf, someOf, otherMark, OpenSettle, Flags, SomeLabelled, settledBy, Settles, Started, startFits, Starts, SomeReady, Parts, Rise};
+ghost use Rattle.classes.specs.Labels.{Holds, lowestOf, someOf, otherMark, OpenSettle, Flags, SomeLabelled, settledBy, Settles, Started, startFits, Starts, SomeReady, Parts, Rise, rises};
 use matrix::MAX_ROWS;
 
 // One for numbers that differ: rows are listed without a branch.
-fn differs(a: u16, b: u16) -> usize
+fn differs(a: u8, b: u8) -> usize
     ensures { λ r. ⌜ r ≡ cond (not (eqb a b)) 1 0 ⌝ }
 {
     if a == b {
@@ -19,7 +19,7 @@ fn differs(a: u16, b: u16) -> usize
 }
 
 // A pending row of a class that holds two marks keeps its label, any other becomes its own; those that kept theirs are listed anew. Gives their number.
-fn settle(labels: &mut [u16], pending: &mut [u16], count: usize, mixed: &[u16]) -> usize
+fn settle(labels: &mut [u8], pending: &mut [u8], count: usize, mixed: &[u8]) -> usize
     requires { ⌜ (count ≤ length (now pending)) × OpenSettle (now labels) (take count (now pending)) × Flags (now mixed) ⌝ }
     ensures { λ r. ⌜ Settles (settledBy (now (mixed .entry)) (now (labels .entry))) (now (labels .entry)) (take count (now (pending .entry))) (now (labels .exit)) (now (pending .exit)) r ⌝ }
 {
@@ -48,8 +48,8 @@ fn falls(before: u8, a: u8, b: u8) -> u8
 }
 
 // Whether each mark is below the next, so that every two rows have different marks. All are compared, without a branch, many at a time.
-pub(crate) fn marks_rise(marks: &[u8]) -> bool
-    ensures { λ r. ⌜ (r ≡ true → Rise (now (marks .entry))) ⌝ }
+pub fn marks_rise(marks: &[u8]) -> bool
+    ensures { λ r. ⌜ r ≡ rises (now (marks .entry)) ⌝ }
 {
     let mut fallen = 0;
     let mut i = 1;
@@ -65,8 +65,8 @@ fn refine_and_settle(
     work: &[u16],
     width: usize,
     marks: &[u8],
-    labels: &mut [u16],
-    pending: &mut [u16],
+    labels: &mut [u8],
+    pending: &mut [u8],
     count: usize,
     entry: usize,
 ) -> usize
@@ -74,7 +74,7 @@ fn refine_and_settle(
     ensures { λ r. ⌜ Parts (now (work .entry)) width (now (marks .entry)) entry (now (labels .entry)) (take count (now (pending .entry))) (now (labels .exit)) (now (pending .exit)) r ⌝ }
 {
     let mut next = [0u8; MAX_ROWS];
-    let mut mixed = [0u16; MAX_ROWS];
+    let mut mixed = [0u8; MAX_ROWS];
     crate::refining::refine(
         work,
         width,
@@ -93,8 +93,8 @@ fn refine_and_settle(
 fn relabel_along(
     work: &[u16],
     width: usize,
-    labels: &mut [u16],
-    pending: &mut [u16],
+    labels: &mut [u8],
+    pending: &mut [u8],
     count: usize,
     entry: usize,
     next: &mut [u8],
@@ -114,7 +114,7 @@ fn relabel_along(
             next,
             label as usize,
             c as usize,
-        ) as u16;
+        ) as u8;
         labels[c as usize] = r;
         pending[left] = c;
         left += differs(r, c);
@@ -127,8 +127,8 @@ fn relabel_along(
 fn relabel(
     work: &[u16],
     width: usize,
-    labels: &mut [u16],
-    pending: &mut [u16],
+    labels: &mut [u8],
+    pending: &mut [u8],
     count: usize,
     entry: usize,
 ) -> usize
@@ -140,7 +140,7 @@ fn relabel(
 }
 
 // One if a row has another mark than the first.
-fn two_marks(marks: &[u8], rows: &[u16]) -> u16
+fn two_marks(marks: &[u8], rows: &[u8]) -> u8
     requires { ⌜ ((i : ℕ) → i < length (now rows) → getD (now rows) i 0 < length (now marks)) ⌝ }
     ensures { λ r. ⌜ r ≡ cond (someOf (otherMark (now (marks .entry)) (now (rows .entry))) (now (rows .entry))) 1 0 ⌝ }
 {
@@ -154,45 +154,46 @@ fn two_marks(marks: &[u8], rows: &[u16]) -> u16
     0
 }
 
-// The classes by one entry more. Gives the number of pending rows.
+// The classes by one entry more. Gives the number of pending rows. Marks that are known to rise need no looking at.
 pub fn part(
     work: &[u16],
     width: usize,
     marks: &[u8],
-    labels: &mut [u16],
-    pending: &mut [u16],
+    labels: &mut [u8],
+    pending: &mut [u8],
     count: usize,
     entry: usize,
+    rising: bool,
 ) -> usize
-    requires { ⌜ SomeReady (now work) width (now marks) (now labels) (take count (now pending)) × (entry < width) × (count ≤ maxRows) × (length (now labels) ≡ maxRows) × (length (now pending) ≡ maxRows) ⌝ }
+    requires { ⌜ SomeReady (now work) width (now marks) (now labels) (take count (now pending)) × (entry < width) × (count ≤ maxRows) × (length (now labels) ≡ maxRows) × (length (now pending) ≡ maxRows) × (rising ≡ true → Rise (now marks)) ⌝ }
     ensures { λ r. ⌜ Parts (now (work .entry)) width (now (marks .entry)) entry (now (labels .entry)) (take count (now (pending .entry))) (now (labels .exit)) (now (pending .exit)) r ⌝ }
 {
-    if marks_rise(marks) {
+    if rising {
         return relabel(work, width, labels, pending, count, entry);
     }
     refine_and_settle(work, width, marks, labels, pending, count, entry)
 }
 
 // All rows are in one class and pending.
-fn one_class(labels: &mut [u16], pending: &mut [u16])
+fn one_class(labels: &mut [u8], pending: &mut [u8])
     requires { ⌜ (length (now labels) ≡ maxRows) × (length (now pending) ≡ maxRows) ⌝ }
     ensures { λ r. ⌜ Holds maxRows (λ c. 0) (now (labels .exit)) × Holds maxRows (λ c. c) (now (pending .exit)) ⌝ }
 {
     let mut c = 0;
     while c < MAX_ROWS {
         labels[c] = 0;
-        pending[c] = c as u16;
+        pending[c] = c as u8;
         c += 1;
     }
 }
 
 // The classes by no entry, where the sizes fit. Gives the number of pending rows.
-fn start_fit(labels: &mut [u16], pending: &mut [u16], rows: usize, marks: &[u8]) -> usize
+fn start_fit(labels: &mut [u8], pending: &mut [u8], rows: usize, marks: &[u8]) -> usize
     requires { ⌜ (1 ≤ rows) × (rows ≤ maxRows) × (rows ≤ length (now marks)) × (length (now labels) ≡ maxRows) × (length (now pending) ≡ maxRows) ⌝ }
     ensures { λ r. ⌜ Started rows (now (marks .entry)) (now (labels .exit)) (now (pending .exit)) r ⌝ }
 {
     one_class(labels, pending);
-    let mut mixed = [0u16; MAX_ROWS];
+    let mut mixed = [0u8; MAX_ROWS];
     mixed[0] = two_marks(marks, &pending[..rows]);
     settle(labels, pending, rows, &mixed)
 }
@@ -217,7 +218,7 @@ fn startable(rows: usize, marks: usize, labels: usize, pending: usize) -> bool
 }
 
 // The classes by no entry. Gives the number of pending rows. Where the sizes do not fit it gives 0 and leaves labels and pending rows as they are.
-pub fn start(labels: &mut [u16], pending: &mut [u16], rows: usize, marks: &[u8]) -> usize
+pub fn start(labels: &mut [u8], pending: &mut [u8], rows: usize, marks: &[u8]) -> usize
     ensures { λ r. ⌜ Starts rows (now (marks .entry)) (now (labels .entry)) (now (pending .entry)) (now (labels .exit)) (now (pending .exit)) r ⌝ }
 {
     if !startable(rows, marks.len(), labels.len(), pending.len()) {

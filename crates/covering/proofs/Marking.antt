@@ -20,9 +20,9 @@ use lib.Bits.{bitOr}
 use lib.ListN.{length, getD, set, length-set}
 use lib.Seq.{getD-set-same, getD-set-other}
 use Rattle.method.specs.Method.{agree}
-use Rattle.matrix.specs.Matrix.{maxRows, zeros}
+use Rattle.matrix.specs.Matrix.{maxRows, zeros, Fit}
 use Rattle.matrix.proofs.Cells.{cell-within}
-use Rattle.covering.specs.Covering.{sameAt, Fit, flagged, Flags, Marks}
+use Rattle.covering.specs.Covering.{sameAt, flagged, Flags, Marks}
 
 pub record Marking (coef : ℕ → ℕ → ℕ) (rows entry : ℕ) (old told : List ℕ) (c : ℕ) : Type 0 where
   pub some : 1 ≤ c

@@ -16,9 +16,9 @@ use mathlib.Core.List.{List}
 use borrow.Author.Tests.{eq-eqb, ne-eqb}
 use lib.Dec.{eqb}
 use lib.ListN.{length, take, drop, getD}
-use Rattle.matrix.specs.Matrix.{cell, maxRows}
+use Rattle.matrix.specs.Matrix.{cell, maxRows, Fit}
 use Rattle.matrix.proofs.Cells.{cell-within}
-use Rattle.covering.specs.Covering.{sameAt, Fit, Readable, Within, listAt, Level}
+use Rattle.covering.specs.Covering.{sameAt, Readable, Within, listAt, Level}
 use Rattle.covering.proofs.Untold.{untold-below}
 use Rattle.matrix.proofs.Slots.{part-lent}
 

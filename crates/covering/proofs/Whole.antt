@@ -24,13 +24,13 @@ use Rattle.bits.specs.Passing.{passing}
 use Rattle.bits.proofs.Tests.{and-i}
 use Rattle.method.specs.Method.{Pair, takes, drops, signature}
 use Rattle.method.proofs.Takes.{taken-pair}
-use Rattle.matrix.specs.Matrix.{cell, fromFirst, maxRows, maxEntries, allBelow, fits, covered, pickedOver, pickedBy, choiceOf, signatureOf}
+use Rattle.matrix.specs.Matrix.{cell, fromFirst, maxRows, maxEntries, allBelow, fits, covered, pickedOver, pickedBy, choiceOf, signatureOf, Fit}
 use Rattle.matrix.specs.Matrix.Picked.{unfit}
 use Rattle.matrix.specs.declared.Choice.{Choice}
 use Rattle.matrix.specs.declared.Found.the-variants.{Told, Alike}
 use Rattle.matrix.specs.declared.Signature.{Signature}
-use Rattle.matrix.proofs.Fits.{fits-fit}
-use Rattle.covering.specs.Covering.{untold, Fit, Level, TakenAll, Droppable, Left, concluded}
+use Rattle.matrix.proofs.Fits.{fits-fit, fits-within}
+use Rattle.covering.specs.Covering.{untold, Level, TakenAll, Droppable, Left, concluded}
 use Rattle.covering.proofs.Untold.{untold-start, untold-nobody, untold-pair}
 use Rattle.matrix.proofs.Slots.{part-first, slot-inside}
 use Rattle.matrix.proofs.Sizes.{entries-row, some-rows}
@@ -42,10 +42,10 @@ use Rattle.matrix.proofs.Climbing.{levels-last}
 
 module _ (work : List ℕ) (width rows : ℕ) (scan : List ℕ) (f : fits work width rows scan ≡ true) where
   pub fit-of : Fit work width rows
-  fit-of = let t = fits-fit work width rows scan f in record { some = t .some; most = t .most; filled = t .filled }
+  fit-of = fits-fit work width rows scan f
 
   pub scan-below : allBelow width scan ≡ true
-  scan-below = fits-fit work width rows scan f .within
+  scan-below = fits-within work width rows scan f
 
   -- every row but row 0, and row 0
   all-but-first : rows ≡ suc (rows - 1)

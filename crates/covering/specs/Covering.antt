@@ -9,7 +9,6 @@
 --   listAt         the rows listed at a place in memory
 --   Level, Levels  the rows listed at a level's place are those that entries do not tell from row 0, and so for the first of those taken, level by level
 --   Tells          what listing those rows anew does, by one entry more
---   Fit            there are so many rows of so many numbers
 --   TakenAll       what taking gives
 --   Flags          each row has a flag: 1 if entries tell it from row 0
 --   flagged        a row's flag is set
@@ -27,7 +26,7 @@ use lib.Dec.{eqb, ltb}
 use lib.ListN.{length, take, drop, getD, set}
 use Rattle.bits.specs.Passing.{passing, filtered}
 use Rattle.method.specs.Method.{agree, takes, drops, firstPair}
-use Rattle.matrix.specs.Matrix.{cell, fromFirst, maxRows, maxEntries, allBelow, Picked, pickedBy}
+use Rattle.matrix.specs.Matrix.{cell, fromFirst, maxRows, maxEntries, allBelow, Picked, pickedBy, Fit}
 
 abbrev pub sameAt : (ℕ → ℕ → ℕ) → ℕ → ℕ → Bool
 sameAt coef e c = eqb (coef 0 e) (coef c e)
@@ -38,12 +37,6 @@ allOf test (c ∷ more) = test c && allOf test more
 
 unfoldable pub untold : (ℕ → ℕ → ℕ) → ℕ → List ℕ → List ℕ
 untold coef rows l = passing (λ c. ltb 0 c && agree coef l 0 c) rows
-
--- there are so many rows of so many numbers
-pub record Fit (work : List ℕ) (width rows : ℕ) : Type 0 where
-  pub some : 1 ≤ rows
-  pub most : rows ≤ maxRows
-  pub filled : rows * width ≤ length work
 
 -- ---- taking
 

@@ -6,8 +6,8 @@ ghost use mathlib.Core.List.{[]};
 ghost use lib.Dec.{eqb, ltb};
 ghost use lib.ListN.{length, take, drop};
 ghost use Rattle.bits.specs.Passing.{passing};
-ghost use Rattle.matrix.specs.Matrix.{cell, maxRows, maxEntries, allBelow, seek};
-ghost use Rattle.covering.specs.Covering.{clear, Readable, listAt, Level, Tells, Fit, TakenAll};
+ghost use Rattle.matrix.specs.Matrix.{cell, maxRows, maxEntries, allBelow, seek, Fit};
+ghost use Rattle.covering.specs.Covering.{clear, Readable, listAt, Level, Tells, TakenAll};
 use matrix::MAX_ROWS;
 
 // Whether all listed rows have row 0's number at an entry.

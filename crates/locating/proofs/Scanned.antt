@@ -20,6 +20,7 @@ use borrow.Author.Tests.{eq-eqb, ne-eqb}
 use lib.Dec.{eqb}
 use lib.ListN.{length, getD, length-append}
 use Rattle.bits.specs.Passing.{passing}
+use Rattle.bits.proofs.Passing.{at-most}
 use Rattle.bits.specs.Answer.Answer.{gives}
 use Rattle.spectra.specs.Operations.{sameNumbers}
 use Rattle.locating.specs.Locating.{location, agreeing}
@@ -42,10 +43,6 @@ first-more [] false c = refl
 first-more (x ∷ l) true c = ap (λ (t : Bool). cond t c x) (sym (ne-eqb (length (x ∷ l)) 0 (λ e. absurd (omega arith))))
 first-more (x ∷ l) false c = refl
 
-cond-le : (u : Bool) → cond u 1 0 ≤ 1
-cond-le true = omega arith
-cond-le false = omega arith
-
 pub scanned-none : (p : ℕ → Bool) (rows : ℕ) → Scanned p rows 0 0 0
 unfolding passing
 scanned-none p rows = record { within = omega arith; few = omega arith; counts = refl; first = refl }
@@ -54,7 +51,7 @@ pub scanned-next : {p : ℕ → Bool} {rows c lowest count lowest' count' : ℕ}
     → lowest' ≡ cond (u && eqb count 0) c lowest → count' ≡ count + cond u 1 0 → Scanned p rows (c + 1) lowest' count'
 unfolding passing
 scanned-next {p} {rows} {c} {lowest} {count} {lowest'} {count'} u w h e le ce =
-    let small = cond-le u in
+    let small = at-most u in
     record {
       within = omega arith;
       few = omega (arith, w .few);

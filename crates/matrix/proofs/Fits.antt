@@ -1,7 +1,7 @@
 -- The tests of a matrix (specs/Matrix.antt).
 --
 --   fits-told       the tests hold, as the code finds them
---   fits-fit        what the tests tell
+--   fits-fit, fits-within   what the tests tell
 --   larger-first, larger-second   the larger of two numbers, as the code finds it
 --   Bounding        what a loop knows of the largest of the first i entries
 --   bounding-none, bounding-next, bounding-all    its start, its step and its end
@@ -23,7 +23,7 @@ use mir.Syntax.{w64}
 use mir.Val.{Fits}
 use Rattle.bits.proofs.Below.{lt-or-ge}
 use Rattle.bits.proofs.Tests.{and-l, and-r}
-use Rattle.matrix.specs.Matrix.{maxRows, allBelow, fits}
+use Rattle.matrix.specs.Matrix.{maxRows, allBelow, fits, Fit}
 
 -- ---- every entry lies within a row
 
@@ -79,13 +79,6 @@ module _ {width : ℕ} {scan : List ℕ} {largest i : ℕ} (w : Bounding width s
 
 -- ---- the tests together
 
--- what the tests tell
-pub record Fitting (work : List ℕ) (width rows : ℕ) (scan : List ℕ) : Type 0 where
-  pub some : 1 ≤ rows
-  pub most : rows ≤ maxRows
-  pub filled : rows * width ≤ length work
-  pub within : allBelow width scan ≡ true
-
 module _ (work : List ℕ) (width rows : ℕ) (scan : List ℕ) where
   pub unfit-none : rows < 1 → false ≡ fits work width rows scan
   unfolding fits
@@ -112,17 +105,25 @@ module _ (work : List ℕ) (width rows : ℕ) (scan : List ℕ) where
   pub fits-told : {t : Bool} → t ≡ fits work width rows scan → not t ≡ false → fits work width rows scan ≡ true
   fits-told {t} e n = sym e ∙ not-false t n
 
-  pub fits-fit : fits work width rows scan ≡ true → Fitting work width rows scan
-  unfolding fits
-  fits-fit e =
-      let filled : Bool = leb (rows * width) (length work) && allBelow width scan in
-      let wide : Bool = leb 1 width && filled in
-      let e₁ = and-r (leb 1 rows) (leb rows maxRows && wide) e in
-      let e₂ = and-r (leb rows maxRows) wide e₁ in
-      let e₃ = and-r (leb 1 width) filled e₂ in
-      record {
-        some = leb-true 1 rows (and-l (leb 1 rows) (leb rows maxRows && wide) e);
-        most = leb-true rows maxRows (and-l (leb rows maxRows) wide e₁);
-        filled = leb-true (rows * width) (length work) (and-l (leb (rows * width) (length work)) (allBelow width scan) e₃);
-        within = and-r (leb (rows * width) (length work)) (allBelow width scan) e₃;
-      }
+  module _ (e : fits work width rows scan ≡ true) where
+    abbrev wide : Bool
+    wide = leb 1 width && (leb (rows * width) (length work) && allBelow width scan)
+
+    many : leb rows maxRows && wide ≡ true
+    unfolding fits
+    many = and-r (leb 1 rows) (leb rows maxRows && wide) e
+
+    full : leb (rows * width) (length work) && allBelow width scan ≡ true
+    full = and-r (leb 1 width) (leb (rows * width) (length work) && allBelow width scan) (and-r (leb rows maxRows) wide many)
+
+    pub fits-fit : Fit work width rows
+    unfolding fits
+    fits-fit =
+        record {
+          some = leb-true 1 rows (and-l (leb 1 rows) (leb rows maxRows && wide) e);
+          most = leb-true rows maxRows (and-l (leb rows maxRows) wide many);
+          filled = leb-true (rows * width) (length work) (and-l (leb (rows * width) (length work)) (allBelow width scan) full);
+        }
+
+    pub fits-within : allBelow width scan ≡ true
+    fits-within = and-r (leb (rows * width) (length work)) (allBelow width scan) full

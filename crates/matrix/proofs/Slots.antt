@@ -1,6 +1,6 @@
 -- Levels in lent memory: each has a slot of as many numbers as there may be rows.
 --
---   slot-fits, slot-add, slot-scaled   a slot's place fits a machine word
+--   slot-fits, slot-add   a slot's place fits a machine word
 --   slot-inside     a slot lies within the memory
 --   slot-room       a slot and the next one do
 --   slot-next       the next slot's place
@@ -32,9 +32,6 @@ module _ {i : ℕ} (h : i < maxRows) where
 
   pub slot-add : {n : ℕ} → n ≤ maxRows → Fits w64 (i * maxRows + n)
   slot-add k = omega (arith, below i h, slots-fit)
-
-  pub slot-scaled : Fits w64 (i * maxRows * 2)
-  slot-scaled = omega (arith, below i h, slots-fit)
 
   pub slot-inside : {n : ℕ} (l : List ℕ) → n ≤ maxRows → length l ≡ maxRows * maxRows → i * maxRows + n ≤ length l
   slot-inside l k e = omega (arith, below i h)

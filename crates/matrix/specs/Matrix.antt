@@ -7,13 +7,14 @@
 --   maxEntries     no signature has more
 --   allBelow       every entry lies within a row
 --   seek           the place of the first entry of a list that fails a test
+--   Fit            there are so many rows of so many numbers
 --   fits           the rows are there, no more than a job has circuits, and every entry lies within a row
 --   Picked         a signature, or the first two rows that should be told apart and are not, or no such matrix
 --   pickedOver     what the method picks, over a relation of needed pairs
 --   picked         the same where each row has a mark, and rows are to be told apart whose marks differ
 --   covered        the same where row 0 is to be told from every other
 --   choiceOf       the answer that stands for it
-use Prim.Native.Nat.{ℕ, zero, suc, _-_, _+_, _*_}
+use Prim.Native.Nat.{ℕ, zero, suc, _-_, _+_, _*_, _≤_}
 use mathlib.Core.Bool.{Bool, true, not, cond, _&&_}
 use mathlib.Core.List.{List, [], _∷_, _++_}
 use lib.Dec.{leb, ltb, eqb}
@@ -50,6 +51,12 @@ allBelow width (e ∷ scan) = ltb e width && allBelow width scan
 unfoldable pub seek : (ℕ → Bool) → List ℕ → ℕ → ℕ
 seek test [] at = at
 seek test (e ∷ scan) at = cond (test e) (seek test scan (suc at)) at
+
+-- there are so many rows of so many numbers
+pub record Fit (work : List ℕ) (width rows : ℕ) : Type 0 where
+  pub some : 1 ≤ rows
+  pub most : rows ≤ maxRows
+  pub filled : rows * width ≤ length work
 
 unfoldable pub fits : List ℕ → ℕ → ℕ → List ℕ → Bool
 fits work width rows scan = leb 1 rows && (leb rows maxRows && (leb 1 width && (leb (rows * width) (length work) && allBelow width scan)))

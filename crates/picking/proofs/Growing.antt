@@ -17,7 +17,7 @@ use mathlib.Core.List.{List, [], _∷_, _++_}
 use lib.ListN.{length, take, drop, getD, set}
 use Rattle.method.specs.Method.{useful}
 use Rattle.matrix.specs.Matrix.{cell, apart, maxRows, maxEntries, seek}
-use Rattle.classes.specs.Labels.{Fit, OpenFit, Ready, Parted, Parts, Started}
+use Rattle.classes.specs.Labels.{Fitted, OpenFit, Ready, Parted, Parts, Started}
 use Rattle.picking.specs.Levels.{clear, slot, copied, Level, Grows, Begun, TakenAll}
 use Rattle.picking.proofs.Labelled.{classed-start, classed-entry}
 use Rattle.picking.proofs.Marked.{labels-useful}
@@ -46,7 +46,7 @@ module _ (work : List ℕ) (width : ℕ) (marks : List ℕ) (entry level count :
 
 -- ---- a level
 
-module _ {work : List ℕ} {width rows : ℕ} {marks taken L P : List ℕ} {count : ℕ} (fit : Fit work width rows marks)
+module _ {work : List ℕ} {width rows : ℕ} {marks taken L P : List ℕ} {count : ℕ} (fit : Fitted work width rows marks)
     (level : Level work width rows marks taken L P count) where
   pub level-ready : Ready work width rows marks L (take count P)
   level-ready = record { fit = fit; low = level .classed .low; own = level .classed .own; covers = level .settled .covers; mixed = level .settled .mixed }
@@ -74,7 +74,7 @@ InSlots work width rows marks labels pending entries level count = Level work wi
 
 module _ (work : List ℕ) (width rows : ℕ) (marks scan : List ℕ) where
   pub record Taking (entries counts labels pending : List ℕ) (level count at : ℕ) : Type 0 where
-    pub fit : Fit work width rows marks
+    pub fit : Fitted work width rows marks
     pub climbing : Climbing (cell work width) rows (apart marks) scan (InSlots work width rows marks labels pending) entries counts level count at
 
   module _ {entries counts labels pending : List ℕ} {level count at : ℕ} (w : Taking entries counts labels pending level count at) where
@@ -89,10 +89,10 @@ module _ (work : List ℕ) (width rows : ℕ) (marks scan : List ℕ) where
       e = getD scan at 0
 
       pub taking-room : level < maxEntries
-      taking-room = climbing-room (w .climbing) (w .fit .some) (w .fit .most) h
+      taking-room = climbing-room (w .climbing) (w .fit .sized .some) (w .fit .sized .most) h
 
       pub taking-next-place : level + 1 < maxRows
-      taking-next-place = climbing-next-place (w .climbing) (w .fit .some) (w .fit .most) h
+      taking-next-place = climbing-next-place (w .climbing) (w .fit .sized .some) (w .fit .sized .most) h
 
       module _ {labels₁ pending₁ : List ℕ} {count₁ : ℕ} (grows : Grows work width marks e level count labels pending labels₁ pending₁ count₁) where
         grown-level : Level work width rows marks (take level entries ++ (e ∷ [])) (slot (level + 1) labels₁) (slot (level + 1) pending₁) count₁
@@ -106,7 +106,7 @@ module _ (work : List ℕ) (width rows : ℕ) (marks scan : List ℕ) where
         pub taking-grown : Level work width rows marks (take (level + 1) (set entries level e)) (slot (level + 1) labels₁) (slot (level + 1) pending₁) count₁
         taking-grown =
             subst (λ (l : List ℕ). Level work width rows marks l (slot (level + 1) labels₁) (slot (level + 1) pending₁) count₁)
-            (sym (climbing-longer (w .climbing) (w .fit .some) (w .fit .most) h)) grown-level
+            (sym (climbing-longer (w .climbing) (w .fit .sized .some) (w .fit .sized .most) h)) grown-level
 
         -- the levels before
         stays : (i n : ℕ) (l : List ℕ) → i ≤ level → Level work width rows marks l (slot i labels) (slot i pending) n
@@ -120,14 +120,14 @@ module _ (work : List ℕ) (width rows : ℕ) (marks scan : List ℕ) where
             record {
               fit = w .fit;
               climbing =
-                  climbing-next (w .climbing) (w .fit .some) (w .fit .most) h (InSlots work width rows marks labels₁ pending₁) stays taking-grown
+                  climbing-next (w .climbing) (w .fit .sized .some) (w .fit .sized .most) h (InSlots work width rows marks labels₁ pending₁) stays taking-grown
                   (clear (cell work width) (slot (level + 1) labels₁) (take count₁ (slot (level + 1) pending₁))) (useless taking-grown) found;
             }
 
     pub taking-end : length scan ≤ at → TakenAll work width rows marks scan level entries counts labels pending
     taking-end h = record { few = w .climbing .few; all = climbing-end (w .climbing) h; levels = w .climbing .levels }
 
-  pub begun-of : {labels pending : List ℕ} {count : ℕ} → Fit work width rows marks → Started rows marks (slot 0 labels) (slot 0 pending) count
+  pub begun-of : {labels pending : List ℕ} {count : ℕ} → Fitted work width rows marks → Started rows marks (slot 0 labels) (slot 0 pending) count
       → Begun work width rows marks labels pending count
   begun-of fit started = record { fit = fit; started = started }
 

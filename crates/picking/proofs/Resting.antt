@@ -1,7 +1,7 @@
 -- Dropping, from the last entry taken to the first (specs/Levels.antt, `Keeping`).
 --
 --   met-strays       of listed rows, labels by two columns as a function and as a list
---   drop-comparable, drop-ready, drop-room   what looking at an entry asks for
+--   drop-both, drop-rest, drop-ready, drop-room   what looking at an entry asks for
 --   drop-goes        the entry goes
 --   drop-keeps       the entry stays, before those kept
 --   dropping-start, dropping-at, dropping-end   the start, the next entry and the end of dropping all
@@ -18,8 +18,8 @@ use lib.ListN.{length, take, drop, getD, replicate, length-replicate, getD-repli
 use Rattle.bits.proofs.Packed.{tabulate-at}
 use Rattle.method.specs.Method.{agree, full, drops}
 use Rattle.matrix.specs.Matrix.{cell, apart, maxRows, maxEntries}
-use Rattle.classes.specs.Labels.{Classed, Fit, Ready, Parts, Comparable, valueIn, lowestOf, stray, strayBy, met, someOf, Starts, Fresh}
-use Rattle.picking.specs.Levels.{slot, Levels, Keeping, Droppable, Dropping, Left}
+use Rattle.classes.specs.Labels.{Classed, Fitted, Ready, Parts, Comparable, SomeBoth, valueIn, lowestOf, stray, strayBy, met, someOf, Starts, Fresh}
+use Rattle.picking.specs.Levels.{slot, Level, Levels, Keeping, Droppable, Dropping, Left}
 use Rattle.matrix.proofs.Sizes.{rows-entries}
 use Rattle.picking.proofs.Labelled.{classed-start, classed-front, classed-join}
 use Rattle.classes.proofs.Fitting.{start-fitted}
@@ -42,21 +42,28 @@ met-strays rows marks L M list below =
 
 -- ---- one entry
 
+comparable : {work : List ℕ} {width rows : ℕ} {marks s t L P M Q : List ℕ} {seen count : ℕ} → rows ≤ maxRows → length L ≡ maxRows → length M ≡ maxRows
+    → Level work width rows marks s L P seen → Level work width rows marks t M Q count → Comparable rows L (take seen P) M
+comparable {P = P} {seen = seen} most l m these others =
+    record {
+      labelled = omega arith;
+      other = omega arith;
+      low = these .classed .low;
+      others-low = others .classed .low;
+      listed = pending-below (take seen P) (these .settled .covers);
+      most = most;
+      own = these .classed .own;
+      covers = these .settled .covers;
+    }
+
 module _ (work : List ℕ) (width rows : ℕ) (marks taken : List ℕ) (level : ℕ) (L P : List ℕ) (seen e start : ℕ) (entries M Q : List ℕ) (count : ℕ)
     (d : Droppable work width rows marks taken level L P seen e start entries M Q count) where
-  pub drop-comparable : length L ≡ maxRows → length M ≡ maxRows → Comparable rows marks L (take seen P) M
-  drop-comparable l m =
-      record {
-        marked = d .fit .marked;
-        labelled = omega (arith, d .fit .most);
-        other = omega (arith, d .fit .most);
-        low = d .before .classed .low;
-        others-low = d .after .level-by .classed .low;
-        listed = pending-below (take seen P) (d .before .settled .covers);
-        most = d .fit .most;
-        own = d .before .classed .own;
-        covers = d .before .settled .covers;
-      }
+  pub drop-both : length L ≡ maxRows → length M ≡ maxRows → SomeBoth marks L (take seen P) M (take count Q)
+  drop-both l m =
+      (rows, d .fit .marked, comparable (d .fit .sized .most) l m (d .before) (d .after .level-by), comparable (d .fit .sized .most) m l (d .after .level-by) (d .before))
+
+  pub drop-rest : length Q ≡ maxRows → count ≤ length Q
+  drop-rest q = omega (arith, d .after .level-by .settled .few)
 
   pub drop-ready : Ready work width rows marks M (take count Q)
   drop-ready = level-ready (d .fit) (d .after .level-by)
@@ -146,7 +153,7 @@ module _ {work : List ℕ} {width rows : ℕ} {marks taken counts labels pending
   dropping-end {start = start} {entries} h k =
       record { within = k .within; all = k .goes ∙ drops-end (cell work width) rows (apart marks) taken (drop start entries) h }
 
-pub dropping-of : {work : List ℕ} {width rows : ℕ} {marks taken counts labels pending old list others left : List ℕ} {count : ℕ} → Fit work width rows marks
+pub dropping-of : {work : List ℕ} {width rows : ℕ} {marks taken counts labels pending old list others left : List ℕ} {count : ℕ} → Fitted work width rows marks
     → length taken ≤ maxEntries → Levels work width rows marks taken labels pending counts → Starts rows marks old list others left count
     → length old ≡ maxRows → length list ≡ maxRows → Dropping work width rows marks taken counts labels pending others left count
 dropping-of {rows = rows} {marks = marks} {old = old} {list = list} fit few levels starts e f =
@@ -154,7 +161,7 @@ dropping-of {rows = rows} {marks = marks} {old = old} {list = list} fit few leve
       fit = fit;
       few = few;
       levels = levels;
-      started = start-fitted rows marks old list (fit .some, fit .most, fit .marked, e, f) starts;
+      started = start-fitted rows marks old list (fit .sized .some, fit .sized .most, fit .marked, e, f) starts;
     }
 
 module _ {level : ℕ} (h : 0 < level) where

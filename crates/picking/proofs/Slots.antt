@@ -8,7 +8,7 @@
 --   copying-none, copying-next, copying-all   its start, its step and its end
 --   copying-length  the memory is as long as before
 --   copying-from, copying-to   the places of the next number
---   copy-fits, copy-scaled     they fit a machine word
+--   copy-fits                  they fit a machine word
 --   before-start, before-from, before-next, before-to   none is past the next slot's end
 --   copied-length, copied-slot   the memory then is as long as before, and the next slot has the level's numbers
 --   after-length, after-room, after-slot, after-slot-length   the same, as the copy leaves the memory
@@ -79,9 +79,6 @@ module _ (start : List ℕ) (level : ℕ) (h : level + 1 < maxRows) (e : length 
 
   pub copy-fits : {n : ℕ} → n ≤ level * maxRows + maxRows + maxRows → Fits w64 n
   copy-fits k = omega (arith, upper, slots-fit)
-
-  pub copy-scaled : {n : ℕ} → n ≤ level * maxRows + maxRows + maxRows → Fits w64 (n * 2)
-  copy-scaled k = omega (arith, upper, slots-fit)
 
   module _ {stack : List ℕ} {i : ℕ} (w : Copying start level stack i) where
     pub copying-length : length stack ≡ length start

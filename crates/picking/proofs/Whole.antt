@@ -19,7 +19,7 @@ use Rattle.method.specs.Method.{Pair, agree, drops, signature, firstPair}
 use Rattle.method.specs.Method.Pair.{nobody}
 use Rattle.matrix.specs.Matrix.{cell, apart, allBelow, fits, picked, pickedOver, pickedBy, choiceOf, signatureOf}
 use Rattle.matrix.specs.Matrix.Picked.{unfit}
-use Rattle.classes.specs.Labels.{pairTold, alikeMarked, pairsFit, Fit}
+use Rattle.classes.specs.Labels.{pairTold, alikeMarked, pairsFit, Fitted}
 use Rattle.picking.specs.Levels.{OwnLabels, slot, Level, Levels, TakenAll}
 use Rattle.matrix.proofs.Fits.{fits-fit}
 use Rattle.matrix.specs.declared.Choice.{Choice}
@@ -85,10 +85,8 @@ module _ (work : List ℕ) (width rows : ℕ) (marks scan : List ℕ) where
   unfolding picked
   chosen-unfit {t} e f n = n ∙ simp (sym e ∙ not-true t f, and-false)
 
-  pub fitting-fit : rows ≤ length marks → fits work width rows scan ≡ true → Fit work width rows marks
-  fitting-fit h e =
-      let w = fits-fit work width rows scan e in
-      record { some = w .some; most = w .most; marked = h; filled = w .filled }
+  pub fitting-fit : rows ≤ length marks → fits work width rows scan ≡ true → Fitted work width rows marks
+  fitting-fit h e = record { sized = fits-fit work width rows scan e; marked = h }
 
   pub chosen : {count : ℕ} {entries counts labels pending : List ℕ} {r : Choice} → count ≤ length entries → rows ≤ length marks → fits work width rows scan ≡ true
       → TakenAll work width rows marks scan count entries counts labels pending

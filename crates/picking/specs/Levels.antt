@@ -18,7 +18,7 @@ use lib.ListN.{length, take, drop, getD}
 use lib.Seq.{paste}
 use Rattle.method.specs.Method.{agree, takes, drops}
 use Rattle.matrix.specs.Matrix.{cell, apart, maxRows, maxEntries}
-use Rattle.classes.specs.Labels.{Classed, Settled, Fit, Parts, Started}
+use Rattle.classes.specs.Labels.{Classed, Settled, Fitted, Parts, Started}
 
 -- every row is its own label
 abbrev pub OwnLabels : ℕ → List ℕ → Type 0
@@ -56,7 +56,7 @@ pub record Grows (work : List ℕ) (width : ℕ) (marks : List ℕ) (entry level
   pub parts : Parts work width marks entry (slot level labels) (take count (slot level pending)) (slot (level + 1) labels₁) (slot (level + 1) pending₁) count₁
 
 pub record Begun (work : List ℕ) (width rows : ℕ) (marks labels pending : List ℕ) (count : ℕ) : Type 0 where
-  pub fit : Fit work width rows marks
+  pub fit : Fitted work width rows marks
   pub started : Started rows marks (slot 0 labels) (slot 0 pending) count
 
 abbrev pub SomeBegun : List ℕ → ℕ → List ℕ → List ℕ → List ℕ → ℕ → Type 0
@@ -85,7 +85,7 @@ pub record Keeping (work : List ℕ) (width rows : ℕ) (marks taken : List ℕ)
 -- what dropping an entry asks for: the matrix, the classes by the entries before it, and what is kept of those after it
 pub record Droppable (work : List ℕ) (width rows : ℕ) (marks taken : List ℕ) (level : ℕ) (labels pending : List ℕ) (seen entry start : ℕ)
     (entries others left : List ℕ) (count : ℕ) : Type 0 where
-  pub fit : Fit work width rows marks
+  pub fit : Fitted work width rows marks
   pub inside : level < length taken
   pub at : getD taken level 0 ≡ entry
   pub before : Level work width rows marks (take level taken) labels pending seen
@@ -103,7 +103,7 @@ Drops work width marks level labels pending seen entry start entries others left
 
 -- what dropping all asks for
 pub record Dropping (work : List ℕ) (width rows : ℕ) (marks taken counts labels pending others left : List ℕ) (count : ℕ) : Type 0 where
-  pub fit : Fit work width rows marks
+  pub fit : Fitted work width rows marks
   pub few : length taken ≤ maxEntries
   pub levels : Levels work width rows marks taken labels pending counts
   pub started : Started rows marks others left count

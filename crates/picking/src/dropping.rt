@@ -6,7 +6,7 @@ ghost use mathlib.Core.List.{_∷_};
 ghost use lib.ListN.{length, take, drop};
 ghost use Rattle.matrix.specs.Matrix.{cell, apart, maxRows, allBelow, maxEntries, signatureOf};
 ghost use Rattle.method.specs.Method.{drops};
-ghost use Rattle.classes.specs.Labels.{someOf, strayBy, lowestOf, valueIn, SomeComparable, Fit, SomeReady, Parts, Fresh};
+ghost use Rattle.classes.specs.Labels.{someOf, strayBy, lowestOf, valueIn, SomeBoth, Fitted, SomeReady, Parts, Fresh, Rise};
 ghost use Rattle.picking.specs.Levels.{slot, Levels, SomeDroppable, Drops, SomeDropping, DropsAll};
 use crate::taking::Taken;
 use matrix::MAX_ENTRIES;
@@ -19,18 +19,21 @@ struct Kept {
     pending: usize,
 }
 
-// Whether the entries of a level and those that the other classes are by tell all needed pairs apart. `noted` is used with a stamp that rises as the level
-// falls.
+// Whether the entries of a level and those that the other classes are by, with so many pending rows left, tell all needed pairs apart. `noted` is used with a
+// stamp that rises as the level falls.
 fn told_at(
     marks: &[u8],
-    labels: &[u16],
-    pending: &[u16],
+    labels: &[u8],
+    pending: &[u8],
     level: usize,
     count: usize,
-    others: &[u16],
+    others: &[u8],
+    left: &[u8],
+    rest: usize,
     noted: &mut [u8],
+    rising: bool,
 ) -> bool
-    requires { ⌜ SomeComparable (now marks) (slot level (now labels)) (take count (slot level (now pending))) (now others) × (count ≤ maxRows) × (level < maxRows) × (length (now labels) ≡ maxRows * maxRows) × (length (now pending) ≡ maxRows * maxRows) × (length (now noted) ≡ maxRows * maxRows) × Fresh (maxRows - level) (now noted) ⌝ }
+    requires { ⌜ SomeBoth (now marks) (slot level (now labels)) (take count (slot level (now pending))) (now others) (take rest (now left)) × (rest ≤ length (now left)) × (count ≤ maxRows) × (level < maxRows) × (length (now labels) ≡ maxRows * maxRows) × (length (now pending) ≡ maxRows * maxRows) × (length (now noted) ≡ maxRows * maxRows) × Fresh (maxRows - level) (now noted) × (rising ≡ true → Rise (now marks)) ⌝ }
     ensures { λ r. ⌜ (r ≡ not (someOf (strayBy (lowestOf (slot level (now (labels .entry))) (valueIn (now (others .entry)))) (now (marks .entry))) (take count (slot level (now (pending .entry)))))) × Fresh (maxRows - level + 1) (now (noted .exit)) ⌝ }
 {
     let at = level * MAX_ROWS;
@@ -39,8 +42,10 @@ fn told_at(
         &labels[at..at + MAX_ROWS],
         &pending[at..at + count],
         others,
+        &left[..rest],
         noted,
         (MAX_ROWS - level) as u8,
+        rising,
     )
 }
 
@@ -51,11 +56,12 @@ fn keep(
     marks: &[u8],
     entry: u16,
     kept: Kept,
-    others: &mut [u16],
-    left: &mut [u16],
+    others: &mut [u8],
+    left: &mut [u8],
     entries: &mut [u16],
+    rising: bool,
 ) -> Kept
-    requires { ⌜ SomeReady (now work) width (now marks) (now others) (take (kept .pending) (now left)) × (entry < width) × (kept .pending ≤ maxRows) × (length (now others) ≡ maxRows) × (length (now left) ≡ maxRows) × (length (now entries) ≡ maxEntries) × (1 ≤ kept .start) × (kept .start ≤ maxEntries) ⌝ }
+    requires { ⌜ SomeReady (now work) width (now marks) (now others) (take (kept .pending) (now left)) × (entry < width) × (kept .pending ≤ maxRows) × (length (now others) ≡ maxRows) × (length (now left) ≡ maxRows) × (length (now entries) ≡ maxEntries) × (1 ≤ kept .start) × (kept .start ≤ maxEntries) × (rising ≡ true → Rise (now marks)) ⌝ }
     ensures { λ r. ⌜ (r .start + 1 ≡ kept .start) × (drop (r .start) (now (entries .exit)) ≡ entry ∷ drop (kept .start) (now (entries .entry))) × Parts (now (work .entry)) width (now (marks .entry)) entry (now (others .entry)) (take (kept .pending) (now (left .entry))) (now (others .exit)) (now (left .exit)) (r .pending) ⌝ }
 {
     let pending = classes::settling::part(
@@ -66,6 +72,7 @@ fn keep(
         left,
         kept.pending,
         entry as usize,
+        rising,
     );
     let start = kept.start - 1;
     entries[start] = entry;
@@ -77,24 +84,46 @@ fn drop_at(
     work: &[u16],
     width: usize,
     marks: &[u8],
-    labels: &[u16],
-    pending: &[u16],
+    labels: &[u8],
+    pending: &[u8],
     level: usize,
     seen: usize,
     entry: u16,
     kept: Kept,
-    others: &mut [u16],
-    left: &mut [u16],
+    others: &mut [u8],
+    left: &mut [u8],
     entries: &mut [u16],
     noted: &mut [u8],
+    rising: bool,
 ) -> Kept
-    requires { ⌜ SomeDroppable (now work) width (now marks) level (slot level (now labels)) (slot level (now pending)) seen entry (kept .start) (now entries) (now others) (now left) (kept .pending) × (entry < width) × (level < maxRows) × (length (now labels) ≡ maxRows * maxRows) × (length (now pending) ≡ maxRows * maxRows) × (length (now others) ≡ maxRows) × (length (now left) ≡ maxRows) × (length (now entries) ≡ maxEntries) × (length (now noted) ≡ maxRows * maxRows) × Fresh (maxRows - level) (now noted) ⌝ }
+    requires { ⌜ SomeDroppable (now work) width (now marks) level (slot level (now labels)) (slot level (now pending)) seen entry (kept .start) (now entries) (now others) (now left) (kept .pending) × (entry < width) × (level < maxRows) × (length (now labels) ≡ maxRows * maxRows) × (length (now pending) ≡ maxRows * maxRows) × (length (now others) ≡ maxRows) × (length (now left) ≡ maxRows) × (length (now entries) ≡ maxEntries) × (length (now noted) ≡ maxRows * maxRows) × Fresh (maxRows - level) (now noted) × (rising ≡ true → Rise (now marks)) ⌝ }
     ensures { λ r. ⌜ Drops (now (work .entry)) width (now (marks .entry)) level (slot level (now (labels .entry))) (slot level (now (pending .entry))) seen entry (kept .start) (now (entries .entry)) (now (others .entry)) (now (left .entry)) (kept .pending) (r .start) (now (entries .exit)) (now (others .exit)) (now (left .exit)) (r .pending) × Fresh (maxRows - level + 1) (now (noted .exit)) ⌝ }
 {
-    if told_at(marks, labels, pending, level, seen, others, noted) {
+    if told_at(
+        marks,
+        labels,
+        pending,
+        level,
+        seen,
+        others,
+        left,
+        kept.pending,
+        noted,
+        rising,
+    ) {
         return kept;
     }
-    keep(work, width, marks, entry, kept, others, left, entries)
+    keep(
+        work,
+        width,
+        marks,
+        entry,
+        kept,
+        others,
+        left,
+        entries,
+        rising,
+    )
 }
 
 // No entry is kept yet.
@@ -113,15 +142,16 @@ fn drop_all(
     width: usize,
     marks: &[u8],
     taken: Taken,
-    labels: &[u16],
-    pending: &[u16],
-    others: &mut [u16],
-    left: &mut [u16],
+    labels: &[u8],
+    pending: &[u8],
+    others: &mut [u8],
+    left: &mut [u8],
     entries: &mut [u16],
     noted: &mut [u8],
     count: usize,
+    rising: bool,
 ) -> usize
-    requires { ⌜ SomeDropping (now work) width (now marks) (take (taken .count) (taken .entries)) (taken .pending) (now labels) (now pending) (now others) (now left) count × (taken .count ≤ maxEntries) × (allBelow width (take (taken .count) (taken .entries)) ≡ true) × (length (now labels) ≡ maxRows * maxRows) × (length (now pending) ≡ maxRows * maxRows) × (length (now others) ≡ maxRows) × (length (now left) ≡ maxRows) × (length (now entries) ≡ maxEntries) × (length (now noted) ≡ maxRows * maxRows) × Fresh 1 (now noted) ⌝ }
+    requires { ⌜ SomeDropping (now work) width (now marks) (take (taken .count) (taken .entries)) (taken .pending) (now labels) (now pending) (now others) (now left) count × (taken .count ≤ maxEntries) × (allBelow width (take (taken .count) (taken .entries)) ≡ true) × (length (now labels) ≡ maxRows * maxRows) × (length (now pending) ≡ maxRows * maxRows) × (length (now others) ≡ maxRows) × (length (now left) ≡ maxRows) × (length (now entries) ≡ maxEntries) × (length (now noted) ≡ maxRows * maxRows) × Fresh 1 (now noted) × (rising ≡ true → Rise (now marks)) ⌝ }
     ensures { λ r. ⌜ DropsAll (now (work .entry)) width (now (marks .entry)) (take (taken .count) (taken .entries)) (taken .pending) (now (labels .entry)) (now (pending .entry)) (now (others .entry)) (now (left .entry)) count r (now (entries .exit)) ⌝ }
 {
     let mut kept = none_kept(count);
@@ -142,6 +172,7 @@ fn drop_all(
             left,
             entries,
             noted,
+            rising,
         );
     }
     kept.start
@@ -154,14 +185,15 @@ pub(crate) fn signature(
     rows: usize,
     marks: &[u8],
     taken: Taken,
-    labels: &[u16],
-    pending: &[u16],
+    labels: &[u8],
+    pending: &[u8],
+    rising: bool,
 ) -> Signature
-    requires { ⌜ Fit (now work) width rows (now marks) × (taken .count ≤ maxEntries) × (allBelow width (take (taken .count) (taken .entries)) ≡ true) × Levels (now work) width rows (now marks) (take (taken .count) (taken .entries)) (now labels) (now pending) (taken .pending) × (length (now labels) ≡ maxRows * maxRows) × (length (now pending) ≡ maxRows * maxRows) ⌝ }
+    requires { ⌜ Fitted (now work) width rows (now marks) × (taken .count ≤ maxEntries) × (allBelow width (take (taken .count) (taken .entries)) ≡ true) × Levels (now work) width rows (now marks) (take (taken .count) (taken .entries)) (now labels) (now pending) (taken .pending) × (length (now labels) ≡ maxRows * maxRows) × (length (now pending) ≡ maxRows * maxRows) × (rising ≡ true → Rise (now marks)) ⌝ }
     ensures { λ r. ⌜ r ≡ signatureOf (drops (cell (now (work .entry)) width) rows (apart (now (marks .entry))) (length (take (taken .count) (taken .entries))) (take (taken .count) (taken .entries))) ⌝ }
 {
-    let mut others = [0u16; MAX_ROWS];
-    let mut left = [0u16; MAX_ROWS];
+    let mut others = [0u8; MAX_ROWS];
+    let mut left = [0u8; MAX_ROWS];
     let mut kept = [0u16; MAX_ENTRIES];
     let mut noted = [0u8; MAX_ROWS * MAX_ROWS];
     let count = classes::settling::start(&mut others, &mut left, rows, marks);
@@ -177,6 +209,7 @@ pub(crate) fn signature(
         &mut kept,
         &mut noted,
         count,
+        rising,
     );
     matrix::aligned(start, &kept)
 }

@@ -7,7 +7,7 @@ ghost use mathlib.Core.List.{[]};
 ghost use lib.ListN.{length, take, getD};
 ghost use Rattle.method.specs.Method.{firstPair, drops};
 ghost use Rattle.matrix.specs.Matrix.{cell, apart, maxRows, allBelow, fits, picked, pickedBy, choiceOf, signatureOf, maxEntries};
-ghost use Rattle.classes.specs.Labels.{pairTold, alikeMarked, Fit};
+ghost use Rattle.classes.specs.Labels.{pairTold, alikeMarked, Fitted, Rise};
 ghost use Rattle.picking.specs.Levels.{slot, OwnLabels, Levels};
 use classes::Two;
 use matrix::Choice;
@@ -19,7 +19,7 @@ mod dropping;
 mod taking;
 
 // The first two rows that the entries taken do not tell apart and should. Mostly no row is pending: then there are no such rows.
-fn first_pair(rows: usize, marks: &[u8], taken: Taken, labels: &[u16]) -> Two
+fn first_pair(rows: usize, marks: &[u8], taken: Taken, labels: &[u8]) -> Two
     requires { ⌜ (rows ≤ maxRows) × (rows ≤ length (now marks)) × (taken .count ≤ maxEntries) × (getD (taken .pending) (taken .count) 0 ≡ 0 → OwnLabels rows (slot (taken .count) (now labels))) × (length (now labels) ≡ maxRows * maxRows) ⌝ }
     ensures { λ r. ⌜ pairTold r ≡ firstPair rows (alikeMarked (slot (taken .count) (now (labels .entry))) (now (marks .entry))) ⌝ }
 {
@@ -38,10 +38,11 @@ fn conclude(
     rows: usize,
     marks: &[u8],
     taken: Taken,
-    labels: &[u16],
-    pending: &[u16],
+    labels: &[u8],
+    pending: &[u8],
+    rising: bool,
 ) -> Choice
-    requires { ⌜ Fit (now work) width rows (now marks) × (taken .count ≤ maxEntries) × (allBelow width (take (taken .count) (taken .entries)) ≡ true) × Levels (now work) width rows (now marks) (take (taken .count) (taken .entries)) (now labels) (now pending) (taken .pending) × (length (now labels) ≡ maxRows * maxRows) × (length (now pending) ≡ maxRows * maxRows) ⌝ }
+    requires { ⌜ Fitted (now work) width rows (now marks) × (taken .count ≤ maxEntries) × (allBelow width (take (taken .count) (taken .entries)) ≡ true) × Levels (now work) width rows (now marks) (take (taken .count) (taken .entries)) (now labels) (now pending) (taken .pending) × (length (now labels) ≡ maxRows * maxRows) × (length (now pending) ≡ maxRows * maxRows) × (rising ≡ true → Rise (now marks)) ⌝ }
     ensures { λ r. ⌜ r ≡ choiceOf (pickedBy (firstPair rows (alikeMarked (slot (taken .count) (now (labels .entry))) (now (marks .entry)))) (drops (cell (now (work .entry)) width) rows (apart (now (marks .entry))) (length (take (taken .count) (taken .entries))) (take (taken .count) (taken .entries)))) ⌝ }
 {
     let pair = first_pair(rows, marks, taken, labels);
@@ -52,20 +53,39 @@ fn conclude(
         },
         Two::Nobody => Choice {
             found: Found::Told,
-            signature: dropping::signature(work, width, rows, marks, taken, labels, pending),
+            signature: dropping::signature(
+                work,
+                width,
+                rows,
+                marks,
+                taken,
+                labels,
+                pending,
+                rising,
+            ),
         },
     }
 }
 
-// The answer of a matrix. The levels of taking stand in two arrays, a label and a pending row for each row of each level.
+// The answer of a matrix. The levels of taking stand in two arrays, a label and a pending row for each row of each level. Whether the marks rise is looked at once.
 fn choose_fit(work: &[u16], width: usize, rows: usize, marks: &[u8], scan: &[u16]) -> Choice
     requires { ⌜ (rows ≤ length (now marks)) × (fits (now work) width rows (now scan) ≡ true) ⌝ }
     ensures { λ r. ⌜ r ≡ choiceOf (picked (now (work .entry)) width rows (now (marks .entry)) (now (scan .entry))) ⌝ }
 {
-    let mut labels = [0u16; MAX_ROWS * MAX_ROWS];
-    let mut pending = [0u16; MAX_ROWS * MAX_ROWS];
-    let taken = taking::take(work, width, rows, marks, scan, &mut labels, &mut pending);
-    conclude(work, width, rows, marks, taken, &labels, &pending)
+    let rising = classes::settling::marks_rise(marks);
+    let mut labels = [0u8; MAX_ROWS * MAX_ROWS];
+    let mut pending = [0u8; MAX_ROWS * MAX_ROWS];
+    let taken = taking::take(
+        work,
+        width,
+        rows,
+        marks,
+        scan,
+        &mut labels,
+        &mut pending,
+        rising,
+    );
+    conclude(work, width, rows, marks, taken, &labels, &pending, rising)
 }
 
 // The signature of the method, or the first two rows that should be told apart and are not.

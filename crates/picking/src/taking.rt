@@ -5,7 +5,7 @@ ghost use mathlib.Core.Path.{_≡_};
 ghost use mathlib.Core.Bool.{true};
 ghost use lib.ListN.{length, take, drop};
 ghost use Rattle.matrix.specs.Matrix.{cell, maxRows, allBelow, maxEntries, seek};
-ghost use Rattle.classes.specs.Labels.{OpenFit, SomeReady, Fit, Started};
+ghost use Rattle.classes.specs.Labels.{OpenFit, SomeReady, Fitted, Started, Rise};
 ghost use Rattle.picking.specs.Levels.{clear, slot, copied, Grows, SomeBegun, Takings, TakenAll};
 use matrix::MAX_ENTRIES;
 use matrix::MAX_ROWS;
@@ -18,7 +18,7 @@ pub(crate) struct Taken {
 }
 
 // Whether all pending rows have their labels' numbers at an entry.
-fn is_clear(work: &[u16], width: usize, labels: &[u16], pending: &[u16], entry: usize) -> bool
+fn is_clear(work: &[u16], width: usize, labels: &[u8], pending: &[u8], entry: usize) -> bool
     requires { ⌜ OpenFit (now work) width (now labels) (now pending) × (entry < width) ⌝ }
     ensures { λ r. ⌜ r ≡ clear (cell (now (work .entry)) width) (now (labels .entry)) (now (pending .entry)) entry ⌝ }
 {
@@ -37,8 +37,8 @@ fn is_clear(work: &[u16], width: usize, labels: &[u16], pending: &[u16], entry: 
 fn next(
     work: &[u16],
     width: usize,
-    labels: &[u16],
-    pending: &[u16],
+    labels: &[u8],
+    pending: &[u8],
     scan: &[u16],
     from: usize,
 ) -> usize
@@ -62,8 +62,8 @@ fn next(
 fn next_useful(
     work: &[u16],
     width: usize,
-    labels: &[u16],
-    pending: &[u16],
+    labels: &[u8],
+    pending: &[u8],
     level: usize,
     count: usize,
     scan: &[u16],
@@ -84,7 +84,7 @@ fn next_useful(
 }
 
 // A level is copied to the next one.
-fn copy_level(stack: &mut [u16], level: usize)
+fn copy_level(stack: &mut [u8], level: usize)
     requires { ⌜ (level + 1 < maxRows) × (length (now stack) ≡ maxRows * maxRows) ⌝ }
     ensures { λ r. ⌜ now (stack .exit) ≡ copied level (now (stack .entry)) ⌝ }
 {
@@ -101,13 +101,14 @@ fn take_one(
     work: &[u16],
     width: usize,
     marks: &[u8],
-    labels: &mut [u16],
-    pending: &mut [u16],
+    labels: &mut [u8],
+    pending: &mut [u8],
     level: usize,
     count: usize,
     entry: usize,
+    rising: bool,
 ) -> usize
-    requires { ⌜ SomeReady (now work) width (now marks) (slot level (now labels)) (take count (slot level (now pending))) × (entry < width) × (count ≤ maxRows) × (level + 1 < maxRows) × (length (now labels) ≡ maxRows * maxRows) × (length (now pending) ≡ maxRows * maxRows) ⌝ }
+    requires { ⌜ SomeReady (now work) width (now marks) (slot level (now labels)) (take count (slot level (now pending))) × (entry < width) × (count ≤ maxRows) × (level + 1 < maxRows) × (length (now labels) ≡ maxRows * maxRows) × (length (now pending) ≡ maxRows * maxRows) × (rising ≡ true → Rise (now marks)) ⌝ }
     ensures { λ r. ⌜ Grows (now (work .entry)) width (now (marks .entry)) entry level count (now (labels .entry)) (now (pending .entry)) (now (labels .exit)) (now (pending .exit)) r ⌝ }
 {
     copy_level(labels, level);
@@ -121,6 +122,7 @@ fn take_one(
         &mut pending[at..at + MAX_ROWS],
         count,
         entry,
+        rising,
     )
 }
 
@@ -130,13 +132,14 @@ fn take_from(
     width: usize,
     marks: &[u8],
     scan: &[u16],
-    labels: &mut [u16],
-    pending: &mut [u16],
+    labels: &mut [u8],
+    pending: &mut [u8],
     entries: &mut [u16],
     counts: &mut [u8],
     first: usize,
+    rising: bool,
 ) -> usize
-    requires { ⌜ SomeBegun (now work) width (now marks) (now labels) (now pending) first × (allBelow width (now scan) ≡ true) × (length (now labels) ≡ maxRows * maxRows) × (length (now pending) ≡ maxRows * maxRows) × (length (now entries) ≡ maxEntries) × (length (now counts) ≡ maxRows) ⌝ }
+    requires { ⌜ SomeBegun (now work) width (now marks) (now labels) (now pending) first × (allBelow width (now scan) ≡ true) × (length (now labels) ≡ maxRows * maxRows) × (length (now pending) ≡ maxRows * maxRows) × (length (now entries) ≡ maxEntries) × (length (now counts) ≡ maxRows) × (rising ≡ true → Rise (now marks)) ⌝ }
     ensures { λ r. ⌜ Takings (now (work .entry)) width (now (marks .entry)) (now (scan .entry)) (now (labels .entry)) (now (pending .entry)) first r (now (entries .exit)) (now (counts .exit)) (now (labels .exit)) (now (pending .exit)) ⌝ }
 {
     let mut level = 0;
@@ -155,6 +158,7 @@ fn take_from(
             level,
             count,
             entry as usize,
+            rising,
         );
         level += 1;
         counts[level] = count as u8;
@@ -164,7 +168,7 @@ fn take_from(
 }
 
 // Level 0: the classes by no entry.
-fn first_level(labels: &mut [u16], pending: &mut [u16], rows: usize, marks: &[u8]) -> usize
+fn first_level(labels: &mut [u8], pending: &mut [u8], rows: usize, marks: &[u8]) -> usize
     requires { ⌜ (1 ≤ rows) × (rows ≤ maxRows) × (rows ≤ length (now marks)) × (length (now labels) ≡ maxRows * maxRows) × (length (now pending) ≡ maxRows * maxRows) ⌝ }
     ensures { λ r. ⌜ Started rows (now (marks .entry)) (slot 0 (now (labels .exit))) (slot 0 (now (pending .exit))) r ⌝ }
 {
@@ -182,10 +186,11 @@ pub(crate) fn take(
     rows: usize,
     marks: &[u8],
     scan: &[u16],
-    labels: &mut [u16],
-    pending: &mut [u16],
+    labels: &mut [u8],
+    pending: &mut [u8],
+    rising: bool,
 ) -> Taken
-    requires { ⌜ Fit (now work) width rows (now marks) × (allBelow width (now scan) ≡ true) × (length (now labels) ≡ maxRows * maxRows) × (length (now pending) ≡ maxRows * maxRows) ⌝ }
+    requires { ⌜ Fitted (now work) width rows (now marks) × (allBelow width (now scan) ≡ true) × (length (now labels) ≡ maxRows * maxRows) × (length (now pending) ≡ maxRows * maxRows) × (rising ≡ true → Rise (now marks)) ⌝ }
     ensures { λ r. ⌜ TakenAll (now (work .entry)) width rows (now (marks .entry)) (now (scan .entry)) (r .count) (r .entries) (r .pending) (now (labels .exit)) (now (pending .exit)) ⌝ }
 {
     let mut entries = [0u16; MAX_ENTRIES];
@@ -201,6 +206,7 @@ pub(crate) fn take(
         &mut entries,
         &mut counts,
         first,
+        rising,
     );
     Taken {
         count,

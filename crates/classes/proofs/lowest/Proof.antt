@@ -1,7 +1,6 @@
 -- `classes::lowest` meets its contract.
 use native.Mathlib.Nat.{lt-trans}
 use native.Mathlib.Numerals.{add-one-le}
-use borrow.Author.Needs.{scaled-fits}
 use borrow.Author.Count.{falls}
 use mir.Facts.{fits-le}
 use Prim.Native.Nat.{_-_}
@@ -9,7 +8,7 @@ use mathlib.Core.Path.{_≡_}
 use mathlib.Core.Bool.{false, _&&_}
 use mathlib.Core.Logic.{⊎-elim}
 use lib.Dec.{eqb}
-use lib.ListN.{length, getD}
+use lib.ListN.{getD}
 use denote.Ref.{now}
 use Rattle.classes.specs.Labels.{both, valueIn}
 use Rattle.classes.proofs.Refined.{Matching, matching-none, matching-found, matching-next, matching-all, both-found, both-labels, both-values}
@@ -22,14 +21,8 @@ Inv-loop labels others from c label other k₀ k = Matching (λ j. eqb (getD lab
 abbrev μ-loop : tie.MeasureT-loop
 μ-loop labels others from c label other k₀ k = c - k
 
-mul-label : tie.Need-mul-label Inv-loop μ-loop
-mul-label c = scaled-fits _ (length (now (c .args .labels))) 2 (c .pre .0) (c .good .0 .1)
-
 shared-slice-read-label : tie.Need-shared-slice-read-label Inv-loop μ-loop
 shared-slice-read-label c = c .before .pre .0
-
-mul-other : tie.Need-mul-other Inv-loop μ-loop
-mul-other c = scaled-fits _ (length (now (c .before .args .others))) 2 (c .before .pre .1) (c .before .good .1 .0 .1)
 
 shared-slice-read-other : tie.Need-shared-slice-read-other Inv-loop μ-loop
 shared-slice-read-other c = c .before .before .pre .1
@@ -37,14 +30,8 @@ shared-slice-read-other c = c .before .before .pre .1
 loop-holds : tie.Need-loop-holds Inv-loop μ-loop
 loop-holds c = let a = c .before .before .args in matching-none (λ j. both (now (a .labels)) (valueIn (now (a .others))) j (a .c)) (c .before .before .pre .2)
 
-mul-if1 : tie.Need-mul-if1 Inv-loop μ-loop
-mul-if1 c = scaled-fits _ (length (now (c .before .before .before .before .args .labels))) 2 (lt-trans (c .loop-test .taken) (c .before .before .before .before .pre .0)) (c .before .before .before .before .good .0 .1)
-
 shared-slice-read-if1 : tie.Need-shared-slice-read-if1 Inv-loop μ-loop
 shared-slice-read-if1 c = lt-trans (c .before .loop-test .taken) (c .before .before .before .before .before .pre .0)
-
-mul-if2 : tie.Need-mul-if2 Inv-loop μ-loop
-mul-if2 c = scaled-fits _ (length (now (c .before .before .before .before .before .before .args .others))) 2 (lt-trans (c .before .before .loop-test .taken) (c .before .before .before .before .before .before .pre .1)) (c .before .before .before .before .before .before .good .1 .0 .1)
 
 shared-slice-read-if2 : tie.Need-shared-slice-read-if2 Inv-loop μ-loop
 shared-slice-read-if2 c = lt-trans (c .before .before .before .loop-test .taken) (c .before .before .before .before .before .before .before .pre .1)
@@ -70,14 +57,10 @@ lowest-spec =
     (tie.spec
     Inv-loop
     μ-loop
-    mul-label
     shared-slice-read-label
-    mul-other
     shared-slice-read-other
     loop-holds
-    mul-if1
     shared-slice-read-if1
-    mul-if2
     shared-slice-read-if2
     returns
     add-k

@@ -1,9 +1,7 @@
 -- `classes::partner` meets its contract.
 use native.Mathlib.Nat.{lt-of-lt-of-le}
 use native.Mathlib.Numerals.{add-one-le}
-use borrow.Author.Needs.{scaled-fits}
 use mir.Facts.{fits-le}
-use lib.ListN.{length}
 use Prim.Native.Nat.{_-_}
 use mathlib.Core.Path.{_≡_}
 use mathlib.Core.Bool.{false}
@@ -27,14 +25,8 @@ add-b c = fits-le (add-one-le (c .pre .2)) (c .fits .rows)
 loop-holds : tie.Need-loop-holds Inv-loop μ-loop
 loop-holds c = let a = c .args in paired-none (a .rows) (a .a) (alikeMarked (now (a .labels)) (now (a .marks)) (a .a)) (c .pre .2)
 
-mul-if1 : tie.Need-mul-if1 Inv-loop μ-loop
-mul-if1 c = scaled-fits _ (length (now (c .before .before .args .labels))) 2 (lt-of-lt-of-le (c .loop-test .taken) (c .before .before .pre .1)) (c .before .before .good .1 .1 .0 .1)
-
 shared-slice-read-if1 : tie.Need-shared-slice-read-if1 Inv-loop μ-loop
 shared-slice-read-if1 c = lt-of-lt-of-le (c .before .loop-test .taken) (c .before .before .before .pre .1)
-
-mul-if1-2 : tie.Need-mul-if1-2 Inv-loop μ-loop
-mul-if1-2 c = scaled-fits _ (length (now (c .before .before .before .args .labels))) 2 (lt-of-lt-of-le (c .before .before .before .pre .2) (c .before .before .before .pre .1)) (c .before .before .before .good .1 .1 .0 .1)
 
 shared-slice-read-if1-2 : tie.Need-shared-slice-read-if1-2 Inv-loop μ-loop
 shared-slice-read-if1-2 c = lt-of-lt-of-le (c .before .before .before .before .pre .2) (c .before .before .before .before .pre .1)
@@ -68,9 +60,7 @@ partner-spec =
     μ-loop
     add-b
     loop-holds
-    mul-if1
     shared-slice-read-if1
-    mul-if1-2
     shared-slice-read-if1-2
     shared-slice-read-if2
     shared-slice-read-if2-2

@@ -11,7 +11,7 @@ use Rattle.picking.proofs.conclude.Tie as tie
 
 first-pair-requires : tie.Need-first-pair-requires
 unfolding maxEntries
-first-pair-requires c κs = let a = c .before .before .before .before .args in (c .before .before .before .before .pre .0 .most, c .before .before .before .before .pre .0 .marked, c .before .before .before .before .pre .1, last-own (now (a .work)) (a .width) (a .rows) (now (a .marks)) (a .taken .count) (a .taken .entries) (a .taken .pending) (now (a .labels)) (now (a .pending)) (count-within (length-unmapped _ (a .taken .entries) _ (c .before .before .before .before .good .1 .1 .1 .1 .0 .1 .1 .1 .0 .1 .0 .1)) (c .before .before .before .before .pre .1)) (c .before .before .before .before .pre .3), c .before .before .before .before .pre .4)
+first-pair-requires c κs = let a = c .before .before .before .before .args in (c .before .before .before .before .pre .0 .sized .most, c .before .before .before .before .pre .0 .marked, c .before .before .before .before .pre .1, last-own (now (a .work)) (a .width) (a .rows) (now (a .marks)) (a .taken .count) (a .taken .entries) (a .taken .pending) (now (a .labels)) (now (a .pending)) (count-within (length-unmapped _ (a .taken .entries) _ (c .before .before .before .before .good .1 .1 .1 .1 .0 .1 .1 .1 .0 .1 .0 .1)) (c .before .before .before .before .pre .1)) (c .before .before .before .before .pre .3), c .before .before .before .before .pre .4)
 
 enum-known-pair : tie.Need-enum-known-pair
 enum-known-pair c = c .match .keys1

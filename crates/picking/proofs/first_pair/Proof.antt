@@ -7,7 +7,7 @@ use Rattle.picking.specs.Levels.{slot}
 use Rattle.matrix.proofs.Sizes.{count-within, entries-row}
 use Rattle.classes.proofs.Partners.{own-unpaired}
 use Rattle.picking.proofs.Slots.{slot-length, slot-lent}
-use Rattle.matrix.proofs.Slots.{slot-fits, slot-add, slot-scaled, slot-inside}
+use Rattle.matrix.proofs.Slots.{slot-fits, slot-add, slot-inside}
 use Rattle.picking.proofs.Whole.{lent-pair}
 use Rattle.picking.proofs.first_pair.Statement.{statement}
 use Rattle.picking.proofs.first_pair.Tie as tie
@@ -26,10 +26,6 @@ mul-at c = slot-fits (entries-row (c .before .before .before .before .pre .2))
 add-search-pairs : tie.Need-add-search-pairs
 unfolding maxRows
 add-search-pairs c = slot-add (entries-row (c .before .before .before .before .pre .2)) (le-refl maxRows)
-
-mul-search-pairs : tie.Need-mul-search-pairs
-unfolding maxRows
-mul-search-pairs c = slot-scaled (entries-row (c .before .before .before .before .pre .2))
 
 sub-search-pairs : tie.Need-sub-search-pairs
 unfolding maxRows
@@ -58,7 +54,6 @@ first-pair-spec =
     returns
     mul-at
     add-search-pairs
-    mul-search-pairs
     sub-search-pairs
     part-search-pairs-start
     part-search-pairs-end

@@ -1,11 +1,9 @@
 -- `classes::refining::refine` meets its contract: the rows passed have their new labels.
 use native.Mathlib.Nat.{le-refl, le-of-lt}
 use native.Mathlib.Numerals.{add-one-le}
-use borrow.Author.Needs.{scaled-fits}
 use borrow.Author.Count.{falls}
 use Prim.Native.Nat.{ℕ, _-_}
 use mathlib.Core.Path.{_≡_, refl, sym, _∙_}
-use lib.Dec.{lit<}
 use lib.ListN.{length}
 use denote.Ref.{now}
 use Rattle.matrix.specs.Matrix.{cell, maxRows}
@@ -25,18 +23,11 @@ abbrev μ-loop : tie.MeasureT-loop
 loop-holds : tie.Need-loop-holds Inv-loop μ-loop
 loop-holds c = let a = c .before .before .before .before .before .before .args in (refl, λ rows ready. relabelling-start (now (a .work)) (a .width) rows (now (a .marks)) (now (a .labels)) (now (a .pending)) (a .entry) ready (now (a .next)) (now (a .mixed)) (c .before .before .before .before .before .before .pre .2) (c .before .before .before .before .before .before .pre .3) (c .before .before .before .before .before .before .pre .4) (c .before .before .before .before .before .before .pre .5) (c .before .before .before .before .before .before .pre .6))
 
-mul-c : tie.Need-mul-c Inv-loop μ-loop
-mul-c c = scaled-fits _ (length (now (c .before .before .before .before .before .before .before .before .args .pending))) 2 (c .loop-test .taken) (c .before .before .before .before .before .before .before .before .good .1 .1 .1 .1 .0 .1)
-
 shared-slice-read-c : tie.Need-shared-slice-read-c Inv-loop μ-loop
 shared-slice-read-c c = c .before .loop-test .taken
 
 cast-c : tie.Need-cast-c Inv-loop μ-loop
 cast-c c = let a = c .before .before .before .before .before .before .before .before .before .args in let q = c .before .before .before .before .before .before .before .before .before .pre .0 .1 in row-place (le-of-lt (relabelling-row (now (a .work)) (a .width) (c .before .before .before .before .before .before .before .before .before .pre .0 .0) (now (a .marks)) (now (a .labels)) (now (a .pending)) (a .entry) q (c .before .before .loop .inv .1 (c .before .before .before .before .before .before .before .before .before .pre .0 .0) q) (c .before .loop-test .taken)))
-
-mul-chained : tie.Need-mul-chained Inv-loop μ-loop
-unfolding maxRows
-mul-chained c = let a = c .before .before .before .before .before .before .before .before .before .before .args in let q = c .before .before .before .before .before .before .before .before .before .before .pre .0 .1 in scaled-fits _ 64 2 (relabelling-row (now (a .work)) (a .width) (c .before .before .before .before .before .before .before .before .before .before .pre .0 .0) (now (a .marks)) (now (a .labels)) (now (a .pending)) (a .entry) q (c .before .before .before .loop .inv .1 (c .before .before .before .before .before .before .before .before .before .before .pre .0 .0) q) (c .before .before .loop-test .taken)) (lit< tt)
 
 slice-read-chained : tie.Need-slice-read-chained Inv-loop μ-loop
 slice-read-chained c = let a = c .before .before .before .before .before .before .before .before .before .before .before .args in let q = c .before .before .before .before .before .before .before .before .before .before .before .pre .0 .1 in relabelling-place (now (a .work)) (a .width) (c .before .before .before .before .before .before .before .before .before .before .before .pre .0 .0) (now (a .marks)) (now (a .labels)) (now (a .pending)) (a .entry) q (c .before .before .before .before .loop .inv .1 (c .before .before .before .before .before .before .before .before .before .before .before .pre .0 .0) q) (c .before .before .before .loop-test .taken)
@@ -50,16 +41,8 @@ chained-requires c κs = let a = c .before .before .before .before .before .befo
 cast-labels : tie.Need-cast-labels Inv-loop μ-loop
 cast-labels c = let a = c .before .before .before .before .before .before .before .before .before .before .before .before .before .before .args in let q = c .before .before .before .before .before .before .before .before .before .before .before .before .before .before .pre .0 .1 in row-fits (le-refl maxRows) (relabelling-found (now (a .work)) (a .width) (c .before .before .before .before .before .before .before .before .before .before .before .before .before .before .pre .0 .0) (now (a .marks)) (now (a .labels)) (now (a .pending)) (a .entry) q (c .before .before .before .before .before .before .before .loop .inv .1 (c .before .before .before .before .before .before .before .before .before .before .before .before .before .before .pre .0 .0) q) (c .before .before .before .before .before .before .loop-test .taken) (c .before .before .chained .ensures (c .before .before .before .before .before .before .before .before .before .before .before .before .before .before .pre .0 .0) (now (a .labels)) (relabelling-walkable (now (a .work)) (a .width) (c .before .before .before .before .before .before .before .before .before .before .before .before .before .before .pre .0 .0) (now (a .marks)) (now (a .labels)) (now (a .pending)) (a .entry) q (c .before .before .before .before .before .before .before .loop .inv .1 (c .before .before .before .before .before .before .before .before .before .before .before .before .before .before .pre .0 .0) q) (c .before .before .before .before .before .before .loop-test .taken))))
 
-mul-labels : tie.Need-mul-labels Inv-loop μ-loop
-unfolding maxRows
-mul-labels c = let a = c .before .before .before .before .before .before .before .before .before .before .before .before .before .before .args in let q = c .before .before .before .before .before .before .before .before .before .before .before .before .before .before .pre .0 .1 in scaled-fits _ 64 2 (relabelling-row (now (a .work)) (a .width) (c .before .before .before .before .before .before .before .before .before .before .before .before .before .before .pre .0 .0) (now (a .marks)) (now (a .labels)) (now (a .pending)) (a .entry) q (c .before .before .before .before .before .before .before .loop .inv .1 (c .before .before .before .before .before .before .before .before .before .before .before .before .before .before .pre .0 .0) q) (c .before .before .before .before .before .before .loop-test .taken)) (lit< tt)
-
 slice-write-labels : tie.Need-slice-write-labels Inv-loop μ-loop
 slice-write-labels c = let a = c .before .before .before .before .before .before .before .before .before .before .before .before .before .before .args in let q = c .before .before .before .before .before .before .before .before .before .before .before .before .before .before .pre .0 .1 in relabelling-place (now (a .work)) (a .width) (c .before .before .before .before .before .before .before .before .before .before .before .before .before .before .pre .0 .0) (now (a .marks)) (now (a .labels)) (now (a .pending)) (a .entry) q (c .before .before .before .before .before .before .before .loop .inv .1 (c .before .before .before .before .before .before .before .before .before .before .before .before .before .before .pre .0 .0) q) (c .before .before .before .before .before .before .loop-test .taken)
-
-mul-mixes : tie.Need-mul-mixes Inv-loop μ-loop
-unfolding maxRows
-mul-mixes c = let a = c .before .before .before .before .before .before .before .before .before .before .before .before .before .before .args in let q = c .before .before .before .before .before .before .before .before .before .before .before .before .before .before .pre .0 .1 in scaled-fits _ 64 2 (relabelling-found (now (a .work)) (a .width) (c .before .before .before .before .before .before .before .before .before .before .before .before .before .before .pre .0 .0) (now (a .marks)) (now (a .labels)) (now (a .pending)) (a .entry) q (c .before .before .before .before .before .before .before .loop .inv .1 (c .before .before .before .before .before .before .before .before .before .before .before .before .before .before .pre .0 .0) q) (c .before .before .before .before .before .before .loop-test .taken) (c .before .before .chained .ensures (c .before .before .before .before .before .before .before .before .before .before .before .before .before .before .pre .0 .0) (now (a .labels)) (relabelling-walkable (now (a .work)) (a .width) (c .before .before .before .before .before .before .before .before .before .before .before .before .before .before .pre .0 .0) (now (a .marks)) (now (a .labels)) (now (a .pending)) (a .entry) q (c .before .before .before .before .before .before .before .loop .inv .1 (c .before .before .before .before .before .before .before .before .before .before .before .before .before .before .pre .0 .0) q) (c .before .before .before .before .before .before .loop-test .taken)))) (lit< tt)
 
 slice-read-mixes : tie.Need-slice-read-mixes Inv-loop μ-loop
 slice-read-mixes c = let a = c .before .before .before .before .before .before .before .before .before .before .before .before .before .before .before .args in let q = c .before .before .before .before .before .before .before .before .before .before .before .before .before .before .before .pre .0 .1 in relabelling-flag (now (a .work)) (a .width) (c .before .before .before .before .before .before .before .before .before .before .before .before .before .before .before .pre .0 .0) (now (a .marks)) (now (a .labels)) (now (a .pending)) (a .entry) q (c .before .before .before .before .before .before .before .before .loop .inv .1 (c .before .before .before .before .before .before .before .before .before .before .before .before .before .before .before .pre .0 .0) q) (c .before .before .before .before .before .before .before .loop-test .taken) (c .before .before .before .chained .ensures (c .before .before .before .before .before .before .before .before .before .before .before .before .before .before .before .pre .0 .0) (now (a .labels)) (relabelling-walkable (now (a .work)) (a .width) (c .before .before .before .before .before .before .before .before .before .before .before .before .before .before .before .pre .0 .0) (now (a .marks)) (now (a .labels)) (now (a .pending)) (a .entry) q (c .before .before .before .before .before .before .before .before .loop .inv .1 (c .before .before .before .before .before .before .before .before .before .before .before .before .before .before .before .pre .0 .0) q) (c .before .before .before .before .before .before .before .loop-test .taken)))
@@ -73,15 +56,11 @@ shared-slice-read-mixes-2 c = let a = c .before .before .before .before .before 
 mixes-requires : tie.Need-mixes-requires Inv-loop μ-loop
 mixes-requires c κs = tt
 
-mul-mixed : tie.Need-mul-mixed Inv-loop μ-loop
-unfolding maxRows
-mul-mixed c = let a = c .before .before .before .before .before .before .before .before .before .before .before .before .before .before .before .before .before .before .args in let q = c .before .before .before .before .before .before .before .before .before .before .before .before .before .before .before .before .before .before .pre .0 .1 in scaled-fits _ 64 2 (relabelling-found (now (a .work)) (a .width) (c .before .before .before .before .before .before .before .before .before .before .before .before .before .before .before .before .before .before .pre .0 .0) (now (a .marks)) (now (a .labels)) (now (a .pending)) (a .entry) q (c .before .before .before .before .before .before .before .before .before .before .before .loop .inv .1 (c .before .before .before .before .before .before .before .before .before .before .before .before .before .before .before .before .before .before .pre .0 .0) q) (c .before .before .before .before .before .before .before .before .before .before .loop-test .taken) (c .before .before .before .before .before .before .chained .ensures (c .before .before .before .before .before .before .before .before .before .before .before .before .before .before .before .before .before .before .pre .0 .0) (now (a .labels)) (relabelling-walkable (now (a .work)) (a .width) (c .before .before .before .before .before .before .before .before .before .before .before .before .before .before .before .before .before .before .pre .0 .0) (now (a .marks)) (now (a .labels)) (now (a .pending)) (a .entry) q (c .before .before .before .before .before .before .before .before .before .before .before .loop .inv .1 (c .before .before .before .before .before .before .before .before .before .before .before .before .before .before .before .before .before .before .pre .0 .0) q) (c .before .before .before .before .before .before .before .before .before .before .loop-test .taken)))) (lit< tt)
-
 slice-write-mixed : tie.Need-slice-write-mixed Inv-loop μ-loop
 slice-write-mixed c = let a = c .before .before .before .before .before .before .before .before .before .before .before .before .before .before .before .before .before .before .args in let q = c .before .before .before .before .before .before .before .before .before .before .before .before .before .before .before .before .before .before .pre .0 .1 in relabelling-flag (now (a .work)) (a .width) (c .before .before .before .before .before .before .before .before .before .before .before .before .before .before .before .before .before .before .pre .0 .0) (now (a .marks)) (now (a .labels)) (now (a .pending)) (a .entry) q (c .before .before .before .before .before .before .before .before .before .before .before .loop .inv .1 (c .before .before .before .before .before .before .before .before .before .before .before .before .before .before .before .before .before .before .pre .0 .0) q) (c .before .before .before .before .before .before .before .before .before .before .loop-test .taken) (c .before .before .before .before .before .before .chained .ensures (c .before .before .before .before .before .before .before .before .before .before .before .before .before .before .before .before .before .before .pre .0 .0) (now (a .labels)) (relabelling-walkable (now (a .work)) (a .width) (c .before .before .before .before .before .before .before .before .before .before .before .before .before .before .before .before .before .before .pre .0 .0) (now (a .marks)) (now (a .labels)) (now (a .pending)) (a .entry) q (c .before .before .before .before .before .before .before .before .before .before .before .loop .inv .1 (c .before .before .before .before .before .before .before .before .before .before .before .before .before .before .before .before .before .before .pre .0 .0) q) (c .before .before .before .before .before .before .before .before .before .before .loop-test .taken)))
 
 add-i : tie.Need-add-i Inv-loop μ-loop
-add-i c = place-fits 1 (c .before .before .before .before .before .before .before .before .before .before .before .before .before .before .before .before .before .before .good .1 .1 .1 .1 .0 .1) (add-one-le (c .before .before .before .before .before .before .before .before .before .before .loop-test .taken))
+add-i c = place-fits 0 (c .before .before .before .before .before .before .before .before .before .before .before .before .before .before .before .before .before .before .good .1 .1 .1 .1 .0 .1) (add-one-le (c .before .before .before .before .before .before .before .before .before .before .loop-test .taken))
 
 loop-less : tie.Need-loop-less Inv-loop μ-loop
 loop-less c = falls _ _ (c .before .before .before .before .before .before .before .before .before .before .loop-test .taken)
@@ -108,22 +87,17 @@ refine-spec =
     Inv-loop
     μ-loop
     loop-holds
-    mul-c
     shared-slice-read-c
     cast-c
-    mul-chained
     slice-read-chained
     cast-chained
     chained-requires
     cast-labels
-    mul-labels
     slice-write-labels
-    mul-mixes
     slice-read-mixes
     shared-slice-read-mixes
     shared-slice-read-mixes-2
     mixes-requires
-    mul-mixed
     slice-write-mixed
     add-i
     loop-less

@@ -1,8 +1,7 @@
--- `classes::settling::marks_rise` meets its contract: the marks passed rise, unless one was seen that does not.
+-- `classes::settling::marks_rise` meets its contract: whether a mark passed is not below the next.
 use Prim.Native.Nat.{_-_}
 use native.Mathlib.Omega.{arith}
 use borrow.Author.Count.{falls}
-use borrow.Author.Tests.{eqb-true}
 use lib.ListN.{length}
 use denote.Ref.{now}
 use Rattle.classes.proofs.Rising.{Risen, risen-none, risen-next, risen-all}
@@ -37,10 +36,10 @@ loop-less : tie.Need-loop-less Inv-loop μ-loop
 loop-less c = falls _ _ (c .before .before .before .loop-test .taken)
 
 loop-again : tie.Need-loop-again Inv-loop μ-loop
-loop-again c = risen-next (c .before .before .before .before .loop .inv) (c .falls .ensures)
+loop-again c = risen-next (c .before .before .before .before .loop .inv) (c .before .before .before .loop-test .taken) (c .falls .ensures)
 
 returns : tie.Need-returns Inv-loop μ-loop
-returns c = λ t. risen-all (c .before .loop .inv) (c .loop-test .left) (eqb-true _ _ t)
+returns c = risen-all (c .before .loop .inv) (c .loop-test .left)
 
 pub marks-rise-spec : {M : Type 1} → statement M
 marks-rise-spec =

@@ -1,11 +1,9 @@
 -- `classes::settling::one_class` meets its contract: the rows passed have label 0 and are listed.
 use native.Mathlib.Numerals.{add-one-le}
 use native.Mathlib.Nat.{le-refl}
-use borrow.Author.Needs.{scaled-fits}
 use borrow.Author.Count.{falls}
 use Prim.Native.Nat.{_-_}
 use mathlib.Core.Path.{refl}
-use lib.Dec.{lit<}
 use denote.Ref.{now}
 use Rattle.matrix.specs.Matrix.{maxRows}
 use Rattle.matrix.proofs.Sizes.{row-place}
@@ -22,10 +20,6 @@ abbrev μ-loop : tie.MeasureT-loop
 loop-holds : tie.Need-loop-holds Inv-loop μ-loop
 loop-holds c = (filling-start maxRows (λ j. 0) (now (c .args .labels)) (c .pre .0), filling-start maxRows (λ j. j) (now (c .args .pending)) (c .pre .1))
 
-mul-labels : tie.Need-mul-labels Inv-loop μ-loop
-unfolding maxRows
-mul-labels c = scaled-fits _ 64 2 (c .loop-test .taken) (lit< tt)
-
 slice-write-labels : tie.Need-slice-write-labels Inv-loop μ-loop
 unfolding maxRows
 slice-write-labels c = filling-place (c .before .loop .inv .0) (c .loop-test .taken)
@@ -33,10 +27,6 @@ slice-write-labels c = filling-place (c .before .loop .inv .0) (c .loop-test .ta
 cast-pending : tie.Need-cast-pending Inv-loop μ-loop
 unfolding maxRows
 cast-pending c = row-fits (le-refl maxRows) (c .loop-test .taken)
-
-mul-pending : tie.Need-mul-pending Inv-loop μ-loop
-unfolding maxRows
-mul-pending c = scaled-fits _ 64 2 (c .loop-test .taken) (lit< tt)
 
 slice-write-pending : tie.Need-slice-write-pending Inv-loop μ-loop
 unfolding maxRows
@@ -71,10 +61,8 @@ one-class-spec =
     Inv-loop
     μ-loop
     loop-holds
-    mul-labels
     slice-write-labels
     cast-pending
-    mul-pending
     slice-write-pending
     add-c
     loop-less

@@ -1,11 +1,9 @@
 -- `classes::settling::relabel_along` meets its contract: the rows passed have their new labels, and those that are not their own are listed before the others.
 use native.Mathlib.Nat.{le-refl, le-of-lt, lt-of-lt-of-le}
 use native.Mathlib.Numerals.{add-one-le}
-use borrow.Author.Needs.{scaled-fits}
 use borrow.Author.Count.{falls}
 use Prim.Native.Nat.{_-_}
 use mathlib.Core.Path.{_≡_, refl, sym, _∙_}
-use lib.Dec.{lit<}
 use lib.ListN.{length, take, getD, length-set}
 use denote.Ref.{now}
 use Rattle.matrix.specs.Matrix.{cell, maxRows}
@@ -13,7 +11,7 @@ use Rattle.classes.specs.Labels.{lowestOf}
 use Rattle.matrix.proofs.Sizes.{prefix-inside, prefix-end, row-place}
 use Rattle.classes.proofs.Columns.{row-fits}
 use Rattle.classes.proofs.Gathering.{gathering-room}
-use Rattle.classes.proofs.Dissolving.{settling-inside, settling-place, settling-label-inside, settling-left, settling-count, settling-all}
+use Rattle.classes.proofs.Dissolving.{settling-inside, settling-place, settling-label-inside, settling-count, settling-all}
 use Rattle.classes.proofs.Renewing.{Renewing, renewing-none, renewing-some, renewing-found, renewing-inside, renewing-next}
 use Rattle.classes.proofs.settling.relabel_along.Statement.{statement}
 use Rattle.classes.proofs.settling.relabel_along.Tie as tie
@@ -27,19 +25,11 @@ abbrev μ-loop : tie.MeasureT-loop
 loop-holds : tie.Need-loop-holds Inv-loop μ-loop
 loop-holds c = let a = c .before .before .before .before .args in (refl, renewing-none (now (a .work)) (a .width) (a .entry) (now (a .labels)) (now (a .pending)) (c .before .before .before .before .pre .1) (c .before .before .before .before .pre .0) (now (a .next)) (c .before .before .before .before .pre .4) (c .before .before .before .before .pre .5))
 
-mul-c : tie.Need-mul-c Inv-loop μ-loop
-unfolding maxRows
-mul-c c = scaled-fits _ 64 2 (lt-of-lt-of-le (prefix-inside (now (c .before .before .before .before .before .before .args .pending)) (c .before .before .before .before .before .before .pre .0) (c .loop-test .taken)) (c .before .before .before .before .before .before .pre .1 .few)) (lit< tt)
-
 slice-read-c : tie.Need-slice-read-c Inv-loop μ-loop
 slice-read-c c = lt-of-lt-of-le (prefix-inside (now (c .before .before .before .before .before .before .before .args .pending)) (c .before .before .before .before .before .before .before .pre .0) (c .before .loop-test .taken)) (c .before .before .loop .inv .1 .settling .gathered .long)
 
 cast-label : tie.Need-cast-label Inv-loop μ-loop
 cast-label c = let a = c .before .before .before .before .before .before .before .args in row-place (le-of-lt (settling-inside (lowestOf (now (a .labels)) (λ k. cell (now (a .work)) (a .width) k (a .entry))) (now (a .labels)) (take (a .count) (now (a .pending))) (c .before .before .before .before .before .before .before .pre .1) (c .before .before .loop .inv .1 .settling) (prefix-inside (now (a .pending)) (c .before .before .before .before .before .before .before .pre .0) (c .before .loop-test .taken))))
-
-mul-label : tie.Need-mul-label Inv-loop μ-loop
-unfolding maxRows
-mul-label c = let a = c .before .before .before .before .before .before .before .args in scaled-fits _ 64 2 (settling-inside (lowestOf (now (a .labels)) (λ k. cell (now (a .work)) (a .width) k (a .entry))) (now (a .labels)) (take (a .count) (now (a .pending))) (c .before .before .before .before .before .before .before .pre .1) (c .before .before .loop .inv .1 .settling) (prefix-inside (now (a .pending)) (c .before .before .before .before .before .before .before .pre .0) (c .before .loop-test .taken))) (lit< tt)
 
 slice-read-label : tie.Need-slice-read-label Inv-loop μ-loop
 slice-read-label c = let a = c .before .before .before .before .before .before .before .before .args in settling-place (lowestOf (now (a .labels)) (λ k. cell (now (a .work)) (a .width) k (a .entry))) (now (a .labels)) (take (a .count) (now (a .pending))) (c .before .before .before .before .before .before .before .before .pre .1) (c .before .before .before .loop .inv .1 .settling) (prefix-inside (now (a .pending)) (c .before .before .before .before .before .before .before .before .pre .0) (c .before .before .loop-test .taken))
@@ -59,16 +49,8 @@ cast-r c = let a = c .before .before .before .before .before .before .before .be
 cast-labels : tie.Need-cast-labels Inv-loop μ-loop
 cast-labels c = let a = c .before .before .before .before .before .before .before .before .before .before .before .before .args in row-place (le-of-lt (settling-inside (lowestOf (now (a .labels)) (λ k. cell (now (a .work)) (a .width) k (a .entry))) (now (a .labels)) (take (a .count) (now (a .pending))) (c .before .before .before .before .before .before .before .before .before .before .before .before .pre .1) (c .before .before .before .before .before .before .before .loop .inv .1 .settling) (prefix-inside (now (a .pending)) (c .before .before .before .before .before .before .before .before .before .before .before .before .pre .0) (c .before .before .before .before .before .before .loop-test .taken))))
 
-mul-labels : tie.Need-mul-labels Inv-loop μ-loop
-unfolding maxRows
-mul-labels c = let a = c .before .before .before .before .before .before .before .before .before .before .before .before .args in scaled-fits _ 64 2 (settling-inside (lowestOf (now (a .labels)) (λ k. cell (now (a .work)) (a .width) k (a .entry))) (now (a .labels)) (take (a .count) (now (a .pending))) (c .before .before .before .before .before .before .before .before .before .before .before .before .pre .1) (c .before .before .before .before .before .before .before .loop .inv .1 .settling) (prefix-inside (now (a .pending)) (c .before .before .before .before .before .before .before .before .before .before .before .before .pre .0) (c .before .before .before .before .before .before .loop-test .taken))) (lit< tt)
-
 slice-write-labels : tie.Need-slice-write-labels Inv-loop μ-loop
 slice-write-labels c = let a = c .before .before .before .before .before .before .before .before .before .before .before .before .args in settling-place (lowestOf (now (a .labels)) (λ k. cell (now (a .work)) (a .width) k (a .entry))) (now (a .labels)) (take (a .count) (now (a .pending))) (c .before .before .before .before .before .before .before .before .before .before .before .before .pre .1) (c .before .before .before .before .before .before .before .loop .inv .1 .settling) (prefix-inside (now (a .pending)) (c .before .before .before .before .before .before .before .before .before .before .before .before .pre .0) (c .before .before .before .before .before .before .loop-test .taken))
-
-mul-pending : tie.Need-mul-pending Inv-loop μ-loop
-unfolding maxRows
-mul-pending c = let a = c .before .before .before .before .before .before .before .before .before .before .before .before .args in scaled-fits _ 64 2 (settling-left (lowestOf (now (a .labels)) (λ k. cell (now (a .work)) (a .width) k (a .entry))) (now (a .labels)) (take (a .count) (now (a .pending))) (c .before .before .before .before .before .before .before .before .before .before .before .before .pre .1) (c .before .before .before .before .before .before .before .loop .inv .1 .settling) (prefix-inside (now (a .pending)) (c .before .before .before .before .before .before .before .before .before .before .before .before .pre .0) (c .before .before .before .before .before .before .loop-test .taken))) (lit< tt)
 
 slice-write-pending : tie.Need-slice-write-pending Inv-loop μ-loop
 slice-write-pending c = gathering-room (c .before .before .before .before .before .before .before .loop .inv .1 .settling .gathered) (prefix-inside (now (c .before .before .before .before .before .before .before .before .before .before .before .before .args .pending)) (c .before .before .before .before .before .before .before .before .before .before .before .before .pre .0) (c .before .before .before .before .before .before .loop-test .taken))
@@ -107,19 +89,15 @@ relabel-along-spec =
     Inv-loop
     μ-loop
     loop-holds
-    mul-c
     slice-read-c
     cast-label
-    mul-label
     slice-read-label
     cast-first-alike
     cast-first-alike-2
     first-alike-requires
     cast-r
     cast-labels
-    mul-labels
     slice-write-labels
-    mul-pending
     slice-write-pending
     differs-requires
     add-left

@@ -1,18 +1,15 @@
 -- `classes::settling::settle` meets its contract: the rows passed have their labels, and those that are not their own are listed before the others.
 use native.Mathlib.Nat.{le-of-lt, lt-of-lt-of-le}
 use native.Mathlib.Numerals.{add-one-le}
-use borrow.Author.Needs.{scaled-fits}
 use borrow.Author.Count.{falls}
 use Prim.Native.Nat.{_-_}
 use mathlib.Core.Path.{_≡_, refl, sym, _∙_}
-use lib.Dec.{lit<}
 use lib.ListN.{length, take, getD, length-set}
 use denote.Ref.{now}
-use Rattle.matrix.specs.Matrix.{maxRows}
 use Rattle.classes.specs.Labels.{settledBy}
 use Rattle.matrix.proofs.Sizes.{prefix-inside, prefix-end, row-place}
 use Rattle.classes.proofs.Gathering.{gathering-room}
-use Rattle.classes.proofs.Dissolving.{Settling, settling-none, settling-inside, settling-place, settling-low, settling-number, settling-label-inside, settling-left, settling-count, settling-next, settling-all, flag-known, flag-less, flag-fits}
+use Rattle.classes.proofs.Dissolving.{Settling, settling-none, settling-inside, settling-place, settling-low, settling-number, settling-label-inside, settling-count, settling-next, settling-all, flag-known, flag-less, flag-fits}
 use Rattle.classes.proofs.settling.settle.Statement.{statement}
 use Rattle.classes.proofs.settling.settle.Tie as tie
 
@@ -25,19 +22,11 @@ abbrev μ-loop : tie.MeasureT-loop
 loop-holds : tie.Need-loop-holds Inv-loop μ-loop
 loop-holds c = let a = c .before .before .before .args in (refl, settling-none (settledBy (now (a .mixed)) (now (a .labels))) (now (a .labels)) (now (a .pending)) (c .before .before .before .pre .1) (c .before .before .before .pre .0))
 
-mul-c : tie.Need-mul-c Inv-loop μ-loop
-unfolding maxRows
-mul-c c = scaled-fits _ 64 2 (lt-of-lt-of-le (prefix-inside (now (c .before .before .before .before .before .args .pending)) (c .before .before .before .before .before .pre .0) (c .loop-test .taken)) (c .before .before .before .before .before .pre .1 .few)) (lit< tt)
-
 slice-read-c : tie.Need-slice-read-c Inv-loop μ-loop
 slice-read-c c = lt-of-lt-of-le (prefix-inside (now (c .before .before .before .before .before .before .args .pending)) (c .before .before .before .before .before .before .pre .0) (c .before .loop-test .taken)) (c .before .before .loop .inv .1 .gathered .long)
 
 cast-label : tie.Need-cast-label Inv-loop μ-loop
 cast-label c = let a = c .before .before .before .before .before .before .args in row-place (le-of-lt (settling-inside (settledBy (now (a .mixed)) (now (a .labels))) (now (a .labels)) (take (a .count) (now (a .pending))) (c .before .before .before .before .before .before .pre .1) (c .before .before .loop .inv .1) (prefix-inside (now (a .pending)) (c .before .before .before .before .before .before .pre .0) (c .before .loop-test .taken))))
-
-mul-label : tie.Need-mul-label Inv-loop μ-loop
-unfolding maxRows
-mul-label c = let a = c .before .before .before .before .before .before .args in scaled-fits _ 64 2 (settling-inside (settledBy (now (a .mixed)) (now (a .labels))) (now (a .labels)) (take (a .count) (now (a .pending))) (c .before .before .before .before .before .before .pre .1) (c .before .before .loop .inv .1) (prefix-inside (now (a .pending)) (c .before .before .before .before .before .before .pre .0) (c .before .loop-test .taken))) (lit< tt)
 
 slice-read-label : tie.Need-slice-read-label Inv-loop μ-loop
 slice-read-label c = let a = c .before .before .before .before .before .before .before .args in settling-place (settledBy (now (a .mixed)) (now (a .labels))) (now (a .labels)) (take (a .count) (now (a .pending))) (c .before .before .before .before .before .before .before .pre .1) (c .before .before .before .loop .inv .1) (prefix-inside (now (a .pending)) (c .before .before .before .before .before .before .before .pre .0) (c .before .before .loop-test .taken))
@@ -45,18 +34,14 @@ slice-read-label c = let a = c .before .before .before .before .before .before .
 cast-own : tie.Need-cast-own Inv-loop μ-loop
 cast-own c = let a = c .before .before .before .before .before .before .before .args in row-place (le-of-lt (settling-label-inside (settledBy (now (a .mixed)) (now (a .labels))) (now (a .labels)) (take (a .count) (now (a .pending))) (c .before .before .before .before .before .before .before .pre .1) (c .before .before .before .loop .inv .1) (prefix-inside (now (a .pending)) (c .before .before .before .before .before .before .before .pre .0) (c .before .before .loop-test .taken))))
 
-mul-own : tie.Need-mul-own Inv-loop μ-loop
-unfolding maxRows
-mul-own c = let a = c .before .before .before .before .before .before .before .args in scaled-fits _ 64 2 (settling-label-inside (settledBy (now (a .mixed)) (now (a .labels))) (now (a .labels)) (take (a .count) (now (a .pending))) (c .before .before .before .before .before .before .before .pre .1) (c .before .before .before .loop .inv .1) (prefix-inside (now (a .pending)) (c .before .before .before .before .before .before .before .pre .0) (c .before .before .loop-test .taken))) (lit< tt)
-
 shared-slice-read-own : tie.Need-shared-slice-read-own Inv-loop μ-loop
 shared-slice-read-own c = let a = c .before .before .before .before .before .before .before .before .args in let h = prefix-inside (now (a .pending)) (c .before .before .before .before .before .before .before .before .pre .0) (c .before .before .before .loop-test .taken) in flag-known (now (a .mixed)) (c .before .before .before .before .before .before .before .before .pre .2) (settling-low (settledBy (now (a .mixed)) (now (a .labels))) (now (a .labels)) (take (a .count) (now (a .pending))) (c .before .before .before .before .before .before .before .before .pre .1) (c .before .before .before .before .loop .inv .1) h) (settling-inside (settledBy (now (a .mixed)) (now (a .labels))) (now (a .labels)) (take (a .count) (now (a .pending))) (c .before .before .before .before .before .before .before .before .pre .1) (c .before .before .before .before .loop .inv .1) h)
 
 sub-own : tie.Need-sub-own Inv-loop μ-loop
 sub-own c = let a = c .before .before .before .before .before .before .before .before .args in settling-low (settledBy (now (a .mixed)) (now (a .labels))) (now (a .labels)) (take (a .count) (now (a .pending))) (c .before .before .before .before .before .before .before .before .pre .1) (c .before .before .before .before .loop .inv .1) (prefix-inside (now (a .pending)) (c .before .before .before .before .before .before .before .before .pre .0) (c .before .before .before .loop-test .taken))
 
-mul-own-2 : tie.Need-mul-own-2 Inv-loop μ-loop
-mul-own-2 c = let a = c .before .before .before .before .before .before .before .before .args in let h = prefix-inside (now (a .pending)) (c .before .before .before .before .before .before .before .before .pre .0) (c .before .before .before .loop-test .taken) in flag-fits (now (a .mixed)) (c .before .before .before .before .before .before .before .before .pre .2) (settling-low (settledBy (now (a .mixed)) (now (a .labels))) (now (a .labels)) (take (a .count) (now (a .pending))) (c .before .before .before .before .before .before .before .before .pre .1) (c .before .before .before .before .loop .inv .1) h) (settling-inside (settledBy (now (a .mixed)) (now (a .labels))) (now (a .labels)) (take (a .count) (now (a .pending))) (c .before .before .before .before .before .before .before .before .pre .1) (c .before .before .before .before .loop .inv .1) h)
+mul-own : tie.Need-mul-own Inv-loop μ-loop
+mul-own c = let a = c .before .before .before .before .before .before .before .before .args in let h = prefix-inside (now (a .pending)) (c .before .before .before .before .before .before .before .before .pre .0) (c .before .before .before .loop-test .taken) in flag-fits (now (a .mixed)) (c .before .before .before .before .before .before .before .before .pre .2) (settling-low (settledBy (now (a .mixed)) (now (a .labels))) (now (a .labels)) (take (a .count) (now (a .pending))) (c .before .before .before .before .before .before .before .before .pre .1) (c .before .before .before .before .loop .inv .1) h) (settling-inside (settledBy (now (a .mixed)) (now (a .labels))) (now (a .labels)) (take (a .count) (now (a .pending))) (c .before .before .before .before .before .before .before .before .pre .1) (c .before .before .before .before .loop .inv .1) h)
 
 sub-own-2 : tie.Need-sub-own-2 Inv-loop μ-loop
 sub-own-2 c = let a = c .before .before .before .before .before .before .before .before .args in let h = prefix-inside (now (a .pending)) (c .before .before .before .before .before .before .before .before .pre .0) (c .before .before .before .loop-test .taken) in flag-less (now (a .mixed)) (c .before .before .before .before .before .before .before .before .pre .2) (settling-low (settledBy (now (a .mixed)) (now (a .labels))) (now (a .labels)) (take (a .count) (now (a .pending))) (c .before .before .before .before .before .before .before .before .pre .1) (c .before .before .before .before .loop .inv .1) h) (settling-inside (settledBy (now (a .mixed)) (now (a .labels))) (now (a .labels)) (take (a .count) (now (a .pending))) (c .before .before .before .before .before .before .before .before .pre .1) (c .before .before .before .before .loop .inv .1) h)
@@ -64,16 +49,8 @@ sub-own-2 c = let a = c .before .before .before .before .before .before .before 
 cast-labels : tie.Need-cast-labels Inv-loop μ-loop
 cast-labels c = let a = c .before .before .before .before .before .before .before .before .args in row-place (le-of-lt (settling-inside (settledBy (now (a .mixed)) (now (a .labels))) (now (a .labels)) (take (a .count) (now (a .pending))) (c .before .before .before .before .before .before .before .before .pre .1) (c .before .before .before .before .loop .inv .1) (prefix-inside (now (a .pending)) (c .before .before .before .before .before .before .before .before .pre .0) (c .before .before .before .loop-test .taken))))
 
-mul-labels : tie.Need-mul-labels Inv-loop μ-loop
-unfolding maxRows
-mul-labels c = let a = c .before .before .before .before .before .before .before .before .args in scaled-fits _ 64 2 (settling-inside (settledBy (now (a .mixed)) (now (a .labels))) (now (a .labels)) (take (a .count) (now (a .pending))) (c .before .before .before .before .before .before .before .before .pre .1) (c .before .before .before .before .loop .inv .1) (prefix-inside (now (a .pending)) (c .before .before .before .before .before .before .before .before .pre .0) (c .before .before .before .loop-test .taken))) (lit< tt)
-
 slice-write-labels : tie.Need-slice-write-labels Inv-loop μ-loop
 slice-write-labels c = let a = c .before .before .before .before .before .before .before .before .args in settling-place (settledBy (now (a .mixed)) (now (a .labels))) (now (a .labels)) (take (a .count) (now (a .pending))) (c .before .before .before .before .before .before .before .before .pre .1) (c .before .before .before .before .loop .inv .1) (prefix-inside (now (a .pending)) (c .before .before .before .before .before .before .before .before .pre .0) (c .before .before .before .loop-test .taken))
-
-mul-pending : tie.Need-mul-pending Inv-loop μ-loop
-unfolding maxRows
-mul-pending c = let a = c .before .before .before .before .before .before .before .before .args in scaled-fits _ 64 2 (settling-left (settledBy (now (a .mixed)) (now (a .labels))) (now (a .labels)) (take (a .count) (now (a .pending))) (c .before .before .before .before .before .before .before .before .pre .1) (c .before .before .before .before .loop .inv .1) (prefix-inside (now (a .pending)) (c .before .before .before .before .before .before .before .before .pre .0) (c .before .before .before .loop-test .taken))) (lit< tt)
 
 slice-write-pending : tie.Need-slice-write-pending Inv-loop μ-loop
 slice-write-pending c = gathering-room (c .before .before .before .before .loop .inv .1 .gathered) (prefix-inside (now (c .before .before .before .before .before .before .before .before .args .pending)) (c .before .before .before .before .before .before .before .before .pre .0) (c .before .before .before .loop-test .taken))
@@ -109,21 +86,16 @@ settle-spec =
     Inv-loop
     μ-loop
     loop-holds
-    mul-c
     slice-read-c
     cast-label
-    mul-label
     slice-read-label
     cast-own
-    mul-own
     shared-slice-read-own
     sub-own
-    mul-own-2
+    mul-own
     sub-own-2
     cast-labels
-    mul-labels
     slice-write-labels
-    mul-pending
     slice-write-pending
     differs-requires
     add-left

@@ -1,8 +1,7 @@
 -- `classes::settling::two_marks` meets its contract: the rows passed have the mark of the first.
 use native.Mathlib.Numerals.{add-one-le}
-use borrow.Author.Needs.{scaled-fits}
 use borrow.Author.Count.{falls}
-use mir.Syntax.{w16}
+use mir.Syntax.{w8}
 use mir.Facts.{fits-widen}
 use Prim.Native.Nat.{_-_}
 use lib.ListN.{length, getD}
@@ -22,14 +21,11 @@ abbrev μ-loop : tie.MeasureT-loop
 loop-holds : tie.Need-loop-holds Inv-loop μ-loop
 loop-holds c = passed-none (otherMark (now (c .args .marks)) (now (c .args .rows))) (now (c .args .rows))
 
-mul-if1 : tie.Need-mul-if1 Inv-loop μ-loop
-mul-if1 c = scaled-fits _ (length (now (c .before .before .args .rows))) 2 (c .loop-test .taken) (c .before .before .good .1 .0 .1)
-
 shared-slice-read-if1 : tie.Need-shared-slice-read-if1 Inv-loop μ-loop
 shared-slice-read-if1 c = c .before .loop-test .taken
 
 cast-if1 : tie.Need-cast-if1 Inv-loop μ-loop
-cast-if1 c = fits-widen {w = w16} tt (c .shared-slice-known .given (c .before .before .loop .i))
+cast-if1 c = fits-widen {w = w8} tt (c .shared-slice-known .given (c .before .before .loop .i))
 
 shared-slice-read-if1-2 : tie.Need-shared-slice-read-if1-2 Inv-loop μ-loop
 shared-slice-read-if1-2 c = c .before .before .before .before .pre (c .before .before .before .loop .i) (c .before .before .loop-test .taken)
@@ -38,7 +34,7 @@ shared-slice-read-if1-3 : tie.Need-shared-slice-read-if1-3 Inv-loop μ-loop
 shared-slice-read-if1-3 c = first-place (c .before .before .before .loop-test .taken)
 
 cast-if1-2 : tie.Need-cast-if1-2 Inv-loop μ-loop
-cast-if1-2 c = fits-widen {w = w16} tt (c .before .before .shared-slice-known .given 0)
+cast-if1-2 c = fits-widen {w = w8} tt (c .before .before .shared-slice-known .given 0)
 
 shared-slice-read-if1-4 : tie.Need-shared-slice-read-if1-4 Inv-loop μ-loop
 shared-slice-read-if1-4 c = c .before .before .before .before .before .before .pre 0 (first-place (c .before .before .before .before .loop-test .taken))
@@ -47,7 +43,7 @@ returns : tie.Need-returns Inv-loop μ-loop
 returns c = passed-one (otherMark (now (c .before .before .before .before .before .before .before .args .marks)) (now (c .before .before .before .before .before .before .before .args .rows))) (now (c .before .before .before .before .before .before .before .args .rows)) (c .before .before .before .before .before .before .loop .inv) (c .before .before .before .before .before .loop-test .taken) (other-mark (now (c .before .before .before .before .before .before .before .args .marks)) (getD (now (c .before .before .before .before .before .before .before .args .rows)) (c .before .before .before .before .before .before .loop .i) 0) (getD (now (c .before .before .before .before .before .before .before .args .rows)) 0 0) (c .if1 .taken))
 
 add-i : tie.Need-add-i Inv-loop μ-loop
-add-i c = place-fits 1 (c .before .before .before .before .before .before .before .good .1 .0 .1) (add-one-le (c .before .before .before .before .before .loop-test .taken))
+add-i c = place-fits 0 (c .before .before .before .before .before .before .before .good .1 .0 .1) (add-one-le (c .before .before .before .before .before .loop-test .taken))
 
 loop-less : tie.Need-loop-less Inv-loop μ-loop
 loop-less c = falls _ _ (c .before .before .before .before .before .loop-test .taken)
@@ -65,7 +61,6 @@ two-marks-spec =
     Inv-loop
     μ-loop
     loop-holds
-    mul-if1
     shared-slice-read-if1
     cast-if1
     shared-slice-read-if1-2

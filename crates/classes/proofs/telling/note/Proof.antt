@@ -4,11 +4,10 @@ use mathlib.Core.Path.{refl, ap}
 use mathlib.Core.List.{List}
 use native.Mathlib.Nat.{le-of-lt}
 use Prim.Native.Nat.{ℕ}
-use borrow.Author.Needs.{scaled-fits}
-use mir.Syntax.{w16}
+use mir.Syntax.{w8}
 use mir.Facts.{fits-widen}
 use lib.Dec.{eqb}
-use lib.ListN.{length, getD, set, length-set}
+use lib.ListN.{getD, set, length-set}
 use Rattle.matrix.specs.Matrix.{maxRows}
 use Rattle.matrix.proofs.Sizes.{place-fits, start-fits}
 use Rattle.classes.specs.Labels.{pairPlace}
@@ -16,14 +15,11 @@ use Rattle.classes.proofs.Noting.{notable-label, notable-other, notable
 use Rattle.classes.proofs.telling.note.Statement.{statement}
 use Rattle.classes.proofs.telling.note.Tie as tie
 
-mul-r : tie.Need-mul-r
-mul-r c = scaled-fits _ (length (now (c .before .before .before .args .labels))) 2 (c .before .before .before .pre .labelled) (c .before .before .before .good .0 .1)
-
 shared-slice-read-r : tie.Need-shared-slice-read-r
 shared-slice-read-r c = c .before .before .before .before .pre .labelled
 
 cast-r : tie.Need-cast-r
-cast-r c = fits-widen {w = w16} tt (c .shared-slice-known3 .given (c .before .before .before .before .args .c))
+cast-r c = fits-widen {w = w8} tt (c .shared-slice-known3 .given (c .before .before .before .before .args .c))
 
 note-label-requires : tie.Need-note-label-requires
 note-label-requires c κs = let q = c .before .before .before .before .before .pre in (notable-other q, notable-label q, q .label-inside, q .sized)
@@ -32,14 +28,11 @@ mul-at : tie.Need-mul-at
 unfolding maxRows
 mul-at c = let a = c .before .before .before .before .before .before .before .before .args in start-fits 0 (c .before .before .before .before .before .before .before .before .good .1 .1 .1 .0 .1) (getD (now (a .others)) (a .c) 0) (notable-within (c .before .before .before .before .before .before .before .before .pre) (now (a .seen)) refl)
 
-mul-at-2 : tie.Need-mul-at-2
-mul-at-2 c = scaled-fits _ (length (now (c .before .before .before .before .before .before .before .before .args .others))) 2 (c .before .before .before .before .before .before .before .before .pre .other) (c .before .before .before .before .before .before .before .before .good .1 .0 .1)
-
 shared-slice-read-at : tie.Need-shared-slice-read-at
 shared-slice-read-at c = c .before .before .before .before .before .before .before .before .before .pre .other
 
 cast-at : tie.Need-cast-at
-cast-at c = fits-widen {w = w16} tt (c .shared-slice-known4 .given (c .before .before .before .before .before .before .before .before .before .args .c))
+cast-at c = fits-widen {w = w8} tt (c .shared-slice-known4 .given (c .before .before .before .before .before .before .before .before .before .args .c))
 
 add-at : tie.Need-add-at
 unfolding maxRows
@@ -64,12 +57,10 @@ pub note-spec : {M : Type 1} → statement M
 note-spec =
     tie.close
     (tie.spec
-    mul-r
     shared-slice-read-r
     cast-r
     note-label-requires
     mul-at
-    mul-at-2
     shared-slice-read-at
     cast-at
     add-at

@@ -1,10 +1,9 @@
 -- `classes::telling::note_label` meets its contract.
 use denote.Ref.{now}
 use native.Mathlib.Nat.{le-of-lt}
-use borrow.Author.Needs.{scaled-fits}
-use mir.Syntax.{w16}
+use mir.Syntax.{w8}
 use mir.Facts.{fits-widen}
-use lib.ListN.{length, getD, length-set}
+use lib.ListN.{getD, length-set}
 use Rattle.matrix.specs.Matrix.{maxRows}
 use Rattle.matrix.proofs.Sizes.{place-fits, start-fits}
 use Rattle.classes.specs.Labels.{pairPlace}
@@ -16,14 +15,11 @@ mul-seen : tie.Need-mul-seen
 unfolding maxRows
 mul-seen c = let a = c .before .args in let q = c .before .pre in start-fits 0 (c .before .good .1 .1 .1 .0 .1) (getD (now (a .others)) (a .r) 0) (pair-within (now (a .seen)) (q .3) (q .1) (q .2))
 
-mul-seen-2 : tie.Need-mul-seen-2
-mul-seen-2 c = scaled-fits _ (length (now (c .before .args .others))) 2 (c .before .pre .0) (c .before .good .0 .1)
-
 shared-slice-read-seen : tie.Need-shared-slice-read-seen
 shared-slice-read-seen c = c .before .before .pre .0
 
 cast-seen : tie.Need-cast-seen
-cast-seen c = fits-widen {w = w16} tt (c .shared-slice-known .given (c .before .before .args .r))
+cast-seen c = fits-widen {w = w8} tt (c .shared-slice-known .given (c .before .before .args .r))
 
 add-seen : tie.Need-add-seen
 unfolding maxRows
@@ -49,7 +45,6 @@ note-label-spec =
     tie.close
     (tie.spec
     mul-seen
-    mul-seen-2
     shared-slice-read-seen
     cast-seen
     add-seen

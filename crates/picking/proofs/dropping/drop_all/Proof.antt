@@ -18,10 +18,10 @@ use Rattle.picking.proofs.dropping.drop_all.Statement.{statement}
 use Rattle.picking.proofs.dropping.drop_all.Tie as tie
 
 abbrev Inv-loop : tie.InvT-loop
-Inv-loop work width marks labels pending others₀ left₀ entries₀ noted₀ count taken kept₀ level₀ others left entries noted kept level = (length others ≡ maxRows) × (length left ≡ maxRows) × (length entries ≡ maxEntries) × (level ≤ taken .count) × (length noted ≡ maxRows * maxRows) × Fresh (maxRows - level + 1) noted × ((rows : ℕ) → Dropping work width rows marks (take (taken .count) (taken .entries)) (taken .pending) labels pending others₀ left₀ count → Keeping work width rows marks (take (taken .count) (taken .entries)) level (kept .start) entries others left (kept .pending))
+Inv-loop work width marks labels pending others₀ left₀ entries₀ noted₀ count rising taken kept₀ level₀ others left entries noted kept level = (length others ≡ maxRows) × (length left ≡ maxRows) × (length entries ≡ maxEntries) × (level ≤ taken .count) × (length noted ≡ maxRows * maxRows) × Fresh (maxRows - level + 1) noted × ((rows : ℕ) → Dropping work width rows marks (take (taken .count) (taken .entries)) (taken .pending) labels pending others₀ left₀ count → Keeping work width rows marks (take (taken .count) (taken .entries)) level (kept .start) entries others left (kept .pending))
 
 abbrev μ-loop : tie.MeasureT-loop
-μ-loop work width marks labels pending others₀ left₀ entries₀ noted₀ count taken kept₀ level₀ others left entries noted kept level = level
+μ-loop work width marks labels pending others₀ left₀ entries₀ noted₀ count rising taken kept₀ level₀ others left entries noted kept level = level
 
 none-kept-requires : tie.Need-none-kept-requires Inv-loop μ-loop
 none-kept-requires c κs = tt
@@ -51,7 +51,7 @@ element-copy-out-drop-at-2 c = level-entry (c .before .loop-test .taken) (c .bef
 
 drop-at-requires : tie.Need-drop-at-requires Inv-loop μ-loop
 unfolding maxEntries
-drop-at-requires c κs = let a = c .before .before .before .before .before .before .before .before .before .before .before .before .before .before .before .before .before .args in ((c .before .before .before .before .before .before .before .before .before .before .before .before .before .before .before .before .before .pre .0 .0, (take (a .t4 .count) (a .t4 .entries)), (dropping-at (c .before .before .before .before .before .before .before .before .before .before .before .before .before .before .before .before .before .pre .0 .1) (c .before .before .before .before .before .before .loop-test .taken) (taken-within (a .t4 .entries) (length-unmapped _ (a .t4 .entries) _ (c .before .before .before .before .before .before .before .before .before .before .before .before .before .before .before .before .before .good .1 .1 .1 .0 .1 .1 .1 .0 .1 .0 .1)) (c .before .before .before .before .before .before .before .before .before .before .before .before .before .before .before .before .before .pre .1) (c .before .before .before .before .before .before .before .loop .inv .3)) (c .before .before .before .before .before .before .before .loop .inv .6 (c .before .before .before .before .before .before .before .before .before .before .before .before .before .before .before .before .before .pre .0 .0) (c .before .before .before .before .before .before .before .before .before .before .before .before .before .before .before .before .before .pre .0 .1)) (taken-at (a .t4 .entries) (length-unmapped _ (a .t4 .entries) _ (c .before .before .before .before .before .before .before .before .before .before .before .before .before .before .before .before .before .good .1 .1 .1 .0 .1 .1 .1 .0 .1 .0 .1)) (c .before .before .before .before .before .before .before .before .before .before .before .before .before .before .before .before .before .pre .1) (c .before .before .before .before .before .before .loop-test .taken) (c .before .before .before .before .before .before .before .loop .inv .3)))), subst (λ (x : ℕ). x < a .width) (taken-at (a .t4 .entries) (length-unmapped _ (a .t4 .entries) _ (c .before .before .before .before .before .before .before .before .before .before .before .before .before .before .before .before .before .good .1 .1 .1 .0 .1 .1 .1 .0 .1 .0 .1)) (c .before .before .before .before .before .before .before .before .before .before .before .before .before .before .before .before .before .pre .1) (c .before .before .before .before .before .before .loop-test .taken) (c .before .before .before .before .before .before .before .loop .inv .3)) (entry-below (a .width) (take (a .t4 .count) (a .t4 .entries)) (c .before .before .before .before .before .before .before .loop .level - 1) (c .before .before .before .before .before .before .before .before .before .before .before .before .before .before .before .before .before .pre .2) (taken-inside (a .t4 .entries) (length-unmapped _ (a .t4 .entries) _ (c .before .before .before .before .before .before .before .before .before .before .before .before .before .before .before .before .before .good .1 .1 .1 .0 .1 .1 .1 .0 .1 .0 .1)) (c .before .before .before .before .before .before .before .before .before .before .before .before .before .before .before .before .before .pre .1) (c .before .before .before .before .before .before .loop-test .taken) (c .before .before .before .before .before .before .before .loop .inv .3))), entries-row (le-of-lt (level-entry (c .before .before .before .before .before .before .loop-test .taken) (c .before .before .before .before .before .before .before .loop .inv .3) (c .before .before .before .before .before .before .before .before .before .before .before .before .before .before .before .before .before .pre .1))), c .before .before .before .before .before .before .before .before .before .before .before .before .before .before .before .before .before .pre .3, c .before .before .before .before .before .before .before .before .before .before .before .before .before .before .before .before .before .pre .4, c .before .before .before .before .before .before .before .loop .inv .0, c .before .before .before .before .before .before .before .loop .inv .1, c .before .before .before .before .before .before .before .loop .inv .2, c .before .before .before .before .before .before .before .loop .inv .4, fresh-next (c .before .before .before .before .before .before .loop-test .taken) (c .before .before .before .before .before .before .before .loop .noted) (c .before .before .before .before .before .before .before .loop .inv .3) (c .before .before .before .before .before .before .before .before .before .before .before .before .before .before .before .before .before .pre .1) (c .before .before .before .before .before .before .before .loop .inv .5))
+drop-at-requires c κs = let a = c .before .before .before .before .before .before .before .before .before .before .before .before .before .before .before .before .before .args in ((c .before .before .before .before .before .before .before .before .before .before .before .before .before .before .before .before .before .pre .0 .0, (take (a .t4 .count) (a .t4 .entries)), (dropping-at (c .before .before .before .before .before .before .before .before .before .before .before .before .before .before .before .before .before .pre .0 .1) (c .before .before .before .before .before .before .loop-test .taken) (taken-within (a .t4 .entries) (length-unmapped _ (a .t4 .entries) _ (c .before .before .before .before .before .before .before .before .before .before .before .before .before .before .before .before .before .good .1 .1 .1 .0 .1 .1 .1 .0 .1 .0 .1)) (c .before .before .before .before .before .before .before .before .before .before .before .before .before .before .before .before .before .pre .1) (c .before .before .before .before .before .before .before .loop .inv .3)) (c .before .before .before .before .before .before .before .loop .inv .6 (c .before .before .before .before .before .before .before .before .before .before .before .before .before .before .before .before .before .pre .0 .0) (c .before .before .before .before .before .before .before .before .before .before .before .before .before .before .before .before .before .pre .0 .1)) (taken-at (a .t4 .entries) (length-unmapped _ (a .t4 .entries) _ (c .before .before .before .before .before .before .before .before .before .before .before .before .before .before .before .before .before .good .1 .1 .1 .0 .1 .1 .1 .0 .1 .0 .1)) (c .before .before .before .before .before .before .before .before .before .before .before .before .before .before .before .before .before .pre .1) (c .before .before .before .before .before .before .loop-test .taken) (c .before .before .before .before .before .before .before .loop .inv .3)))), subst (λ (x : ℕ). x < a .width) (taken-at (a .t4 .entries) (length-unmapped _ (a .t4 .entries) _ (c .before .before .before .before .before .before .before .before .before .before .before .before .before .before .before .before .before .good .1 .1 .1 .0 .1 .1 .1 .0 .1 .0 .1)) (c .before .before .before .before .before .before .before .before .before .before .before .before .before .before .before .before .before .pre .1) (c .before .before .before .before .before .before .loop-test .taken) (c .before .before .before .before .before .before .before .loop .inv .3)) (entry-below (a .width) (take (a .t4 .count) (a .t4 .entries)) (c .before .before .before .before .before .before .before .loop .level - 1) (c .before .before .before .before .before .before .before .before .before .before .before .before .before .before .before .before .before .pre .2) (taken-inside (a .t4 .entries) (length-unmapped _ (a .t4 .entries) _ (c .before .before .before .before .before .before .before .before .before .before .before .before .before .before .before .before .before .good .1 .1 .1 .0 .1 .1 .1 .0 .1 .0 .1)) (c .before .before .before .before .before .before .before .before .before .before .before .before .before .before .before .before .before .pre .1) (c .before .before .before .before .before .before .loop-test .taken) (c .before .before .before .before .before .before .before .loop .inv .3))), entries-row (le-of-lt (level-entry (c .before .before .before .before .before .before .loop-test .taken) (c .before .before .before .before .before .before .before .loop .inv .3) (c .before .before .before .before .before .before .before .before .before .before .before .before .before .before .before .before .before .pre .1))), c .before .before .before .before .before .before .before .before .before .before .before .before .before .before .before .before .before .pre .3, c .before .before .before .before .before .before .before .before .before .before .before .before .before .before .before .before .before .pre .4, c .before .before .before .before .before .before .before .loop .inv .0, c .before .before .before .before .before .before .before .loop .inv .1, c .before .before .before .before .before .before .before .loop .inv .2, c .before .before .before .before .before .before .before .loop .inv .4, fresh-next (c .before .before .before .before .before .before .loop-test .taken) (c .before .before .before .before .before .before .before .loop .noted) (c .before .before .before .before .before .before .before .loop .inv .3) (c .before .before .before .before .before .before .before .before .before .before .before .before .before .before .before .before .before .pre .1) (c .before .before .before .before .before .before .before .loop .inv .5), c .before .before .before .before .before .before .before .before .before .before .before .before .before .before .before .before .before .pre .10)
 
 loop-less : tie.Need-loop-less Inv-loop μ-loop
 loop-less c = level-back (c .before .before .before .before .before .before .before .before .before .before .before .before .before .before .before .loop-test .taken)

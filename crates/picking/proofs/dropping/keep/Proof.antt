@@ -13,7 +13,7 @@ use Rattle.picking.proofs.dropping.keep.Statement.{statement}
 use Rattle.picking.proofs.dropping.keep.Tie as tie
 
 part-requires : tie.Need-part-requires
-part-requires c κs = (c .before .before .before .before .before .before .before .pre .0, c .before .before .before .before .before .before .before .pre .1, c .before .before .before .before .before .before .before .pre .2, c .before .before .before .before .before .before .before .pre .3, c .before .before .before .before .before .before .before .pre .4)
+part-requires c κs = (c .before .before .before .before .before .before .before .pre .0, c .before .before .before .before .before .before .before .pre .1, c .before .before .before .before .before .before .before .pre .2, c .before .before .before .before .before .before .before .pre .3, c .before .before .before .before .before .before .before .pre .4, c .before .before .before .before .before .before .before .pre .8)
 
 sub-start : tie.Need-sub-start
 sub-start c = c .before .before .before .before .before .before .before .before .before .before .before .before .before .pre .6

@@ -32,7 +32,7 @@ slice-aggregate-drop-all-4 c = refl
 
 drop-all-requires : tie.Need-drop-all-requires
 unfolding maxRows maxEntries
-drop-all-requires c κs = let a = c .before .before .before .before .before .before .before .before .before .before .before .before .before .args in ((a .rows, (dropping-of (c .before .before .before .before .before .before .before .before .before .before .before .before .before .pre .0) (taken-few (a .taken .entries) (length-unmapped _ (a .taken .entries) _ (c .before .before .before .before .before .before .before .before .before .before .before .before .before .good .1 .1 .1 .1 .0 .1 .1 .1 .0 .1 .0 .1)) (c .before .before .before .before .before .before .before .before .before .before .before .before .before .pre .1)) (c .before .before .before .before .before .before .before .before .before .before .before .before .before .pre .3) (c .before .before .before .before .before .before .start .ensures) refl refl)), c .before .before .before .before .before .before .before .before .before .before .before .before .before .pre .1, c .before .before .before .before .before .before .before .before .before .before .before .before .before .pre .2, c .before .before .before .before .before .before .before .before .before .before .before .before .before .pre .4, c .before .before .before .before .before .before .before .before .before .before .before .before .before .pre .5, c .before .before .before .before .before .before .start .kept .0, c .before .before .before .before .before .before .start .kept .1 .0, refl, refl, zeros-fresh (maxRows * maxRows))
+drop-all-requires c κs = let a = c .before .before .before .before .before .before .before .before .before .before .before .before .before .args in ((a .rows, (dropping-of (c .before .before .before .before .before .before .before .before .before .before .before .before .before .pre .0) (taken-few (a .taken .entries) (length-unmapped _ (a .taken .entries) _ (c .before .before .before .before .before .before .before .before .before .before .before .before .before .good .1 .1 .1 .1 .0 .1 .1 .1 .0 .1 .0 .1)) (c .before .before .before .before .before .before .before .before .before .before .before .before .before .pre .1)) (c .before .before .before .before .before .before .before .before .before .before .before .before .before .pre .3) (c .before .before .before .before .before .before .start .ensures) refl refl)), c .before .before .before .before .before .before .before .before .before .before .before .before .before .pre .1, c .before .before .before .before .before .before .before .before .before .before .before .before .before .pre .2, c .before .before .before .before .before .before .before .before .before .before .before .before .before .pre .4, c .before .before .before .before .before .before .before .before .before .before .before .before .before .pre .5, c .before .before .before .before .before .before .start .kept .0, c .before .before .before .before .before .before .start .kept .1 .0, refl, refl, zeros-fresh (maxRows * maxRows), c .before .before .before .before .before .before .before .before .before .before .before .before .before .pre .6)
 
 slice-aggregate-aligned : tie.Need-slice-aggregate-aligned
 slice-aggregate-aligned c = sym (c .before .before .before .before .before .drop-all .kept .1 .1 .1 .1 .1 .1 .1 .1 .0)

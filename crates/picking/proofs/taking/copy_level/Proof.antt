@@ -5,7 +5,7 @@ use Prim.Native.Nat.{_-_}
 use denote.Ref.{now}
 use Rattle.matrix.specs.Matrix.{maxRows}
 use Rattle.matrix.proofs.Sizes.{row-place}
-use Rattle.picking.proofs.Slots.{Copying, copying-none, copying-next, copying-all, copying-length, copying-from, copying-to, copy-fits, copy-scaled, before-start, before-from, before-next, before-to}
+use Rattle.picking.proofs.Slots.{Copying, copying-none, copying-next, copying-all, copying-length, copying-from, copying-to, copy-fits, before-start, before-from, before-next, before-to}
 use Rattle.picking.proofs.taking.copy_level.Statement.{statement}
 use Rattle.picking.proofs.taking.copy_level.Tie as tie
 
@@ -26,10 +26,6 @@ add-stack : tie.Need-add-stack Inv-loop μ-loop
 unfolding maxRows
 add-stack c = copy-fits (now (c .before .before .args .stack)) (c .before .before .args .level) (c .before .before .pre .0) (c .before .before .pre .1) (before-from (c .before .before .args .level) (c .loop-test .taken))
 
-mul-stack : tie.Need-mul-stack Inv-loop μ-loop
-unfolding maxRows
-mul-stack c = copy-scaled (now (c .before .before .args .stack)) (c .before .before .args .level) (c .before .before .pre .0) (c .before .before .pre .1) (before-from (c .before .before .args .level) (c .loop-test .taken))
-
 slice-read-stack : tie.Need-slice-read-stack Inv-loop μ-loop
 unfolding maxRows
 slice-read-stack c = copying-from (now (c .before .before .before .args .stack)) (c .before .before .before .args .level) (c .before .before .before .pre .0) (c .before .before .before .pre .1) (c .before .before .loop .inv) (c .before .loop-test .taken)
@@ -41,10 +37,6 @@ add-stack-2 c = copy-fits (now (c .before .before .before .args .stack)) (c .bef
 add-stack-3 : tie.Need-add-stack-3 Inv-loop μ-loop
 unfolding maxRows
 add-stack-3 c = copy-fits (now (c .before .before .before .args .stack)) (c .before .before .before .args .level) (c .before .before .before .pre .0) (c .before .before .before .pre .1) (before-to (c .before .before .before .args .level) (c .before .loop-test .taken))
-
-mul-stack-2 : tie.Need-mul-stack-2 Inv-loop μ-loop
-unfolding maxRows
-mul-stack-2 c = copy-scaled (now (c .before .before .before .args .stack)) (c .before .before .before .args .level) (c .before .before .before .pre .0) (c .before .before .before .pre .1) (before-to (c .before .before .before .args .level) (c .before .loop-test .taken))
 
 slice-write-stack : tie.Need-slice-write-stack Inv-loop μ-loop
 unfolding maxRows
@@ -78,11 +70,9 @@ copy-level-spec =
     mul-from
     loop-holds
     add-stack
-    mul-stack
     slice-read-stack
     add-stack-2
     add-stack-3
-    mul-stack-2
     slice-write-stack
     add-i
     loop-less

@@ -9,7 +9,7 @@ use Rattle.matrix.specs.Matrix.{cell, maxRows, seek}
 use Rattle.classes.specs.Labels.{OpenFit}
 use Rattle.picking.specs.Levels.{clear}
 use Rattle.picking.proofs.Slots.{slot-lent, slot-front, lent-as}
-use Rattle.matrix.proofs.Slots.{slot-fits, slot-add, slot-scaled, slot-inside}
+use Rattle.matrix.proofs.Slots.{slot-fits, slot-add, slot-inside}
 use Rattle.picking.proofs.taking.next_useful.Statement.{statement}
 use Rattle.picking.proofs.taking.next_useful.Tie as tie
 
@@ -20,10 +20,6 @@ mul-at c = slot-fits (c .before .before .before .before .pre .2)
 add-next : tie.Need-add-next
 unfolding maxRows
 add-next c = slot-add (c .before .before .before .before .pre .2) (le-refl maxRows)
-
-mul-next : tie.Need-mul-next
-unfolding maxRows
-mul-next c = slot-scaled (c .before .before .before .before .pre .2)
 
 sub-next : tie.Need-sub-next
 unfolding maxRows
@@ -40,10 +36,6 @@ part-next-end c = slot-inside (c .before .before .before .before .pre .2) (now (
 add-next-2 : tie.Need-add-next-2
 unfolding maxRows
 add-next-2 c = slot-add (c .before .before .before .before .before .pre .2) (c .before .before .before .before .before .pre .1)
-
-mul-next-2 : tie.Need-mul-next-2
-unfolding maxRows
-mul-next-2 c = slot-scaled (c .before .before .before .before .before .pre .2)
 
 sub-next-2 : tie.Need-sub-next-2
 unfolding maxRows
@@ -71,12 +63,10 @@ next-useful-spec =
     (tie.spec
     mul-at
     add-next
-    mul-next
     sub-next
     part-next-start
     part-next-end
     add-next-2
-    mul-next-2
     sub-next-2
     part-next-start-2
     part-next-end-2

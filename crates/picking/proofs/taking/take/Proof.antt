@@ -7,7 +7,7 @@ use Rattle.picking.proofs.taking.take.Statement.{statement}
 use Rattle.picking.proofs.taking.take.Tie as tie
 
 first-level-requires : tie.Need-first-level-requires
-first-level-requires c κs = let q = c .before .before .before .before .before .before .before .pre .0 in (q .some, q .most, q .marked, c .before .before .before .before .before .before .before .pre .2, c .before .before .before .before .before .before .before .pre .3)
+first-level-requires c κs = let q = c .before .before .before .before .before .before .before .pre .0 in (q .sized .some, q .sized .most, q .marked, c .before .before .before .before .before .before .before .pre .2, c .before .before .before .before .before .before .before .pre .3)
 
 slice-aggregate-take-from : tie.Need-slice-aggregate-take-from
 slice-aggregate-take-from c = refl
@@ -17,7 +17,7 @@ slice-aggregate-take-from-2 c = refl
 
 take-from-requires : tie.Need-take-from-requires
 unfolding maxRows maxEntries
-take-from-requires c κs = let a = c .before .before .before .before .before .before .before .before .before .before .before .before .before .before .before .before .args in ((a .rows, begun-of (now (a .work)) (a .width) (a .rows) (now (a .marks)) (now (a .scan)) (c .before .before .before .before .before .before .before .before .before .before .before .before .before .before .before .before .pre .0) (c .before .before .before .before .before .before .before .before .first-level .ensures)), c .before .before .before .before .before .before .before .before .before .before .before .before .before .before .before .before .pre .1, c .before .before .before .before .before .before .before .before .first-level .kept .0 ∙ c .before .before .before .before .before .before .before .before .before .before .before .before .before .before .before .before .pre .2, c .before .before .before .before .before .before .before .before .first-level .kept .1 .0 ∙ c .before .before .before .before .before .before .before .before .before .before .before .before .before .before .before .before .pre .3, refl, refl)
+take-from-requires c κs = let a = c .before .before .before .before .before .before .before .before .before .before .before .before .before .before .before .before .args in ((a .rows, begun-of (now (a .work)) (a .width) (a .rows) (now (a .marks)) (now (a .scan)) (c .before .before .before .before .before .before .before .before .before .before .before .before .before .before .before .before .pre .0) (c .before .before .before .before .before .before .before .before .first-level .ensures)), c .before .before .before .before .before .before .before .before .before .before .before .before .before .before .before .before .pre .1, c .before .before .before .before .before .before .before .before .first-level .kept .0 ∙ c .before .before .before .before .before .before .before .before .before .before .before .before .before .before .before .before .pre .2, c .before .before .before .before .before .before .before .before .first-level .kept .1 .0 ∙ c .before .before .before .before .before .before .before .before .before .before .before .before .before .before .before .before .pre .3, refl, refl, c .before .before .before .before .before .before .before .before .before .before .before .before .before .before .before .before .pre .4)
 
 same-length : tie.Need-same-length
 same-length c = c .before .before .before .before .before .before .take-from .kept .1 .1 .1 .1 .0 ∙ c .before .before .before .before .before .before .before .before .before .before .before .before .before .before .before .first-level .kept .0

@@ -19,10 +19,10 @@ use Rattle.picking.proofs.taking.take_from.Statement.{statement}
 use Rattle.picking.proofs.taking.take_from.Tie as tie
 
 abbrev Inv-loop : tie.InvT-loop
-Inv-loop work width marks scan labels₀ pending₀ entries₀ counts₀ first level₀ count₀ at₀ labels pending entries counts level count at = (length labels ≡ maxRows * maxRows) × (length pending ≡ maxRows * maxRows) × ((rows : ℕ) → Begun work width rows marks labels₀ pending₀ first → Taking work width rows marks scan entries counts labels pending level count at)
+Inv-loop work width marks scan labels₀ pending₀ entries₀ counts₀ first rising level₀ count₀ at₀ labels pending entries counts level count at = (length labels ≡ maxRows * maxRows) × (length pending ≡ maxRows * maxRows) × ((rows : ℕ) → Begun work width rows marks labels₀ pending₀ first → Taking work width rows marks scan entries counts labels pending level count at)
 
 abbrev μ-loop : tie.MeasureT-loop
-μ-loop work width marks scan labels₀ pending₀ entries₀ counts₀ first level₀ count₀ at₀ labels pending entries counts level count at = length scan - at
+μ-loop work width marks scan labels₀ pending₀ entries₀ counts₀ first rising level₀ count₀ at₀ labels pending entries counts level count at = length scan - at
 
 cast-counts : tie.Need-cast-counts Inv-loop μ-loop
 cast-counts c = row-byte (c .before .before .before .before .before .before .before .pre .0 .1 .started .settled .few)
@@ -55,7 +55,7 @@ cast-take-one : tie.Need-cast-take-one Inv-loop μ-loop
 cast-take-one c = fits-widen {w = w16} tt (c .before .before .shared-slice-known4 .given (c .before .before .before .before .loop .at))
 
 take-one-requires : tie.Need-take-one-requires Inv-loop μ-loop
-take-one-requires c κs = let a = c .before .before .before .before .before .before .before .before .before .before .before .before .before .before .before .args in ((c .before .before .before .before .before .before .before .before .before .before .before .before .before .before .before .pre .0 .0, level-ready (c .before .before .before .before .before .before .before .before .before .before .before .before .before .before .before .pre .0 .1 .fit) (taking-level (now (a .work)) (a .width) (c .before .before .before .before .before .before .before .before .before .before .before .before .before .before .before .pre .0 .0) (now (a .marks)) (now (a .scan)) (c .before .before .before .before .loop .inv .2 (c .before .before .before .before .before .before .before .before .before .before .before .before .before .before .before .pre .0 .0) (c .before .before .before .before .before .before .before .before .before .before .before .before .before .before .before .pre .0 .1)))), entry-below (a .width) (now (a .scan)) (c .before .before .before .before .loop .at) (c .before .before .before .before .before .before .before .before .before .before .before .before .before .before .before .pre .1) (c .before .before .before .loop-test .taken), taking-level (now (a .work)) (a .width) (c .before .before .before .before .before .before .before .before .before .before .before .before .before .before .before .pre .0 .0) (now (a .marks)) (now (a .scan)) (c .before .before .before .before .loop .inv .2 (c .before .before .before .before .before .before .before .before .before .before .before .before .before .before .before .pre .0 .0) (c .before .before .before .before .before .before .before .before .before .before .before .before .before .before .before .pre .0 .1)) .settled .few, taking-next-place (now (a .work)) (a .width) (c .before .before .before .before .before .before .before .before .before .before .before .before .before .before .before .pre .0 .0) (now (a .marks)) (now (a .scan)) (c .before .before .before .before .loop .inv .2 (c .before .before .before .before .before .before .before .before .before .before .before .before .before .before .before .pre .0 .0) (c .before .before .before .before .before .before .before .before .before .before .before .before .before .before .before .pre .0 .1)) (c .before .before .before .loop-test .taken), c .before .before .before .before .loop .inv .0, c .before .before .before .before .loop .inv .1)
+take-one-requires c κs = let a = c .before .before .before .before .before .before .before .before .before .before .before .before .before .before .before .args in ((c .before .before .before .before .before .before .before .before .before .before .before .before .before .before .before .pre .0 .0, level-ready (c .before .before .before .before .before .before .before .before .before .before .before .before .before .before .before .pre .0 .1 .fit) (taking-level (now (a .work)) (a .width) (c .before .before .before .before .before .before .before .before .before .before .before .before .before .before .before .pre .0 .0) (now (a .marks)) (now (a .scan)) (c .before .before .before .before .loop .inv .2 (c .before .before .before .before .before .before .before .before .before .before .before .before .before .before .before .pre .0 .0) (c .before .before .before .before .before .before .before .before .before .before .before .before .before .before .before .pre .0 .1)))), entry-below (a .width) (now (a .scan)) (c .before .before .before .before .loop .at) (c .before .before .before .before .before .before .before .before .before .before .before .before .before .before .before .pre .1) (c .before .before .before .loop-test .taken), taking-level (now (a .work)) (a .width) (c .before .before .before .before .before .before .before .before .before .before .before .before .before .before .before .pre .0 .0) (now (a .marks)) (now (a .scan)) (c .before .before .before .before .loop .inv .2 (c .before .before .before .before .before .before .before .before .before .before .before .before .before .before .before .pre .0 .0) (c .before .before .before .before .before .before .before .before .before .before .before .before .before .before .before .pre .0 .1)) .settled .few, taking-next-place (now (a .work)) (a .width) (c .before .before .before .before .before .before .before .before .before .before .before .before .before .before .before .pre .0 .0) (now (a .marks)) (now (a .scan)) (c .before .before .before .before .loop .inv .2 (c .before .before .before .before .before .before .before .before .before .before .before .before .before .before .before .pre .0 .0) (c .before .before .before .before .before .before .before .before .before .before .before .before .before .before .before .pre .0 .1)) (c .before .before .before .loop-test .taken), c .before .before .before .before .loop .inv .0, c .before .before .before .before .loop .inv .1, c .before .before .before .before .before .before .before .before .before .before .before .before .before .before .before .pre .6)
 
 add-level : tie.Need-add-level Inv-loop μ-loop
 add-level c = let a = c .before .before .before .before .before .before .before .before .before .before .before .before .before .before .before .before .before .before .before .before .args in row-place (add-one-le (taking-place (now (a .work)) (a .width) (c .before .before .before .before .before .before .before .before .before .before .before .before .before .before .before .before .before .before .before .before .pre .0 .0) (now (a .marks)) (now (a .scan)) (c .before .before .before .before .before .before .before .before .before .loop .inv .2 (c .before .before .before .before .before .before .before .before .before .before .before .before .before .before .before .before .before .before .before .before .pre .0 .0) (c .before .before .before .before .before .before .before .before .before .before .before .before .before .before .before .before .before .before .before .before .pre .0 .1))))

@@ -6,7 +6,7 @@ use lib.ListN.{take}
 use denote.Ref.{now}
 use Rattle.matrix.specs.Matrix.{maxRows}
 use Rattle.classes.specs.Labels.{SomeReady}
-use Rattle.picking.proofs.Slots.{copy-fits, copy-scaled, before-start, before-next, after-room, after-slot, after-slot-length, put-length, lent-as}
+use Rattle.picking.proofs.Slots.{copy-fits, before-start, before-next, after-room, after-slot, after-slot-length, put-length, lent-as}
 use Rattle.picking.proofs.Growing.{grown}
 use Rattle.picking.proofs.taking.take_one.Statement.{statement}
 use Rattle.picking.proofs.taking.take_one.Tie as tie
@@ -29,10 +29,6 @@ add-part : tie.Need-add-part
 unfolding maxRows
 add-part c = copy-fits (now (c .before .before .before .before .before .before .before .before .before .before .before .before .args .labels)) (c .before .before .before .before .before .before .before .before .before .before .before .before .args .level) (c .before .before .before .before .before .before .before .before .before .before .before .before .pre .3) (c .before .before .before .before .before .before .before .before .before .before .before .before .pre .4) (le-refl (c .before .before .before .before .before .before .before .before .before .before .before .before .args .level * maxRows + maxRows + maxRows))
 
-mul-part : tie.Need-mul-part
-unfolding maxRows
-mul-part c = copy-scaled (now (c .before .before .before .before .before .before .before .before .before .before .before .before .args .labels)) (c .before .before .before .before .before .before .before .before .before .before .before .before .args .level) (c .before .before .before .before .before .before .before .before .before .before .before .before .pre .3) (c .before .before .before .before .before .before .before .before .before .before .before .before .pre .4) (before-next (c .before .before .before .before .before .before .before .before .before .before .before .before .args .level))
-
 sub-part : tie.Need-sub-part
 unfolding maxRows
 sub-part c = le-add-right (c .before .before .before .before .before .before .before .before .before .before .before .before .args .level * maxRows + maxRows) maxRows
@@ -49,10 +45,6 @@ add-part-2 : tie.Need-add-part-2
 unfolding maxRows
 add-part-2 c = copy-fits (now (c .before .before .before .before .before .before .before .before .before .before .before .before .before .args .pending)) (c .before .before .before .before .before .before .before .before .before .before .before .before .before .args .level) (c .before .before .before .before .before .before .before .before .before .before .before .before .before .pre .3) (c .before .before .before .before .before .before .before .before .before .before .before .before .before .pre .5) (le-refl (c .before .before .before .before .before .before .before .before .before .before .before .before .before .args .level * maxRows + maxRows + maxRows))
 
-mul-part-2 : tie.Need-mul-part-2
-unfolding maxRows
-mul-part-2 c = copy-scaled (now (c .before .before .before .before .before .before .before .before .before .before .before .before .before .args .pending)) (c .before .before .before .before .before .before .before .before .before .before .before .before .before .args .level) (c .before .before .before .before .before .before .before .before .before .before .before .before .before .pre .3) (c .before .before .before .before .before .before .before .before .before .before .before .before .before .pre .5) (before-next (c .before .before .before .before .before .before .before .before .before .before .before .before .before .args .level))
-
 sub-part-2 : tie.Need-sub-part-2
 unfolding maxRows
 sub-part-2 c = le-add-right (c .before .before .before .before .before .before .before .before .before .before .before .before .before .args .level * maxRows + maxRows) maxRows
@@ -67,7 +59,7 @@ part-part-end-2 c = after-room (now (c .before .before .before .before .before .
 
 part-requires : tie.Need-part-requires
 unfolding maxRows
-part-requires c κs = let a = c .before .before .before .before .before .before .before .before .before .before .before .before .before .before .args in (lent-as (λ x y. SomeReady (now (a .work)) (a .width) (now (a .marks)) x (take (a .count) y)) (after-slot (now (c .before .before .before .before .before .before .before .before .before .before .before .before .before .before .args .labels)) (c .before .before .before .before .before .before .before .before .before .before .before .before .before .before .args .level) (c .before .before .before .before .before .before .before .before .before .before .before .before .before .before .pre .3) (c .before .before .before .before .before .before .before .before .before .before .before .before .before .before .pre .4) (c .before .before .before .before .before .before .before .before .copy-level .ensures)) (after-slot (now (c .before .before .before .before .before .before .before .before .before .before .before .before .before .before .args .pending)) (c .before .before .before .before .before .before .before .before .before .before .before .before .before .before .args .level) (c .before .before .before .before .before .before .before .before .before .before .before .before .before .before .pre .3) (c .before .before .before .before .before .before .before .before .before .before .before .before .before .before .pre .5) (c .before .before .before .before .copy-level2 .ensures)) (c .before .before .before .before .before .before .before .before .before .before .before .before .before .before .pre .0), c .before .before .before .before .before .before .before .before .before .before .before .before .before .before .pre .1, c .before .before .before .before .before .before .before .before .before .before .before .before .before .before .pre .2, after-slot-length (now (c .before .before .before .before .before .before .before .before .before .before .before .before .before .before .args .labels)) (c .before .before .before .before .before .before .before .before .before .before .before .before .before .before .args .level) (c .before .before .before .before .before .before .before .before .before .before .before .before .before .before .pre .3) (c .before .before .before .before .before .before .before .before .before .before .before .before .before .before .pre .4) (c .before .before .before .before .before .before .before .before .copy-level .ensures), after-slot-length (now (c .before .before .before .before .before .before .before .before .before .before .before .before .before .before .args .pending)) (c .before .before .before .before .before .before .before .before .before .before .before .before .before .before .args .level) (c .before .before .before .before .before .before .before .before .before .before .before .before .before .before .pre .3) (c .before .before .before .before .before .before .before .before .before .before .before .before .before .before .pre .5) (c .before .before .before .before .copy-level2 .ensures))
+part-requires c κs = let a = c .before .before .before .before .before .before .before .before .before .before .before .before .before .before .args in (lent-as (λ x y. SomeReady (now (a .work)) (a .width) (now (a .marks)) x (take (a .count) y)) (after-slot (now (c .before .before .before .before .before .before .before .before .before .before .before .before .before .before .args .labels)) (c .before .before .before .before .before .before .before .before .before .before .before .before .before .before .args .level) (c .before .before .before .before .before .before .before .before .before .before .before .before .before .before .pre .3) (c .before .before .before .before .before .before .before .before .before .before .before .before .before .before .pre .4) (c .before .before .before .before .before .before .before .before .copy-level .ensures)) (after-slot (now (c .before .before .before .before .before .before .before .before .before .before .before .before .before .before .args .pending)) (c .before .before .before .before .before .before .before .before .before .before .before .before .before .before .args .level) (c .before .before .before .before .before .before .before .before .before .before .before .before .before .before .pre .3) (c .before .before .before .before .before .before .before .before .before .before .before .before .before .before .pre .5) (c .before .before .before .before .copy-level2 .ensures)) (c .before .before .before .before .before .before .before .before .before .before .before .before .before .before .pre .0), c .before .before .before .before .before .before .before .before .before .before .before .before .before .before .pre .1, c .before .before .before .before .before .before .before .before .before .before .before .before .before .before .pre .2, after-slot-length (now (c .before .before .before .before .before .before .before .before .before .before .before .before .before .before .args .labels)) (c .before .before .before .before .before .before .before .before .before .before .before .before .before .before .args .level) (c .before .before .before .before .before .before .before .before .before .before .before .before .before .before .pre .3) (c .before .before .before .before .before .before .before .before .before .before .before .before .before .before .pre .4) (c .before .before .before .before .before .before .before .before .copy-level .ensures), after-slot-length (now (c .before .before .before .before .before .before .before .before .before .before .before .before .before .before .args .pending)) (c .before .before .before .before .before .before .before .before .before .before .before .before .before .before .args .level) (c .before .before .before .before .before .before .before .before .before .before .before .before .before .before .pre .3) (c .before .before .before .before .before .before .before .before .before .before .before .before .before .before .pre .5) (c .before .before .before .before .copy-level2 .ensures), c .before .before .before .before .before .before .before .before .before .before .before .before .before .before .pre .6)
 
 same-length : tie.Need-same-length
 unfolding maxRows
@@ -90,12 +82,10 @@ take-one-spec =
     mul-at
     add-at
     add-part
-    mul-part
     sub-part
     part-part-start
     part-part-end
     add-part-2
-    mul-part-2
     sub-part-2
     part-part-start-2
     part-part-end-2
