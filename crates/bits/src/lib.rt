@@ -1,9 +1,9 @@
 // Fields of a string of bits, most significant bit first in each byte and field; and the refusals of every operation.
 ghost use mathlib.Core.Path.{_≡_};
-ghost use Prim.Native.Nat.{_+_, _-_, _/_, _%_, _^_, _≤_, _<_};
+ghost use Prim.Native.Nat.{_+_, _-_, _*_, _/_, _%_, _^_, _≤_, _<_};
 ghost use lib.ListN.{getD, length};
 ghost use Rattle.bits.specs.Answer.{number};
-ghost use Rattle.bits.specs.Field.{fieldAt, from, margin, maxWidth, spareOnly, windowAt};
+ghost use Rattle.bits.specs.Field.{fieldAt, from, maxPlace, maxWidth, spareOnly, windowAt};
 
 // The causes for which an operation refuses, in the order of their numbers in document 01, 1 to 18.
 pub enum Refusal {
@@ -61,10 +61,9 @@ pub enum Outcome {
     Refused(Refusal),
 }
 
-// A place in a string of bits: a byte, and a number of bits from that byte's first on.
+// A place in a string of bits: how many bits stand before it.
 pub struct Cursor {
-    pub byte: usize,
-    pub bit: u8,
+    pub bit: usize,
 }
 
 // What stands at a place: a field's value with the place behind it, or bytes that end inside the field.
@@ -107,17 +106,20 @@ fn bits_before(word: usize, end: usize, width: usize) -> usize
 // No field of the layout is wider than a byte; from any bit of a byte on, two bytes hold it.
 const MAX_WIDTH: usize = 8;
 
-// A cursor's bits are a u8, at most 31 whole bytes, so the two bytes of a field are at most 32 after the cursor's byte.
-const MARGIN: usize = 32;
+// A field from a later place on is answered as cut, so that the place behind a field is always a number. No job reaches that far.
+const MAX_PLACE: usize = 1 << 62;
 
-// How many bytes have MARGIN more behind them: a field whose cursor is at one of these is not cut.
+// So many bytes have one more behind them, and no bit of them is past the last place: a field that begins in one of them is not cut.
 fn early_bytes(length: usize) -> usize
-    ensures { λ r. ⌜ r ≡ length - margin ⌝ }
+    ensures { λ r. ⌜ (r ≤ length - 1) × (r * 8 ≤ maxPlace) ⌝ }
 {
-    if length < MARGIN {
+    if length < 1 {
         return 0;
     }
-    length - MARGIN
+    if MAX_PLACE / 8 < length {
+        return MAX_PLACE / 8;
+    }
+    length - 1
 }
 
 // The field at a place among the last bytes or past them, where it may be cut.
@@ -125,20 +127,16 @@ fn late_field(s: &[u8], c: Cursor, width: usize) -> Field
     requires { ⌜ (1 ≤ width) × (width ≤ maxWidth) ⌝ }
     ensures { λ r. ⌜ r ≡ fieldAt (now (s .entry)) c width ⌝ }
 {
-    let byte = c.byte;
-    let bit = c.bit as usize;
-    if s.len() <= byte {
+    let bit = c.bit;
+    if MAX_PLACE < bit {
         return Field::Cut;
     }
-    let at = byte + bit / 8;
+    let at = bit / 8;
     let end = bit % 8 + width;
     if s.len() < at + (end + 7) / 8 {
         return Field::Cut;
     }
-    let next = Cursor {
-        byte: at + end / 8,
-        bit: (end % 8) as u8,
-    };
+    let next = Cursor { bit: bit + width };
     Field::Value(bits_before(last_bytes(s, at), end, width), next)
 }
 
@@ -152,18 +150,14 @@ pub fn read_field(s: &[u8], c: Cursor, width: usize) -> Field
     if MAX_WIDTH < width {
         return Field::Cut;
     }
-    let byte = c.byte;
-    let bit = c.bit as usize;
+    let bit = c.bit;
+    let at = bit / 8;
     // One test decides for most fields that both bytes are there.
-    if early_bytes(s.len()) <= byte {
+    if early_bytes(s.len()) <= at {
         return late_field(s, c, width);
     }
-    let at = byte + bit / 8;
     let end = bit % 8 + width;
-    let next = Cursor {
-        byte: at + end / 8,
-        bit: (end % 8) as u8,
-    };
+    let next = Cursor { bit: bit + width };
     Field::Value(bits_before(two_bytes(s, at), end, width), next)
 }
 
@@ -171,12 +165,8 @@ pub fn read_field(s: &[u8], c: Cursor, width: usize) -> Field
 pub fn spare_only(s: &[u8], c: Cursor) -> bool
     ensures { λ r. ⌜ r ≡ spareOnly (from (now (s .entry)) c) ⌝ }
 {
-    let byte = c.byte;
-    let bit = c.bit as usize;
-    if s.len() <= byte {
-        return true;
-    }
-    let at = byte + bit / 8;
+    let bit = c.bit;
+    let at = bit / 8;
     let used = bit % 8;
     if s.len() <= at {
         return true;

@@ -2,12 +2,15 @@
 --
 --   told, due     the answer, and the record beside it
 --   gateTold, faultTold   what stands where a gate or a fault is due
-use Prim.Native.Nat.{ℕ}
+--   gateEnd, faultEnd     the place behind it
+--   Near                  a place before so many bits
+use Prim.Native.Nat.{ℕ, _^_, _≤_}
 use mathlib.Core.List.{List}
 use Rattle.bits.specs.Answer.{Answer, number}
 use Rattle.bits.specs.Answer.Answer.{gives, refused}
 use Rattle.bits.specs.Field.{from}
 use Rattle.bits.specs.Parser.{Parsed, parsed}
+use Rattle.bits.specs.declared.Cursor.{Cursor}
 use Rattle.bits.specs.declared.Outcome.{Outcome}
 use Rattle.bits.specs.declared.Outcome.the-variants.{Done, Refused}
 use Rattle.job.specs.Record.{emptyJob}
@@ -46,3 +49,16 @@ gateTold s (gate-read.Refused e) = refused (number e)
 abbrev pub faultTold : List ℕ → FaultRead → Answer (Parsed FaultEntry)
 faultTold s (fault-read.Found x c) = parsed (record { fault = x }) (from s c)
 faultTold s (fault-read.Refused e) = refused (number e)
+
+-- the place behind a gate or a fault, 0 with a refusal
+abbrev pub gateEnd : GateRead → ℕ
+gateEnd (gate-read.Found g c) = c .bit
+gateEnd (gate-read.Refused e) = 0
+
+abbrev pub faultEnd : FaultRead → ℕ
+faultEnd (fault-read.Found x c) = c .bit
+faultEnd (fault-read.Refused e) = 0
+
+-- a job is short: each of its parts begins before 2 to some small power
+abbrev pub Near : ℕ → Cursor → Type 0
+Near k c = c .bit ≤ 2 ^ k

@@ -1,12 +1,12 @@
 // Reading a job from any bytes (document 01, "Job layout" and "Refusal by operation").
 ghost use mathlib.Core.Path.{_≡_};
-ghost use Prim.Native.Nat.{_≤_};
+ghost use Prim.Native.Nat.{_+_, _*_, _≤_};
 ghost use Rattle.bits.specs.Answer.{number};
 ghost use Rattle.bits.specs.Answer.Answer.{refused};
-ghost use Rattle.bits.specs.Field.{from};
+ghost use Rattle.bits.specs.Field.{from, maxWidth};
 ghost use Rattle.job.specs.Layout.{maxGates, maxFaults};
 ghost use Rattle.reading.specs.Reading.{reading, valueRead, unaryLinesOk, gate, fault, fromGates, fromOutput, fromFaultCount, fromFaults, fromEnd};
-ghost use Rattle.reading.specs.Told.{told, due, gateTold, faultTold};
+ghost use Rattle.reading.specs.Told.{told, due, gateTold, faultTold, gateEnd, faultEnd, Near};
 use bits::Cursor;
 use bits::Field;
 use bits::Outcome;
@@ -44,7 +44,7 @@ fn refused(cause: Refusal) -> Reading
 pub fn read(s: &[u8]) -> Reading
     ensures { λ r. ⌜ told r ≡ due (reading (now (s .entry))) ⌝ }
 {
-    let start = Cursor { byte: 0, bit: 0 };
+    let start = Cursor { bit: 0 };
     let Field::Value(n, c) = bits::read_field(s, start, INPUT_COUNT_BITS) else {
         return refused(Refusal::FieldCut);
     };
@@ -81,7 +81,8 @@ fn unary_lines_ok(kind: usize, a: usize, b: usize) -> bool
 
 // The gate whose own line is `own`.
 fn read_gate(s: &[u8], at: Cursor, own: usize) -> GateRead
-    ensures { λ r. ⌜ gateTold (now (s .entry)) r ≡ gate own (from (now (s .entry)) at) ⌝ }
+    requires { ⌜ Near 24 at ⌝ }
+    ensures { λ r. ⌜ (gateTold (now (s .entry)) r ≡ gate own (from (now (s .entry)) at)) × (gateEnd r ≤ at .bit + 3 * maxWidth) ⌝ }
 {
     let Field::Value(kind, c) = bits::read_field(s, at, GATE_KIND_BITS) else {
         return GateRead::Refused(Refusal::FieldCut);
@@ -106,7 +107,7 @@ fn read_gate(s: &[u8], at: Cursor, own: usize) -> GateRead
 
 // The rest of a job from its gates on.
 fn read_gates(s: &[u8], at: Cursor, before: Job) -> Reading
-    requires { ⌜ before .«gate_count» ≤ maxGates ⌝ }
+    requires { ⌜ (before .«gate_count» ≤ maxGates) × Near 20 at ⌝ }
     ensures { λ r. ⌜ told r ≡ due (valueRead (fromGates before (from (now (s .entry)) at))) ⌝ }
 {
     let n = before.inputs as usize;
@@ -131,6 +132,7 @@ fn read_gates(s: &[u8], at: Cursor, before: Job) -> Reading
 
 // The rest of a job from its output line on.
 fn read_output(s: &[u8], at: Cursor, before: Job) -> Reading
+    requires { ⌜ Near 21 at ⌝ }
     ensures { λ r. ⌜ told r ≡ due (valueRead (fromOutput before (from (now (s .entry)) at))) ⌝ }
 {
     let Field::Value(line, c) = bits::read_field(s, at, LINE_BITS) else {
@@ -146,6 +148,7 @@ fn read_output(s: &[u8], at: Cursor, before: Job) -> Reading
 
 // The rest of a job from its fault count on.
 fn read_fault_count(s: &[u8], at: Cursor, before: Job) -> Reading
+    requires { ⌜ Near 22 at ⌝ }
     ensures { λ r. ⌜ told r ≡ due (valueRead (fromFaultCount before (from (now (s .entry)) at))) ⌝ }
 {
     let Field::Value(f, c) = bits::read_field(s, at, FAULT_COUNT_BITS) else {
@@ -164,7 +167,8 @@ enum FaultRead {
 
 // A fault of a circuit with so many inputs and lines: kinds 0 and 1 are stuck lines, 2 and 3 bridges.
 fn read_fault(s: &[u8], at: Cursor, inputs: usize, lines: usize) -> FaultRead
-    ensures { λ r. ⌜ faultTold (now (s .entry)) r ≡ fault inputs lines (from (now (s .entry)) at) ⌝ }
+    requires { ⌜ Near 24 at ⌝ }
+    ensures { λ r. ⌜ (faultTold (now (s .entry)) r ≡ fault inputs lines (from (now (s .entry)) at)) × (faultEnd r ≤ at .bit + 3 * maxWidth) ⌝ }
 {
     let Field::Value(kind, c) = bits::read_field(s, at, FAULT_KIND_BITS) else {
         return FaultRead::Refused(Refusal::FieldCut);
@@ -198,7 +202,7 @@ fn read_fault(s: &[u8], at: Cursor, inputs: usize, lines: usize) -> FaultRead
 
 // The rest of a job from its faults on.
 fn read_faults(s: &[u8], at: Cursor, before: Job) -> Reading
-    requires { ⌜ before .«fault_count» ≤ maxFaults ⌝ }
+    requires { ⌜ (before .«fault_count» ≤ maxFaults) × Near 23 at ⌝ }
     ensures { λ r. ⌜ told r ≡ due (valueRead (fromFaults before (from (now (s .entry)) at))) ⌝ }
 {
     let n = before.inputs as usize;

@@ -1,21 +1,15 @@
 -- `bits::late_field` meets its contract.
 use mathlib.Core.Path.{sym}
 use denote.Ref.{now}
-use Rattle.bits.proofs.Fields.{fieldAt-late, fieldAt-short, fieldAt-window}
+use Rattle.bits.proofs.Fields.{fieldAt-far, fieldAt-short, fieldAt-window}
 use borrow.Author.Needs.{needs}
 use Rattle.bits.proofs.late_field.Statement.{statement}
 use Rattle.bits.proofs.late_field.Tie as tie
 
-cast-bit : tie.Need-cast-bit
-cast-bit c = search needs
-
 returns : tie.Need-returns
 returns c =
-    let a = c .before .before .before .args in
-    sym (fieldAt-late (now (a .s)) (a .c) (a .width) (c .if1 .taken))
-
-add-at : tie.Need-add-at
-add-at c = search needs
+    let a = c .before .before .args in
+    sym (fieldAt-far (now (a .s)) (a .c) (a .width) (c .if1 .taken))
 
 add-end : tie.Need-add-end
 add-end c = search needs
@@ -28,14 +22,11 @@ add-if2-2 c = search needs
 
 returns-2 : tie.Need-returns-2
 returns-2 c =
-    let a = c .before .before .before .before .args in
+    let a = c .before .before .before .args in
     sym (fieldAt-short (now (a .s)) (a .c) (a .width) (c .if2 .taken))
 
-add-t11 : tie.Need-add-t11
-add-t11 c = search needs
-
-cast-t14 : tie.Need-cast-t14
-cast-t14 c = search needs
+add-bits-before : tie.Need-add-bits-before
+add-bits-before c = search needs
 
 last-bytes-requires : tie.Need-last-bytes-requires
 last-bytes-requires c κs = search needs
@@ -45,12 +36,13 @@ bits-before-requires c κs = search needs
 
 returns-3 : tie.Need-returns-3
 returns-3 c =
-    let start = c .before .before .before .before .before .before in
+    let start = c .before .before .before .before .before in
     let a = start .args in
     fieldAt-window (now (a .s)) (a .c) (a .width)
-    (λ k. c .before .before .before .before .before .shared-slice-known .given k .fits)
+    (λ k. c .before .before .before .before .shared-slice-known .given k .fits)
     (start .pre .0)
     (start .pre .1)
+    (c .before .before .before .if1 .left)
     (c .before .before .if2 .left)
     (c .before .last-bytes .ensures)
     (c .bits-before .ensures)
@@ -59,15 +51,12 @@ pub late-field-spec : {M : Type 1} → statement M
 late-field-spec =
     tie.close
     (tie.spec
-    cast-bit
     returns
-    add-at
     add-end
     add-if2
     add-if2-2
     returns-2
-    add-t11
-    cast-t14
+    add-bits-before
     last-bytes-requires
     bits-before-requires
     returns-3)

@@ -1,12 +1,13 @@
 -- `reading::read` meets its contract.
+use native.Mathlib.Omega.{arith}
 use mathlib.Core.Path.{refl, sym, _∙_}
 use denote.Ref.{now}
 use borrow.Author.Tests.{le-leb, lt-leb}
-use Rattle.bits.proofs.Fields.{field-value, field-cut}
+use Rattle.bits.proofs.Fields.{field-value, field-cut, field-near}
 use Rattle.bits.specs.Field.{from}
 use Rattle.job.specs.Layout.{inputCountBits, gateCountBits, maxInputs, maxGates}
 use Rattle.reading.specs.Reading.{reading, wholeJob}
-use borrow.Author.Needs.{needs}
+use borrow.Author.Needs.{needs, zero≤}
 use Rattle.reading.proofs.read.Statement.{statement}
 use Rattle.reading.proofs.read.Tie as tie
 
@@ -24,7 +25,7 @@ refused-requires c κs = search needs
 
 returns : tie.Need-returns
 unfolding reading wholeJob inputCountBits gateCountBits maxInputs maxGates from
-returns c = c .refused .ensures ∙ simp (field-cut (now (c .before .before .before .before .before .args .s)) _ 4 refl (sym (c .before .before .before .read-field .ensures) ∙ c .before .enum-told .given .1))
+returns c = c .refused .ensures ∙ simp (field-cut (now (c .before .before .before .before .before .args .s)) _ 4 refl zero≤ (sym (c .before .before .before .read-field .ensures) ∙ c .before .enum-told .given .1))
 
 refused-requires-2 : tie.Need-refused-requires-2
 refused-requires-2 c κs = search needs
@@ -54,7 +55,7 @@ refused-requires-4 c κs = search needs
 
 returns-4 : tie.Need-returns-4
 unfolding reading wholeJob inputCountBits gateCountBits maxInputs maxGates from
-returns-4 c = c .refused4 .ensures ∙ simp (field-value (now (c .before .before .before .before .before .before .before .before .before .before .before .args .s)) _ 4 _ _ (sym (c .before .before .before .before .before .before .before .before .before .read-field .ensures) ∙ c .before .before .before .before .before .before .before .n .given .1), le-leb _ _ (c .before .before .before .before .before .if1 .left), le-leb _ _ (c .before .before .before .before .if2 .left), field-cut (now (c .before .before .before .before .before .before .before .before .before .before .before .args .s)) _ 7 refl (sym (c .before .before .before .read-field2 .ensures) ∙ c .before .enum-told2 .given .1))
+returns-4 c = c .refused4 .ensures ∙ simp (field-value (now (c .before .before .before .before .before .before .before .before .before .before .before .args .s)) _ 4 _ _ (sym (c .before .before .before .before .before .before .before .before .before .read-field .ensures) ∙ c .before .before .before .before .before .before .before .n .given .1), le-leb _ _ (c .before .before .before .before .before .if1 .left), le-leb _ _ (c .before .before .before .before .if2 .left), field-cut (now (c .before .before .before .before .before .before .before .before .before .before .before .args .s)) _ 7 refl (omega (arith, field-near (now (c .before .before .before .before .before .before .before .before .before .before .before .args .s)) _ 4 _ _ (sym (c .before .before .before .before .before .before .before .before .before .read-field .ensures) ∙ c .before .before .before .before .before .before .before .n .given .1))) (sym (c .before .before .before .read-field2 .ensures) ∙ c .before .enum-told2 .given .1))
 
 refused-requires-5 : tie.Need-refused-requires-5
 refused-requires-5 c κs = search needs
@@ -74,7 +75,7 @@ cast-job-2 c = search needs
 
 read-gates-requires : tie.Need-read-gates-requires
 unfolding maxGates
-read-gates-requires c κs = c .before .if3 .left
+read-gates-requires c κs = (c .before .if3 .left, omega (arith, field-near (now (c .before .before .before .before .before .before .before .before .before .before .before .before .before .args .s)) _ 4 _ _ (sym (c .before .before .before .before .before .before .before .before .before .before .before .read-field .ensures) ∙ c .before .before .before .before .before .before .before .before .before .n .given .1), field-near (now (c .before .before .before .before .before .before .before .before .before .before .before .before .before .args .s)) _ 7 _ _ (sym (c .before .before .before .before .before .read-field2 .ensures) ∙ c .before .before .before .g .given .1)))
 
 returns-6 : tie.Need-returns-6
 unfolding reading wholeJob inputCountBits gateCountBits maxInputs maxGates from

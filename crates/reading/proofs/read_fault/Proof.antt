@@ -5,9 +5,9 @@ use denote.Ref.{now}
 use Rattle.bits.proofs.Fields.{field-lt}
 use Rattle.job.specs.Layout.{faultKindBits, lineBits}
 use Rattle.reading.specs.Reading.{fault}
-use Rattle.reading.proofs.EntryFields.{entry-first, entry-second, entry-third, entry-read}
+use Rattle.reading.proofs.EntryFields.{entry-first, entry-second, entry-third, entry-read, entry-end}
 use Rattle.reading.proofs.FaultKinds.{stuck-outside, stuck-unlike, stuck-found, bridge-outside, bridge-above, bridge-order, bridge-found}
-use borrow.Author.Needs.{needs}
+use borrow.Author.Needs.{needs, zero≤}
 use Rattle.reading.proofs.read_fault.Statement.{statement}
 use Rattle.reading.proofs.read_fault.Tie as tie
 
@@ -22,7 +22,7 @@ enum-told c = search needs
 
 returns : tie.Need-returns
 unfolding fault faultKindBits lineBits
-returns c = simp (entry-first (now (c .before .before .before .before .args .s)) (c .before .before .before .before .args .at) 2 refl (sym (c .before .before .read-field .ensures) ∙ c .enum-told .given .1))
+returns c = (simp (entry-first (now (c .before .before .before .before .args .s)) (c .before .before .before .before .args .at) 2 (c .before .before .before .before .pre) refl (sym (c .before .before .read-field .ensures) ∙ c .enum-told .given .1)), zero≤)
 
 read-field-requires-2 : tie.Need-read-field-requires-2
 read-field-requires-2 c κs = search needs
@@ -35,7 +35,7 @@ enum-told-2 c = search needs
 
 returns-2 : tie.Need-returns-2
 unfolding fault faultKindBits lineBits
-returns-2 c = simp (entry-second (now (c .before .before .before .before .before .before .before .before .args .s)) (c .before .before .before .before .before .before .before .before .args .at) 2 (sym (c .before .before .before .before .before .before .read-field .ensures) ∙ c .before .before .before .before .kind .given .1) (sym (c .before .before .read-field2 .ensures) ∙ c .enum-told2 .given .1))
+returns-2 c = (simp (entry-second (now (c .before .before .before .before .before .before .before .before .args .s)) (c .before .before .before .before .before .before .before .before .args .at) 2 (sym (c .before .before .before .before .before .before .read-field .ensures) ∙ c .before .before .before .before .kind .given .1) (c .before .before .before .before .before .before .before .before .pre) (sym (c .before .before .read-field2 .ensures) ∙ c .enum-told2 .given .1)), zero≤)
 
 read-field-requires-3 : tie.Need-read-field-requires-3
 read-field-requires-3 c κs = search needs
@@ -48,15 +48,15 @@ enum-told-3 c = search needs
 
 returns-3 : tie.Need-returns-3
 unfolding fault faultKindBits lineBits
-returns-3 c = simp (entry-third (now (c .before .before .before .before .before .before .before .before .before .before .before .before .args .s)) (c .before .before .before .before .before .before .before .before .before .before .before .before .args .at) 2 (sym (c .before .before .before .before .before .before .before .before .before .before .read-field .ensures) ∙ c .before .before .before .before .before .before .before .before .kind .given .1) (sym (c .before .before .before .before .before .before .read-field2 .ensures) ∙ c .before .before .before .before .a .given .1) (sym (c .before .before .read-field3 .ensures) ∙ c .enum-told3 .given .1))
+returns-3 c = (simp (entry-third (now (c .before .before .before .before .before .before .before .before .before .before .before .before .args .s)) (c .before .before .before .before .before .before .before .before .before .before .before .before .args .at) 2 (sym (c .before .before .before .before .before .before .before .before .before .before .read-field .ensures) ∙ c .before .before .before .before .before .before .before .before .kind .given .1) (sym (c .before .before .before .before .before .before .read-field2 .ensures) ∙ c .before .before .before .before .a .given .1) (c .before .before .before .before .before .before .before .before .before .before .before .before .pre) (sym (c .before .before .read-field3 .ensures) ∙ c .enum-told3 .given .1)), zero≤)
 
 returns-4 : tie.Need-returns-4
 unfolding faultKindBits lineBits
-returns-4 c = stuck-outside (now (c .before .before .before .before .before .before .before .before .before .before .before .before .before .before .before .args .s)) (c .before .before .before .before .before .before .before .before .before .before .before .before .before .before .before .args .at) (c .before .before .before .before .before .before .before .before .before .before .before .before .before .before .before .args .inputs) (c .before .before .before .before .before .before .before .before .before .before .before .before .before .before .before .args .lines) (entry-read (now (c .before .before .before .before .before .before .before .before .before .before .before .before .before .before .before .args .s)) (c .before .before .before .before .before .before .before .before .before .before .before .before .before .before .before .args .at) 2 (sym (c .before .before .before .before .before .before .before .before .before .before .before .before .before .read-field .ensures) ∙ c .before .before .before .before .before .before .before .before .before .before .before .kind .given .1) (sym (c .before .before .before .before .before .before .before .before .before .read-field2 .ensures) ∙ c .before .before .before .before .before .before .before .a .given .1) (sym (c .before .before .before .before .before .read-field3 .ensures) ∙ c .before .before .before .b .given .1)) (c .before .if1 .taken) (c .if2 .taken)
+returns-4 c = (stuck-outside (now (c .before .before .before .before .before .before .before .before .before .before .before .before .before .before .before .args .s)) (c .before .before .before .before .before .before .before .before .before .before .before .before .before .before .before .args .at) (c .before .before .before .before .before .before .before .before .before .before .before .before .before .before .before .args .inputs) (c .before .before .before .before .before .before .before .before .before .before .before .before .before .before .before .args .lines) (entry-read (now (c .before .before .before .before .before .before .before .before .before .before .before .before .before .before .before .args .s)) (c .before .before .before .before .before .before .before .before .before .before .before .before .before .before .before .args .at) 2 (sym (c .before .before .before .before .before .before .before .before .before .before .before .before .before .read-field .ensures) ∙ c .before .before .before .before .before .before .before .before .before .before .before .kind .given .1) (sym (c .before .before .before .before .before .before .before .before .before .read-field2 .ensures) ∙ c .before .before .before .before .before .before .before .a .given .1) (sym (c .before .before .before .before .before .read-field3 .ensures) ∙ c .before .before .before .b .given .1)) (c .before .if1 .taken) (c .if2 .taken), zero≤)
 
 returns-5 : tie.Need-returns-5
 unfolding faultKindBits lineBits
-returns-5 c = stuck-unlike (now (c .before .before .before .before .before .before .before .before .before .before .before .before .before .before .before .before .args .s)) (c .before .before .before .before .before .before .before .before .before .before .before .before .before .before .before .before .args .at) (c .before .before .before .before .before .before .before .before .before .before .before .before .before .before .before .before .args .inputs) (c .before .before .before .before .before .before .before .before .before .before .before .before .before .before .before .before .args .lines) (entry-read (now (c .before .before .before .before .before .before .before .before .before .before .before .before .before .before .before .before .args .s)) (c .before .before .before .before .before .before .before .before .before .before .before .before .before .before .before .before .args .at) 2 (sym (c .before .before .before .before .before .before .before .before .before .before .before .before .before .before .read-field .ensures) ∙ c .before .before .before .before .before .before .before .before .before .before .before .before .kind .given .1) (sym (c .before .before .before .before .before .before .before .before .before .before .read-field2 .ensures) ∙ c .before .before .before .before .before .before .before .before .a .given .1) (sym (c .before .before .before .before .before .before .read-field3 .ensures) ∙ c .before .before .before .before .b .given .1)) (c .before .before .if1 .taken) (c .before .if2 .left) (c .if3 .taken)
+returns-5 c = (stuck-unlike (now (c .before .before .before .before .before .before .before .before .before .before .before .before .before .before .before .before .args .s)) (c .before .before .before .before .before .before .before .before .before .before .before .before .before .before .before .before .args .at) (c .before .before .before .before .before .before .before .before .before .before .before .before .before .before .before .before .args .inputs) (c .before .before .before .before .before .before .before .before .before .before .before .before .before .before .before .before .args .lines) (entry-read (now (c .before .before .before .before .before .before .before .before .before .before .before .before .before .before .before .before .args .s)) (c .before .before .before .before .before .before .before .before .before .before .before .before .before .before .before .before .args .at) 2 (sym (c .before .before .before .before .before .before .before .before .before .before .before .before .before .before .read-field .ensures) ∙ c .before .before .before .before .before .before .before .before .before .before .before .before .kind .given .1) (sym (c .before .before .before .before .before .before .before .before .before .before .read-field2 .ensures) ∙ c .before .before .before .before .before .before .before .before .a .given .1) (sym (c .before .before .before .before .before .before .read-field3 .ensures) ∙ c .before .before .before .before .b .given .1)) (c .before .before .if1 .taken) (c .before .if2 .left) (c .if3 .taken), zero≤)
 
 cast-fault-of : tie.Need-cast-fault-of
 cast-fault-of c = omega (arith, field-lt (now (c .before .before .before .before .before .before .before .before .before .before .before .before .before .before .before .before .args .s)) _ 7 _ _ (sym (c .before .before .before .before .before .before .before .before .before .before .read-field2 .ensures) ∙ c .before .before .before .before .before .before .before .before .a .given .1))
@@ -69,19 +69,19 @@ fault-of-requires c κs = search needs
 
 returns-6 : tie.Need-returns-6
 unfolding faultKindBits lineBits
-returns-6 c = stuck-found (now (c .before .before .before .before .before .before .before .before .before .before .before .before .before .before .before .before .before .args .s)) (c .before .before .before .before .before .before .before .before .before .before .before .before .before .before .before .before .before .args .at) (c .before .before .before .before .before .before .before .before .before .before .before .before .before .before .before .before .before .args .inputs) (c .before .before .before .before .before .before .before .before .before .before .before .before .before .before .before .before .before .args .lines) (entry-read (now (c .before .before .before .before .before .before .before .before .before .before .before .before .before .before .before .before .before .args .s)) (c .before .before .before .before .before .before .before .before .before .before .before .before .before .before .before .before .before .args .at) 2 (sym (c .before .before .before .before .before .before .before .before .before .before .before .before .before .before .before .read-field .ensures) ∙ c .before .before .before .before .before .before .before .before .before .before .before .before .before .kind .given .1) (sym (c .before .before .before .before .before .before .before .before .before .before .before .read-field2 .ensures) ∙ c .before .before .before .before .before .before .before .before .before .a .given .1) (sym (c .before .before .before .before .before .before .before .read-field3 .ensures) ∙ c .before .before .before .before .before .b .given .1)) (c .before .before .before .if1 .taken) (c .before .before .if2 .left) (c .before .if3 .left) (c .fault-of .ensures)
+returns-6 c = (stuck-found (now (c .before .before .before .before .before .before .before .before .before .before .before .before .before .before .before .before .before .args .s)) (c .before .before .before .before .before .before .before .before .before .before .before .before .before .before .before .before .before .args .at) (c .before .before .before .before .before .before .before .before .before .before .before .before .before .before .before .before .before .args .inputs) (c .before .before .before .before .before .before .before .before .before .before .before .before .before .before .before .before .before .args .lines) (entry-read (now (c .before .before .before .before .before .before .before .before .before .before .before .before .before .before .before .before .before .args .s)) (c .before .before .before .before .before .before .before .before .before .before .before .before .before .before .before .before .before .args .at) 2 (sym (c .before .before .before .before .before .before .before .before .before .before .before .before .before .before .before .read-field .ensures) ∙ c .before .before .before .before .before .before .before .before .before .before .before .before .before .kind .given .1) (sym (c .before .before .before .before .before .before .before .before .before .before .before .read-field2 .ensures) ∙ c .before .before .before .before .before .before .before .before .before .a .given .1) (sym (c .before .before .before .before .before .before .before .read-field3 .ensures) ∙ c .before .before .before .before .before .b .given .1)) (c .before .before .before .if1 .taken) (c .before .before .if2 .left) (c .before .if3 .left) (c .fault-of .ensures), entry-end (now (c .before .before .before .before .before .before .before .before .before .before .before .before .before .before .before .before .before .args .s)) (c .before .before .before .before .before .before .before .before .before .before .before .before .before .before .before .before .before .args .at) 2 (sym (c .before .before .before .before .before .before .before .before .before .before .before .before .before .before .before .read-field .ensures) ∙ c .before .before .before .before .before .before .before .before .before .before .before .before .before .kind .given .1) (sym (c .before .before .before .before .before .before .before .before .before .before .before .read-field2 .ensures) ∙ c .before .before .before .before .before .before .before .before .before .a .given .1) (sym (c .before .before .before .before .before .before .before .read-field3 .ensures) ∙ c .before .before .before .before .before .b .given .1))
 
 returns-7 : tie.Need-returns-7
 unfolding faultKindBits lineBits
-returns-7 c = bridge-outside (now (c .before .before .before .before .before .before .before .before .before .before .before .before .before .before .before .args .s)) (c .before .before .before .before .before .before .before .before .before .before .before .before .before .before .before .args .at) (c .before .before .before .before .before .before .before .before .before .before .before .before .before .before .before .args .inputs) (c .before .before .before .before .before .before .before .before .before .before .before .before .before .before .before .args .lines) (entry-read (now (c .before .before .before .before .before .before .before .before .before .before .before .before .before .before .before .args .s)) (c .before .before .before .before .before .before .before .before .before .before .before .before .before .before .before .args .at) 2 (sym (c .before .before .before .before .before .before .before .before .before .before .before .before .before .read-field .ensures) ∙ c .before .before .before .before .before .before .before .before .before .before .before .kind .given .1) (sym (c .before .before .before .before .before .before .before .before .before .read-field2 .ensures) ∙ c .before .before .before .before .before .before .before .a .given .1) (sym (c .before .before .before .before .before .read-field3 .ensures) ∙ c .before .before .before .b .given .1)) (c .before .if1 .left) (c .if4 .taken)
+returns-7 c = (bridge-outside (now (c .before .before .before .before .before .before .before .before .before .before .before .before .before .before .before .args .s)) (c .before .before .before .before .before .before .before .before .before .before .before .before .before .before .before .args .at) (c .before .before .before .before .before .before .before .before .before .before .before .before .before .before .before .args .inputs) (c .before .before .before .before .before .before .before .before .before .before .before .before .before .before .before .args .lines) (entry-read (now (c .before .before .before .before .before .before .before .before .before .before .before .before .before .before .before .args .s)) (c .before .before .before .before .before .before .before .before .before .before .before .before .before .before .before .args .at) 2 (sym (c .before .before .before .before .before .before .before .before .before .before .before .before .before .read-field .ensures) ∙ c .before .before .before .before .before .before .before .before .before .before .before .kind .given .1) (sym (c .before .before .before .before .before .before .before .before .before .read-field2 .ensures) ∙ c .before .before .before .before .before .before .before .a .given .1) (sym (c .before .before .before .before .before .read-field3 .ensures) ∙ c .before .before .before .b .given .1)) (c .before .if1 .left) (c .if4 .taken), zero≤)
 
 returns-8 : tie.Need-returns-8
 unfolding faultKindBits lineBits
-returns-8 c = bridge-above (now (c .before .before .before .before .before .before .before .before .before .before .before .before .before .before .before .before .args .s)) (c .before .before .before .before .before .before .before .before .before .before .before .before .before .before .before .before .args .at) (c .before .before .before .before .before .before .before .before .before .before .before .before .before .before .before .before .args .inputs) (c .before .before .before .before .before .before .before .before .before .before .before .before .before .before .before .before .args .lines) (entry-read (now (c .before .before .before .before .before .before .before .before .before .before .before .before .before .before .before .before .args .s)) (c .before .before .before .before .before .before .before .before .before .before .before .before .before .before .before .before .args .at) 2 (sym (c .before .before .before .before .before .before .before .before .before .before .before .before .before .before .read-field .ensures) ∙ c .before .before .before .before .before .before .before .before .before .before .before .before .kind .given .1) (sym (c .before .before .before .before .before .before .before .before .before .before .read-field2 .ensures) ∙ c .before .before .before .before .before .before .before .before .a .given .1) (sym (c .before .before .before .before .before .before .read-field3 .ensures) ∙ c .before .before .before .before .b .given .1)) (c .before .before .if1 .left) (c .before .if4 .left) (c .if5 .taken)
+returns-8 c = (bridge-above (now (c .before .before .before .before .before .before .before .before .before .before .before .before .before .before .before .before .args .s)) (c .before .before .before .before .before .before .before .before .before .before .before .before .before .before .before .before .args .at) (c .before .before .before .before .before .before .before .before .before .before .before .before .before .before .before .before .args .inputs) (c .before .before .before .before .before .before .before .before .before .before .before .before .before .before .before .before .args .lines) (entry-read (now (c .before .before .before .before .before .before .before .before .before .before .before .before .before .before .before .before .args .s)) (c .before .before .before .before .before .before .before .before .before .before .before .before .before .before .before .before .args .at) 2 (sym (c .before .before .before .before .before .before .before .before .before .before .before .before .before .before .read-field .ensures) ∙ c .before .before .before .before .before .before .before .before .before .before .before .before .kind .given .1) (sym (c .before .before .before .before .before .before .before .before .before .before .read-field2 .ensures) ∙ c .before .before .before .before .before .before .before .before .a .given .1) (sym (c .before .before .before .before .before .before .read-field3 .ensures) ∙ c .before .before .before .before .b .given .1)) (c .before .before .if1 .left) (c .before .if4 .left) (c .if5 .taken), zero≤)
 
 returns-9 : tie.Need-returns-9
 unfolding faultKindBits lineBits
-returns-9 c = bridge-order (now (c .before .before .before .before .before .before .before .before .before .before .before .before .before .before .before .before .before .args .s)) (c .before .before .before .before .before .before .before .before .before .before .before .before .before .before .before .before .before .args .at) (c .before .before .before .before .before .before .before .before .before .before .before .before .before .before .before .before .before .args .inputs) (c .before .before .before .before .before .before .before .before .before .before .before .before .before .before .before .before .before .args .lines) (entry-read (now (c .before .before .before .before .before .before .before .before .before .before .before .before .before .before .before .before .before .args .s)) (c .before .before .before .before .before .before .before .before .before .before .before .before .before .before .before .before .before .args .at) 2 (sym (c .before .before .before .before .before .before .before .before .before .before .before .before .before .before .before .read-field .ensures) ∙ c .before .before .before .before .before .before .before .before .before .before .before .before .before .kind .given .1) (sym (c .before .before .before .before .before .before .before .before .before .before .before .read-field2 .ensures) ∙ c .before .before .before .before .before .before .before .before .before .a .given .1) (sym (c .before .before .before .before .before .before .before .read-field3 .ensures) ∙ c .before .before .before .before .before .b .given .1)) (c .before .before .before .if1 .left) (c .before .before .if4 .left) (c .before .if5 .left) (c .if6 .taken)
+returns-9 c = (bridge-order (now (c .before .before .before .before .before .before .before .before .before .before .before .before .before .before .before .before .before .args .s)) (c .before .before .before .before .before .before .before .before .before .before .before .before .before .before .before .before .before .args .at) (c .before .before .before .before .before .before .before .before .before .before .before .before .before .before .before .before .before .args .inputs) (c .before .before .before .before .before .before .before .before .before .before .before .before .before .before .before .before .before .args .lines) (entry-read (now (c .before .before .before .before .before .before .before .before .before .before .before .before .before .before .before .before .before .args .s)) (c .before .before .before .before .before .before .before .before .before .before .before .before .before .before .before .before .before .args .at) 2 (sym (c .before .before .before .before .before .before .before .before .before .before .before .before .before .before .before .read-field .ensures) ∙ c .before .before .before .before .before .before .before .before .before .before .before .before .before .kind .given .1) (sym (c .before .before .before .before .before .before .before .before .before .before .before .read-field2 .ensures) ∙ c .before .before .before .before .before .before .before .before .before .a .given .1) (sym (c .before .before .before .before .before .before .before .read-field3 .ensures) ∙ c .before .before .before .before .before .b .given .1)) (c .before .before .before .if1 .left) (c .before .before .if4 .left) (c .before .if5 .left) (c .if6 .taken), zero≤)
 
 cast-fault-of-3 : tie.Need-cast-fault-of-3
 cast-fault-of-3 c = omega (arith, field-lt (now (c .before .before .before .before .before .before .before .before .before .before .before .before .before .before .before .before .before .args .s)) _ 7 _ _ (sym (c .before .before .before .before .before .before .before .before .before .before .before .read-field2 .ensures) ∙ c .before .before .before .before .before .before .before .before .before .a .given .1))
@@ -94,7 +94,7 @@ fault-of-requires-2 c κs = search needs
 
 returns-10 : tie.Need-returns-10
 unfolding faultKindBits lineBits
-returns-10 c = bridge-found (now (c .before .before .before .before .before .before .before .before .before .before .before .before .before .before .before .before .before .before .args .s)) (c .before .before .before .before .before .before .before .before .before .before .before .before .before .before .before .before .before .before .args .at) (c .before .before .before .before .before .before .before .before .before .before .before .before .before .before .before .before .before .before .args .inputs) (c .before .before .before .before .before .before .before .before .before .before .before .before .before .before .before .before .before .before .args .lines) (entry-read (now (c .before .before .before .before .before .before .before .before .before .before .before .before .before .before .before .before .before .before .args .s)) (c .before .before .before .before .before .before .before .before .before .before .before .before .before .before .before .before .before .before .args .at) 2 (sym (c .before .before .before .before .before .before .before .before .before .before .before .before .before .before .before .before .read-field .ensures) ∙ c .before .before .before .before .before .before .before .before .before .before .before .before .before .before .kind .given .1) (sym (c .before .before .before .before .before .before .before .before .before .before .before .before .read-field2 .ensures) ∙ c .before .before .before .before .before .before .before .before .before .before .a .given .1) (sym (c .before .before .before .before .before .before .before .before .read-field3 .ensures) ∙ c .before .before .before .before .before .before .b .given .1)) (c .before .before .before .before .if1 .left) (c .before .before .before .if4 .left) (c .before .before .if5 .left) (c .before .if6 .left) (c .fault-of2 .ensures)
+returns-10 c = (bridge-found (now (c .before .before .before .before .before .before .before .before .before .before .before .before .before .before .before .before .before .before .args .s)) (c .before .before .before .before .before .before .before .before .before .before .before .before .before .before .before .before .before .before .args .at) (c .before .before .before .before .before .before .before .before .before .before .before .before .before .before .before .before .before .before .args .inputs) (c .before .before .before .before .before .before .before .before .before .before .before .before .before .before .before .before .before .before .args .lines) (entry-read (now (c .before .before .before .before .before .before .before .before .before .before .before .before .before .before .before .before .before .before .args .s)) (c .before .before .before .before .before .before .before .before .before .before .before .before .before .before .before .before .before .before .args .at) 2 (sym (c .before .before .before .before .before .before .before .before .before .before .before .before .before .before .before .before .read-field .ensures) ∙ c .before .before .before .before .before .before .before .before .before .before .before .before .before .before .kind .given .1) (sym (c .before .before .before .before .before .before .before .before .before .before .before .before .read-field2 .ensures) ∙ c .before .before .before .before .before .before .before .before .before .before .a .given .1) (sym (c .before .before .before .before .before .before .before .before .read-field3 .ensures) ∙ c .before .before .before .before .before .before .b .given .1)) (c .before .before .before .before .if1 .left) (c .before .before .before .if4 .left) (c .before .before .if5 .left) (c .before .if6 .left) (c .fault-of2 .ensures), entry-end (now (c .before .before .before .before .before .before .before .before .before .before .before .before .before .before .before .before .before .before .args .s)) (c .before .before .before .before .before .before .before .before .before .before .before .before .before .before .before .before .before .before .args .at) 2 (sym (c .before .before .before .before .before .before .before .before .before .before .before .before .before .before .before .before .read-field .ensures) ∙ c .before .before .before .before .before .before .before .before .before .before .before .before .before .before .kind .given .1) (sym (c .before .before .before .before .before .before .before .before .before .before .before .before .read-field2 .ensures) ∙ c .before .before .before .before .before .before .before .before .before .before .a .given .1) (sym (c .before .before .before .before .before .before .before .before .read-field3 .ensures) ∙ c .before .before .before .before .before .before .b .given .1))
 
 pub read-fault-spec : {M : Type 1} → statement M
 read-fault-spec =

@@ -2,7 +2,7 @@
 use native.Mathlib.Omega.{arith}
 use mathlib.Core.Path.{refl, sym, _∙_}
 use denote.Ref.{now}
-use Rattle.bits.proofs.Fields.{field-value, field-cut, field-lt}
+use Rattle.bits.proofs.Fields.{field-value, field-cut, field-lt, field-near}
 use Rattle.job.specs.Layout.{faultCountBits, maxFaults}
 use Rattle.reading.specs.Reading.{fromFaultCount}
 use borrow.Author.Needs.{needs}
@@ -23,14 +23,14 @@ refused-requires c κs = search needs
 
 returns : tie.Need-returns
 unfolding fromFaultCount faultCountBits
-returns c = c .refused .ensures ∙ simp (field-cut (now (c .before .before .before .before .before .args .s)) _ 6 refl (sym (c .before .before .before .read-field .ensures) ∙ c .before .enum-told .given .1))
+returns c = c .refused .ensures ∙ simp (field-cut (now (c .before .before .before .before .before .args .s)) _ 6 refl (omega (arith, c .before .before .before .before .before .pre)) (sym (c .before .before .before .read-field .ensures) ∙ c .before .enum-told .given .1))
 
 cast-job : tie.Need-cast-job
 cast-job c = omega (arith, field-lt (now (c .before .before .before .before .before .args .s)) _ 6 _ _ (sym (c .before .before .before .read-field .ensures) ∙ c .before .f .given .1))
 
 read-faults-requires : tie.Need-read-faults-requires
 unfolding maxFaults
-read-faults-requires c κs = omega (arith, field-lt (now (c .before .before .before .before .before .args .s)) _ 6 _ _ (sym (c .before .before .before .read-field .ensures) ∙ c .before .f .given .1))
+read-faults-requires c κs = (omega (arith, field-lt (now (c .before .before .before .before .before .args .s)) _ 6 _ _ (sym (c .before .before .before .read-field .ensures) ∙ c .before .f .given .1)), omega (arith, c .before .before .before .before .before .pre, field-near (now (c .before .before .before .before .before .args .s)) _ 6 _ _ (sym (c .before .before .before .read-field .ensures) ∙ c .before .f .given .1)))
 
 returns-2 : tie.Need-returns-2
 unfolding fromFaultCount faultCountBits

@@ -2,24 +2,24 @@
 use borrow.Author.Needs.{needs, zero≤}
 use native.Mathlib.Omega.{arith}
 use native.Mathlib.Nat.{sub-zero}
-use Prim.Native.Nat.{ℕ, _-_, _≤_}
+use Prim.Native.Nat.{ℕ, _*_, _+_, _-_, _≤_}
 use mathlib.Core.Path.{_≡_, refl, sym, ap, _∙_}
 use denote.Ref.{now}
 use lib.ListN.{set}
 use Rattle.bits.specs.Answer.{Answer}
-use Rattle.bits.specs.Field.{from}
+use Rattle.bits.specs.Field.{from, maxWidth}
 use Rattle.bits.specs.Parser.{Parsed}
 use Rattle.job.specs.declared.Job.{Job}
 use Rattle.job.specs.Layout.{maxFaults}
 use Rattle.job.specs.Record.{lines}
 use Rattle.reading.specs.Reading.{fault, entriesFrom, withFaults, valueRead}
-use Rattle.reading.specs.Told.{due, faultTold}
+use Rattle.reading.specs.Told.{due, faultTold, faultEnd}
 use Rattle.reading.proofs.Entries.{entries-end, entries-stop, entries-next, fromFaults-stop, fromFaults-done}
 use Rattle.reading.proofs.read_faults.Statement.{statement}
 use Rattle.reading.proofs.read_faults.Tie as tie
 
 abbrev Inv-loop : tie.InvT-loop
-Inv-loop s n lines f job₀ c₀ i₀ job c i = (i ≤ f) × ((entriesFrom (λ k. fault n lines) f 0 (job₀ .faults) (from s c₀) ≡ entriesFrom (λ k. fault n lines) (f - i) i (job .faults) (from s c)) × (withFaults job₀ (job .faults) ≡ job))
+Inv-loop s n lines f job₀ c₀ i₀ job c i = (i ≤ f) × (c .bit ≤ c₀ .bit + 3 * maxWidth * i) × ((entriesFrom (λ k. fault n lines) f 0 (job₀ .faults) (from s c₀) ≡ entriesFrom (λ k. fault n lines) (f - i) i (job .faults) (from s c)) × (withFaults job₀ (job .faults) ≡ job))
 
 abbrev μ-loop : tie.MeasureT-loop
 μ-loop s n lines f job₀ c₀ i₀ job c i = f - i
@@ -37,10 +37,10 @@ cast-f : tie.Need-cast-f Inv-loop μ-loop
 cast-f c = search needs
 
 loop-holds : tie.Need-loop-holds Inv-loop μ-loop
-loop-holds c = (zero≤, (ap (λ (k : ℕ). entriesFrom (λ i. fault (c .before .before .before .before .args .before .inputs) (lines (c .before .before .before .before .args .before))) k 0 (c .before .before .before .before .args .before .faults) (from (now (c .before .before .before .before .args .s)) (c .before .before .before .before .args .at))) (sym (sub-zero (c .before .before .before .before .args .before .«fault_count»))), refl))
+loop-holds c = (zero≤, omega arith, (ap (λ (k : ℕ). entriesFrom (λ i. fault (c .before .before .before .before .args .before .inputs) (lines (c .before .before .before .before .args .before))) k 0 (c .before .before .before .before .args .before .faults) (from (now (c .before .before .before .before .args .s)) (c .before .before .before .before .args .at))) (sym (sub-zero (c .before .before .before .before .args .before .«fault_count»))), refl))
 
 read-fault-requires : tie.Need-read-fault-requires Inv-loop μ-loop
-read-fault-requires c κs = tt
+read-fault-requires c κs = omega (arith, c .before .loop .inv .1, c .before .loop .inv .0, c .loop-test .taken, c .before .before .before .before .before .before .pre .0, c .before .before .before .before .before .before .pre .1)
 
 enum-known-fault : tie.Need-enum-known-fault Inv-loop μ-loop
 enum-known-fault c = search needs
@@ -60,7 +60,7 @@ refused-requires : tie.Need-refused-requires Inv-loop μ-loop
 refused-requires c κs = tt
 
 returns : tie.Need-returns Inv-loop μ-loop
-returns c = c .refused .ensures ∙ ap (λ (x : Answer (Parsed Job)). due (valueRead x)) (sym (fromFaults-stop (c .before .before .before .before .before .before .before .before .before .before .before .args .before) (from (now (c .before .before .before .before .before .before .before .before .before .before .before .args .s)) (c .before .before .before .before .before .before .before .before .before .before .before .args .at)) (c .before .before .before .before .before .before .loop .inv .1 .0 ∙ entries-stop (λ i. fault (c .before .before .before .before .before .before .before .before .before .before .before .args .before .inputs) (lines (c .before .before .before .before .before .before .before .before .before .before .before .args .before))) (c .before .before .before .before .before .before .before .before .before .before .before .args .before .«fault_count») (c .before .before .before .before .before .before .loop .i) (c .before .before .before .before .before .before .loop .job .faults) (from (now (c .before .before .before .before .before .before .before .before .before .before .before .args .s)) (c .before .before .before .before .before .before .loop .c)) (c .before .before .before .before .before .loop-test .taken) (sym (c .before .before .before .before .read-fault .ensures) ∙ ap (faultTold (now (c .before .before .before .before .before .before .before .before .before .before .before .args .s))) (c .before .before .cause .given .1)))))
+returns c = c .refused .ensures ∙ ap (λ (x : Answer (Parsed Job)). due (valueRead x)) (sym (fromFaults-stop (c .before .before .before .before .before .before .before .before .before .before .before .args .before) (from (now (c .before .before .before .before .before .before .before .before .before .before .before .args .s)) (c .before .before .before .before .before .before .before .before .before .before .before .args .at)) (c .before .before .before .before .before .before .loop .inv .2 .0 ∙ entries-stop (λ i. fault (c .before .before .before .before .before .before .before .before .before .before .before .args .before .inputs) (lines (c .before .before .before .before .before .before .before .before .before .before .before .args .before))) (c .before .before .before .before .before .before .before .before .before .before .before .args .before .«fault_count») (c .before .before .before .before .before .before .loop .i) (c .before .before .before .before .before .before .loop .job .faults) (from (now (c .before .before .before .before .before .before .before .before .before .before .before .args .s)) (c .before .before .before .before .before .before .loop .c)) (c .before .before .before .before .before .loop-test .taken) (sym (c .before .before .before .before .read-fault .ensures .0) ∙ ap (faultTold (now (c .before .before .before .before .before .before .before .before .before .before .before .args .s))) (c .before .before .cause .given .1)))))
 
 add-i : tie.Need-add-i Inv-loop μ-loop
 unfolding maxFaults
@@ -70,13 +70,13 @@ loop-less : tie.Need-loop-less Inv-loop μ-loop
 loop-less c = omega arith
 
 loop-again : tie.Need-loop-again Inv-loop μ-loop
-loop-again c = (omega arith, (c .before .before .before .before .before .loop .inv .1 .0 ∙ entries-next (λ i. fault (c .before .before .before .before .before .before .before .before .before .before .args .before .inputs) (lines (c .before .before .before .before .before .before .before .before .before .before .args .before))) (c .before .before .before .before .before .before .before .before .before .before .args .before .«fault_count») (c .before .before .before .before .before .loop .i) (c .before .before .before .before .before .loop .job .faults) (from (now (c .before .before .before .before .before .before .before .before .before .before .args .s)) (c .before .before .before .before .before .loop .c)) (c .before .before .before .before .loop-test .taken) (sym (c .before .before .before .read-fault .ensures) ∙ ap (faultTold (now (c .before .before .before .before .before .before .before .before .before .before .args .s))) (c .before .fault .given .1)), ap (λ (x : Job). withFaults x (set (c .before .before .before .before .before .loop .job .faults) (c .before .before .before .before .before .loop .i) (record { fault = c .before .fault .given .0 .0 }))) (c .before .before .before .before .before .loop .inv .1 .1)))
+loop-again c = (omega arith, omega (arith, c .before .before .before .before .before .loop .inv .1, c .before .before .before .read-fault .ensures .1, ap faultEnd (c .before .fault .given .1)), (c .before .before .before .before .before .loop .inv .2 .0 ∙ entries-next (λ i. fault (c .before .before .before .before .before .before .before .before .before .before .args .before .inputs) (lines (c .before .before .before .before .before .before .before .before .before .before .args .before))) (c .before .before .before .before .before .before .before .before .before .before .args .before .«fault_count») (c .before .before .before .before .before .loop .i) (c .before .before .before .before .before .loop .job .faults) (from (now (c .before .before .before .before .before .before .before .before .before .before .args .s)) (c .before .before .before .before .before .loop .c)) (c .before .before .before .before .loop-test .taken) (sym (c .before .before .before .read-fault .ensures .0) ∙ ap (faultTold (now (c .before .before .before .before .before .before .before .before .before .before .args .s))) (c .before .fault .given .1)), ap (λ (x : Job). withFaults x (set (c .before .before .before .before .before .loop .job .faults) (c .before .before .before .before .before .loop .i) (record { fault = c .before .fault .given .0 .0 }))) (c .before .before .before .before .before .loop .inv .2 .1)))
 
 read-end-requires : tie.Need-read-end-requires Inv-loop μ-loop
 read-end-requires c κs = tt
 
 returns-2 : tie.Need-returns-2 Inv-loop μ-loop
-returns-2 c = c .read-end .ensures ∙ ap (λ (x : Answer (Parsed Job)). due (valueRead x)) (sym (fromFaults-done (c .before .before .before .before .before .before .before .args .before) (from (now (c .before .before .before .before .before .before .before .args .s)) (c .before .before .before .before .before .before .before .args .at)) (c .before .before .loop .job) (from (now (c .before .before .before .before .before .before .before .args .s)) (c .before .before .loop .c)) (c .before .before .loop .inv .1 .0 ∙ entries-end (λ i. fault (c .before .before .before .before .before .before .before .args .before .inputs) (lines (c .before .before .before .before .before .before .before .args .before))) (c .before .before .before .before .before .before .before .args .before .«fault_count») (c .before .before .loop .i) (c .before .before .loop .job .faults) (from (now (c .before .before .before .before .before .before .before .args .s)) (c .before .before .loop .c)) (c .before .loop-test .left)) (c .before .before .loop .inv .1 .1)))
+returns-2 c = c .read-end .ensures ∙ ap (λ (x : Answer (Parsed Job)). due (valueRead x)) (sym (fromFaults-done (c .before .before .before .before .before .before .before .args .before) (from (now (c .before .before .before .before .before .before .before .args .s)) (c .before .before .before .before .before .before .before .args .at)) (c .before .before .loop .job) (from (now (c .before .before .before .before .before .before .before .args .s)) (c .before .before .loop .c)) (c .before .before .loop .inv .2 .0 ∙ entries-end (λ i. fault (c .before .before .before .before .before .before .before .args .before .inputs) (lines (c .before .before .before .before .before .before .before .args .before))) (c .before .before .before .before .before .before .before .args .before .«fault_count») (c .before .before .loop .i) (c .before .before .loop .job .faults) (from (now (c .before .before .before .before .before .before .before .args .s)) (c .before .before .loop .c)) (c .before .loop-test .left)) (c .before .before .loop .inv .2 .1)))
 
 pub read-faults-spec : {M : Type 1} → statement M
 read-faults-spec =

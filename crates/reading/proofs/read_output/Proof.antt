@@ -3,7 +3,7 @@ use native.Mathlib.Omega.{arith}
 use mathlib.Core.Path.{refl, sym, _∙_}
 use denote.Ref.{now}
 use borrow.Author.Tests.{lt-ltb, le-ltb}
-use Rattle.bits.proofs.Fields.{field-value, field-cut, field-lt}
+use Rattle.bits.proofs.Fields.{field-value, field-cut, field-lt, field-near}
 use Rattle.job.specs.Layout.{lineBits}
 use Rattle.reading.specs.Reading.{fromOutput}
 use borrow.Author.Needs.{needs}
@@ -24,7 +24,7 @@ refused-requires c κs = search needs
 
 returns : tie.Need-returns
 unfolding fromOutput lineBits
-returns c = c .refused .ensures ∙ simp (field-cut (now (c .before .before .before .before .before .args .s)) _ 7 refl (sym (c .before .before .before .read-field .ensures) ∙ c .before .enum-told .given .1))
+returns c = c .refused .ensures ∙ simp (field-cut (now (c .before .before .before .before .before .args .s)) _ 7 refl (omega (arith, c .before .before .before .before .before .pre)) (sym (c .before .before .before .read-field .ensures) ∙ c .before .enum-told .given .1))
 
 cast-if1 : tie.Need-cast-if1
 cast-if1 c = search needs
@@ -46,7 +46,7 @@ cast-job : tie.Need-cast-job
 cast-job c = omega (arith, field-lt (now (c .before .before .before .before .before .before .before .before .args .s)) _ 7 _ _ (sym (c .before .before .before .before .before .before .read-field .ensures) ∙ c .before .before .before .before .line .given .1))
 
 read-fault-count-requires : tie.Need-read-fault-count-requires
-read-fault-count-requires c κs = search needs
+read-fault-count-requires c κs = omega (arith, c .before .before .before .before .before .before .before .before .pre, field-near (now (c .before .before .before .before .before .before .before .before .args .s)) _ 7 _ _ (sym (c .before .before .before .before .before .before .read-field .ensures) ∙ c .before .before .before .before .line .given .1))
 
 returns-3 : tie.Need-returns-3
 unfolding fromOutput lineBits
