@@ -73,12 +73,12 @@ pub fn told_together(
     left: &[u8],
     seen: &mut [u8],
     stamp: u8,
-    rising: bool,
+    rise: bool,
 ) -> bool
-    requires { ⌜ SomeBoth (now marks) (now labels) (now pending) (now others) (now left) × (length (now seen) ≡ maxRows * maxRows) × Fresh stamp (now seen) × (rising ≡ true → Rise (now marks)) ⌝ }
+    requires { ⌜ SomeBoth (now marks) (now labels) (now pending) (now others) (now left) × (length (now seen) ≡ maxRows * maxRows) × Fresh stamp (now seen) × (rise ≡ true → Rise (now marks)) ⌝ }
     ensures { λ r. ⌜ (r ≡ not (someOf (strayBy (lowestOf (now (labels .entry)) (valueIn (now (others .entry)))) (now (marks .entry))) (now (pending .entry)))) × Fresh (stamp + 1) (now (seen .exit)) ⌝ }
 {
-    if rising {
+    if rise {
         return crate::telling::told_by_fewer(labels, pending, others, left, seen, stamp);
     }
     told_by_marks(marks, labels, pending, others)

@@ -163,12 +163,12 @@ pub fn part(
     pending: &mut [u8],
     count: usize,
     entry: usize,
-    rising: bool,
+    rise: bool,
 ) -> usize
-    requires { ⌜ SomeReady (now work) width (now marks) (now labels) (take count (now pending)) × (entry < width) × (count ≤ maxRows) × (length (now labels) ≡ maxRows) × (length (now pending) ≡ maxRows) × (rising ≡ true → Rise (now marks)) ⌝ }
+    requires { ⌜ SomeReady (now work) width (now marks) (now labels) (take count (now pending)) × (entry < width) × (count ≤ maxRows) × (length (now labels) ≡ maxRows) × (length (now pending) ≡ maxRows) × (rise ≡ true → Rise (now marks)) ⌝ }
     ensures { λ r. ⌜ Parts (now (work .entry)) width (now (marks .entry)) entry (now (labels .entry)) (take count (now (pending .entry))) (now (labels .exit)) (now (pending .exit)) r ⌝ }
 {
-    if rising {
+    if rise {
         return relabel(work, width, labels, pending, count, entry);
     }
     refine_and_settle(work, width, marks, labels, pending, count, entry)

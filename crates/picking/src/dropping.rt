@@ -31,9 +31,9 @@ fn told_at(
     left: &[u8],
     rest: usize,
     noted: &mut [u8],
-    rising: bool,
+    rise: bool,
 ) -> bool
-    requires { ⌜ SomeBoth (now marks) (slot level (now labels)) (take count (slot level (now pending))) (now others) (take rest (now left)) × (rest ≤ length (now left)) × (count ≤ maxRows) × (level < maxRows) × (length (now labels) ≡ maxRows * maxRows) × (length (now pending) ≡ maxRows * maxRows) × (length (now noted) ≡ maxRows * maxRows) × Fresh (maxRows - level) (now noted) × (rising ≡ true → Rise (now marks)) ⌝ }
+    requires { ⌜ SomeBoth (now marks) (slot level (now labels)) (take count (slot level (now pending))) (now others) (take rest (now left)) × (rest ≤ length (now left)) × (count ≤ maxRows) × (level < maxRows) × (length (now labels) ≡ maxRows * maxRows) × (length (now pending) ≡ maxRows * maxRows) × (length (now noted) ≡ maxRows * maxRows) × Fresh (maxRows - level) (now noted) × (rise ≡ true → Rise (now marks)) ⌝ }
     ensures { λ r. ⌜ (r ≡ not (someOf (strayBy (lowestOf (slot level (now (labels .entry))) (valueIn (now (others .entry)))) (now (marks .entry))) (take count (slot level (now (pending .entry)))))) × Fresh (maxRows - level + 1) (now (noted .exit)) ⌝ }
 {
     let at = level * MAX_ROWS;
@@ -45,7 +45,7 @@ fn told_at(
         &left[..rest],
         noted,
         (MAX_ROWS - level) as u8,
-        rising,
+        rise,
     )
 }
 
@@ -59,9 +59,9 @@ fn keep(
     others: &mut [u8],
     left: &mut [u8],
     entries: &mut [u16],
-    rising: bool,
+    rise: bool,
 ) -> Kept
-    requires { ⌜ SomeReady (now work) width (now marks) (now others) (take (kept .pending) (now left)) × (entry < width) × (kept .pending ≤ maxRows) × (length (now others) ≡ maxRows) × (length (now left) ≡ maxRows) × (length (now entries) ≡ maxEntries) × (1 ≤ kept .start) × (kept .start ≤ maxEntries) × (rising ≡ true → Rise (now marks)) ⌝ }
+    requires { ⌜ SomeReady (now work) width (now marks) (now others) (take (kept .pending) (now left)) × (entry < width) × (kept .pending ≤ maxRows) × (length (now others) ≡ maxRows) × (length (now left) ≡ maxRows) × (length (now entries) ≡ maxEntries) × (1 ≤ kept .start) × (kept .start ≤ maxEntries) × (rise ≡ true → Rise (now marks)) ⌝ }
     ensures { λ r. ⌜ (r .start + 1 ≡ kept .start) × (drop (r .start) (now (entries .exit)) ≡ entry ∷ drop (kept .start) (now (entries .entry))) × Parts (now (work .entry)) width (now (marks .entry)) entry (now (others .entry)) (take (kept .pending) (now (left .entry))) (now (others .exit)) (now (left .exit)) (r .pending) ⌝ }
 {
     let pending = classes::settling::part(
@@ -72,7 +72,7 @@ fn keep(
         left,
         kept.pending,
         entry as usize,
-        rising,
+        rise,
     );
     let start = kept.start - 1;
     entries[start] = entry;
@@ -94,9 +94,9 @@ fn drop_at(
     left: &mut [u8],
     entries: &mut [u16],
     noted: &mut [u8],
-    rising: bool,
+    rise: bool,
 ) -> Kept
-    requires { ⌜ SomeDroppable (now work) width (now marks) level (slot level (now labels)) (slot level (now pending)) seen entry (kept .start) (now entries) (now others) (now left) (kept .pending) × (entry < width) × (level < maxRows) × (length (now labels) ≡ maxRows * maxRows) × (length (now pending) ≡ maxRows * maxRows) × (length (now others) ≡ maxRows) × (length (now left) ≡ maxRows) × (length (now entries) ≡ maxEntries) × (length (now noted) ≡ maxRows * maxRows) × Fresh (maxRows - level) (now noted) × (rising ≡ true → Rise (now marks)) ⌝ }
+    requires { ⌜ SomeDroppable (now work) width (now marks) level (slot level (now labels)) (slot level (now pending)) seen entry (kept .start) (now entries) (now others) (now left) (kept .pending) × (entry < width) × (level < maxRows) × (length (now labels) ≡ maxRows * maxRows) × (length (now pending) ≡ maxRows * maxRows) × (length (now others) ≡ maxRows) × (length (now left) ≡ maxRows) × (length (now entries) ≡ maxEntries) × (length (now noted) ≡ maxRows * maxRows) × Fresh (maxRows - level) (now noted) × (rise ≡ true → Rise (now marks)) ⌝ }
     ensures { λ r. ⌜ Drops (now (work .entry)) width (now (marks .entry)) level (slot level (now (labels .entry))) (slot level (now (pending .entry))) seen entry (kept .start) (now (entries .entry)) (now (others .entry)) (now (left .entry)) (kept .pending) (r .start) (now (entries .exit)) (now (others .exit)) (now (left .exit)) (r .pending) × Fresh (maxRows - level + 1) (now (noted .exit)) ⌝ }
 {
     if told_at(
@@ -109,21 +109,11 @@ fn drop_at(
         left,
         kept.pending,
         noted,
-        rising,
+        rise,
     ) {
         return kept;
     }
-    keep(
-        work,
-        width,
-        marks,
-        entry,
-        kept,
-        others,
-        left,
-        entries,
-        rising,
-    )
+    keep(work, width, marks, entry, kept, others, left, entries, rise)
 }
 
 // No entry is kept yet.
@@ -149,9 +139,8 @@ fn drop_all(
     entries: &mut [u16],
     noted: &mut [u8],
     count: usize,
-    rising: bool,
 ) -> usize
-    requires { ⌜ SomeDropping (now work) width (now marks) (take (taken .count) (taken .entries)) (taken .pending) (now labels) (now pending) (now others) (now left) count × (taken .count ≤ maxEntries) × (allBelow width (take (taken .count) (taken .entries)) ≡ true) × (length (now labels) ≡ maxRows * maxRows) × (length (now pending) ≡ maxRows * maxRows) × (length (now others) ≡ maxRows) × (length (now left) ≡ maxRows) × (length (now entries) ≡ maxEntries) × (length (now noted) ≡ maxRows * maxRows) × Fresh 1 (now noted) × (rising ≡ true → Rise (now marks)) ⌝ }
+    requires { ⌜ SomeDropping (now work) width (now marks) (take (taken .count) (taken .entries)) (taken .pending) (now labels) (now pending) (now others) (now left) count × (taken .count ≤ maxEntries) × (allBelow width (take (taken .count) (taken .entries)) ≡ true) × (length (now labels) ≡ maxRows * maxRows) × (length (now pending) ≡ maxRows * maxRows) × (length (now others) ≡ maxRows) × (length (now left) ≡ maxRows) × (length (now entries) ≡ maxEntries) × (length (now noted) ≡ maxRows * maxRows) × Fresh 1 (now noted) × (taken .rise ≡ true → Rise (now marks)) ⌝ }
     ensures { λ r. ⌜ DropsAll (now (work .entry)) width (now (marks .entry)) (take (taken .count) (taken .entries)) (taken .pending) (now (labels .entry)) (now (pending .entry)) (now (others .entry)) (now (left .entry)) count r (now (entries .exit)) ⌝ }
 {
     let mut kept = none_kept(count);
@@ -172,7 +161,7 @@ fn drop_all(
             left,
             entries,
             noted,
-            rising,
+            taken.rise,
         );
     }
     kept.start
@@ -187,9 +176,8 @@ pub(crate) fn signature(
     taken: Taken,
     labels: &[u8],
     pending: &[u8],
-    rising: bool,
 ) -> Signature
-    requires { ⌜ Fitted (now work) width rows (now marks) × (taken .count ≤ maxEntries) × (allBelow width (take (taken .count) (taken .entries)) ≡ true) × Levels (now work) width rows (now marks) (take (taken .count) (taken .entries)) (now labels) (now pending) (taken .pending) × (length (now labels) ≡ maxRows * maxRows) × (length (now pending) ≡ maxRows * maxRows) × (rising ≡ true → Rise (now marks)) ⌝ }
+    requires { ⌜ Fitted (now work) width rows (now marks) × (taken .count ≤ maxEntries) × (allBelow width (take (taken .count) (taken .entries)) ≡ true) × Levels (now work) width rows (now marks) (take (taken .count) (taken .entries)) (now labels) (now pending) (taken .pending) × (length (now labels) ≡ maxRows * maxRows) × (length (now pending) ≡ maxRows * maxRows) × (taken .rise ≡ true → Rise (now marks)) ⌝ }
     ensures { λ r. ⌜ r ≡ signatureOf (drops (cell (now (work .entry)) width) rows (apart (now (marks .entry))) (length (take (taken .count) (taken .entries))) (take (taken .count) (taken .entries))) ⌝ }
 {
     let mut others = [0u8; MAX_ROWS];
@@ -209,7 +197,6 @@ pub(crate) fn signature(
         &mut kept,
         &mut noted,
         count,
-        rising,
     );
     matrix::aligned(start, &kept)
 }

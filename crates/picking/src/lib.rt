@@ -40,9 +40,8 @@ fn conclude(
     taken: Taken,
     labels: &[u8],
     pending: &[u8],
-    rising: bool,
 ) -> Choice
-    requires { ⌜ Fitted (now work) width rows (now marks) × (taken .count ≤ maxEntries) × (allBelow width (take (taken .count) (taken .entries)) ≡ true) × Levels (now work) width rows (now marks) (take (taken .count) (taken .entries)) (now labels) (now pending) (taken .pending) × (length (now labels) ≡ maxRows * maxRows) × (length (now pending) ≡ maxRows * maxRows) × (rising ≡ true → Rise (now marks)) ⌝ }
+    requires { ⌜ Fitted (now work) width rows (now marks) × (taken .count ≤ maxEntries) × (allBelow width (take (taken .count) (taken .entries)) ≡ true) × Levels (now work) width rows (now marks) (take (taken .count) (taken .entries)) (now labels) (now pending) (taken .pending) × (length (now labels) ≡ maxRows * maxRows) × (length (now pending) ≡ maxRows * maxRows) × (taken .rise ≡ true → Rise (now marks)) ⌝ }
     ensures { λ r. ⌜ r ≡ choiceOf (pickedBy (firstPair rows (alikeMarked (slot (taken .count) (now (labels .entry))) (now (marks .entry)))) (drops (cell (now (work .entry)) width) rows (apart (now (marks .entry))) (length (take (taken .count) (taken .entries))) (take (taken .count) (taken .entries)))) ⌝ }
 {
     let pair = first_pair(rows, marks, taken, labels);
@@ -53,16 +52,7 @@ fn conclude(
         },
         Two::Nobody => Choice {
             found: Found::Told,
-            signature: dropping::signature(
-                work,
-                width,
-                rows,
-                marks,
-                taken,
-                labels,
-                pending,
-                rising,
-            ),
+            signature: dropping::signature(work, width, rows, marks, taken, labels, pending),
         },
     }
 }
@@ -72,7 +62,7 @@ fn choose_fit(work: &[u16], width: usize, rows: usize, marks: &[u8], scan: &[u16
     requires { ⌜ (rows ≤ length (now marks)) × (fits (now work) width rows (now scan) ≡ true) ⌝ }
     ensures { λ r. ⌜ r ≡ choiceOf (picked (now (work .entry)) width rows (now (marks .entry)) (now (scan .entry))) ⌝ }
 {
-    let rising = classes::settling::marks_rise(marks);
+    let rise = classes::settling::marks_rise(marks);
     let mut labels = [0u8; MAX_ROWS * MAX_ROWS];
     let mut pending = [0u8; MAX_ROWS * MAX_ROWS];
     let taken = taking::take(
@@ -83,9 +73,9 @@ fn choose_fit(work: &[u16], width: usize, rows: usize, marks: &[u8], scan: &[u16
         scan,
         &mut labels,
         &mut pending,
-        rising,
+        rise,
     );
-    conclude(work, width, rows, marks, taken, &labels, &pending, rising)
+    conclude(work, width, rows, marks, taken, &labels, &pending)
 }
 
 // The signature of the method, or the first two rows that should be told apart and are not.

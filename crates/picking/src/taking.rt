@@ -10,11 +10,12 @@ ghost use Rattle.picking.specs.Levels.{clear, slot, copied, Grows, SomeB
 use matrix::MAX_ENTRIES;
 use matrix::MAX_ROWS;
 
-// The entries taken, in order, and the number of pending rows of each level.
+// The entries taken, in order, the number of pending rows of each level, and whether the marks are known to rise.
 pub(crate) struct Taken {
     pub(crate) count: usize,
     pub(crate) entries: [u16; MAX_ENTRIES],
     pub(crate) pending: [u8; MAX_ROWS],
+    pub(crate) rise: bool,
 }
 
 // Whether all pending rows have their labels' numbers at an entry.
@@ -106,9 +107,9 @@ fn take_one(
     level: usize,
     count: usize,
     entry: usize,
-    rising: bool,
+    rise: bool,
 ) -> usize
-    requires { ⌜ SomeReady (now work) width (now marks) (slot level (now labels)) (take count (slot level (now pending))) × (entry < width) × (count ≤ maxRows) × (level + 1 < maxRows) × (length (now labels) ≡ maxRows * maxRows) × (length (now pending) ≡ maxRows * maxRows) × (rising ≡ true → Rise (now marks)) ⌝ }
+    requires { ⌜ SomeReady (now work) width (now marks) (slot level (now labels)) (take count (slot level (now pending))) × (entry < width) × (count ≤ maxRows) × (level + 1 < maxRows) × (length (now labels) ≡ maxRows * maxRows) × (length (now pending) ≡ maxRows * maxRows) × (rise ≡ true → Rise (now marks)) ⌝ }
     ensures { λ r. ⌜ Grows (now (work .entry)) width (now (marks .entry)) entry level count (now (labels .entry)) (now (pending .entry)) (now (labels .exit)) (now (pending .exit)) r ⌝ }
 {
     copy_level(labels, level);
@@ -122,7 +123,7 @@ fn take_one(
         &mut pending[at..at + MAX_ROWS],
         count,
         entry,
-        rising,
+        rise,
     )
 }
 
@@ -137,9 +138,9 @@ fn take_from(
     entries: &mut [u16],
     counts: &mut [u8],
     first: usize,
-    rising: bool,
+    rise: bool,
 ) -> usize
-    requires { ⌜ SomeBegun (now work) width (now marks) (now labels) (now pending) first × (allBelow width (now scan) ≡ true) × (length (now labels) ≡ maxRows * maxRows) × (length (now pending) ≡ maxRows * maxRows) × (length (now entries) ≡ maxEntries) × (length (now counts) ≡ maxRows) × (rising ≡ true → Rise (now marks)) ⌝ }
+    requires { ⌜ SomeBegun (now work) width (now marks) (now labels) (now pending) first × (allBelow width (now scan) ≡ true) × (length (now labels) ≡ maxRows * maxRows) × (length (now pending) ≡ maxRows * maxRows) × (length (now entries) ≡ maxEntries) × (length (now counts) ≡ maxRows) × (rise ≡ true → Rise (now marks)) ⌝ }
     ensures { λ r. ⌜ Takings (now (work .entry)) width (now (marks .entry)) (now (scan .entry)) (now (labels .entry)) (now (pending .entry)) first r (now (entries .exit)) (now (counts .exit)) (now (labels .exit)) (now (pending .exit)) ⌝ }
 {
     let mut level = 0;
@@ -158,7 +159,7 @@ fn take_from(
             level,
             count,
             entry as usize,
-            rising,
+            rise,
         );
         level += 1;
         counts[level] = count as u8;
@@ -188,10 +189,10 @@ pub(crate) fn take(
     scan: &[u16],
     labels: &mut [u8],
     pending: &mut [u8],
-    rising: bool,
+    rise: bool,
 ) -> Taken
-    requires { ⌜ Fitted (now work) width rows (now marks) × (allBelow width (now scan) ≡ true) × (length (now labels) ≡ maxRows * maxRows) × (length (now pending) ≡ maxRows * maxRows) × (rising ≡ true → Rise (now marks)) ⌝ }
-    ensures { λ r. ⌜ TakenAll (now (work .entry)) width rows (now (marks .entry)) (now (scan .entry)) (r .count) (r .entries) (r .pending) (now (labels .exit)) (now (pending .exit)) ⌝ }
+    requires { ⌜ Fitted (now work) width rows (now marks) × (allBelow width (now scan) ≡ true) × (length (now labels) ≡ maxRows * maxRows) × (length (now pending) ≡ maxRows * maxRows) × (rise ≡ true → Rise (now marks)) ⌝ }
+    ensures { λ r. ⌜ TakenAll (now (work .entry)) width rows (now (marks .entry)) (now (scan .entry)) (r .count) (r .entries) (r .pending) (now (labels .exit)) (now (pending .exit)) × (r .rise ≡ rise) ⌝ }
 {
     let mut entries = [0u16; MAX_ENTRIES];
     let mut counts = [0u8; MAX_ROWS];
@@ -206,11 +207,12 @@ pub(crate) fn take(
         &mut entries,
         &mut counts,
         first,
-        rising,
+        rise,
     );
     Taken {
         count,
         entries,
         pending: counts,
+        rise,
     }
 }

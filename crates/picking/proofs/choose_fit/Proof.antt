@@ -31,11 +31,11 @@ slice-aggregate-conclude-2 c = sym (c .before .before .before .before .take .kep
 
 conclude-requires : tie.Need-conclude-requires
 unfolding maxRows
-conclude-requires c κs = let a = c .before .before .before .before .before .before .before .before .before .before .before .args in (fitting-fit (now (a .work)) (a .width) (a .rows) (now (a .marks)) (now (a .scan)) (c .before .before .before .before .before .before .before .before .before .before .before .pre .0) (c .before .before .before .before .before .before .before .before .before .before .before .pre .1), c .before .before .before .before .take .ensures .few, chosen-below (now (a .work)) (a .width) (a .rows) (now (a .marks)) (now (a .scan)) (fits-within (now (a .work)) (a .width) (a .rows) (now (a .scan)) (c .before .before .before .before .before .before .before .before .before .before .before .pre .1)) (c .before .before .before .before .take .ensures), c .before .before .before .before .take .ensures .levels, c .before .before .before .before .take .kept .1 .1 .1 .1 .1 .0, c .before .before .before .before .take .kept .1 .1 .1 .1 .1 .1 .0, λ t. rises-rise (now (a .marks)) (sym (c .before .before .before .before .before .before .before .marks-rise .ensures) ∙ t))
+conclude-requires c κs = let a = c .before .before .before .before .before .before .before .before .before .before .before .args in (fitting-fit (now (a .work)) (a .width) (a .rows) (now (a .marks)) (now (a .scan)) (c .before .before .before .before .before .before .before .before .before .before .before .pre .0) (c .before .before .before .before .before .before .before .before .before .before .before .pre .1), c .before .before .before .before .take .ensures .0 .few, chosen-below (now (a .work)) (a .width) (a .rows) (now (a .marks)) (now (a .scan)) (fits-within (now (a .work)) (a .width) (a .rows) (now (a .scan)) (c .before .before .before .before .before .before .before .before .before .before .before .pre .1)) (c .before .before .before .before .take .ensures .0), c .before .before .before .before .take .ensures .0 .levels, c .before .before .before .before .take .kept .1 .1 .1 .1 .1 .0, c .before .before .before .before .take .kept .1 .1 .1 .1 .1 .1 .0, λ t. rises-rise (now (a .marks)) (sym (c .before .before .before .before .before .before .before .marks-rise .ensures) ∙ sym (c .before .before .before .before .take .ensures .1) ∙ t))
 
 returns : tie.Need-returns
 unfolding maxEntries
-returns c = let a = c .before .before .before .before .before .before .before .before .before .before .before .before .args in chosen (now (a .work)) (a .width) (a .rows) (now (a .marks)) (now (a .scan)) (count-within (length-unmapped _ (c .before .before .before .before .before .take .result .entries) _ (c .before .before .before .before .before .take .ok .1 .1 .1 .0 .1 .0 .1)) (c .before .before .before .before .before .take .ensures .few)) (c .before .before .before .before .before .before .before .before .before .before .before .before .pre .0) (c .before .before .before .before .before .before .before .before .before .before .before .before .pre .1) (c .before .before .before .before .before .take .ensures) (c .conclude .ensures)
+returns c = let a = c .before .before .before .before .before .before .before .before .before .before .before .before .args in chosen (now (a .work)) (a .width) (a .rows) (now (a .marks)) (now (a .scan)) (count-within (length-unmapped _ (c .before .before .before .before .before .take .result .entries) _ (c .before .before .before .before .before .take .ok .1 .1 .1 .0 .1 .0 .1)) (c .before .before .before .before .before .take .ensures .0 .few)) (c .before .before .before .before .before .before .before .before .before .before .before .before .pre .0) (c .before .before .before .before .before .before .before .before .before .before .before .before .pre .1) (c .before .before .before .before .before .take .ensures .0) (c .conclude .ensures)
 
 pub choose-fit-spec : {M : Type 1} → statement M
 choose-fit-spec =

@@ -18,10 +18,10 @@ use Rattle.picking.proofs.dropping.drop_all.Statement.{statement}
 use Rattle.picking.proofs.dropping.drop_all.Tie as tie
 
 abbrev Inv-loop : tie.InvT-loop
-Inv-loop work width marks labels pending others₀ left₀ entries₀ noted₀ count rising taken kept₀ level₀ others left entries noted kept level = (length others ≡ maxRows) × (length left ≡ maxRows) × (length entries ≡ maxEntries) × (level ≤ taken .count) × (length noted ≡ maxRows * maxRows) × Fresh (maxRows - level + 1) noted × ((rows : ℕ) → Dropping work width rows marks (take (taken .count) (taken .entries)) (taken .pending) labels pending others₀ left₀ count → Keeping work width rows marks (take (taken .count) (taken .entries)) level (kept .start) entries others left (kept .pending))
+Inv-loop work width marks labels pending others₀ left₀ entries₀ noted₀ count taken kept₀ level₀ others left entries noted kept level = (length others ≡ maxRows) × (length left ≡ maxRows) × (length entries ≡ maxEntries) × (level ≤ taken .count) × (length noted ≡ maxRows * maxRows) × Fresh (maxRows - level + 1) noted × ((rows : ℕ) → Dropping work width rows marks (take (taken .count) (taken .entries)) (taken .pending) labels pending others₀ left₀ count → Keeping work width rows marks (take (taken .count) (taken .entries)) level (kept .start) entries others left (kept .pending))
 
 abbrev μ-loop : tie.MeasureT-loop
-μ-loop work width marks labels pending others₀ left₀ entries₀ noted₀ count rising taken kept₀ level₀ others left entries noted kept level = level
+μ-loop work width marks labels pending others₀ left₀ entries₀ noted₀ count taken kept₀ level₀ others left entries noted kept level = level
 
 none-kept-requires : tie.Need-none-kept-requires Inv-loop μ-loop
 none-kept-requires c κs = tt

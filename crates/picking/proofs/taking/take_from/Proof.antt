@@ -19,10 +19,10 @@ use Rattle.picking.proofs.taking.take_from.Statement.{statement}
 use Rattle.picking.proofs.taking.take_from.Tie as tie
 
 abbrev Inv-loop : tie.InvT-loop
-Inv-loop work width marks scan labels₀ pending₀ entries₀ counts₀ first rising level₀ count₀ at₀ labels pending entries counts level count at = (length labels ≡ maxRows * maxRows) × (length pending ≡ maxRows * maxRows) × ((rows : ℕ) → Begun work width rows marks labels₀ pending₀ first → Taking work width rows marks scan entries counts labels pending level count at)
+Inv-loop work width marks scan labels₀ pending₀ entries₀ counts₀ first rise level₀ count₀ at₀ labels pending entries counts level count at = (length labels ≡ maxRows * maxRows) × (length pending ≡ maxRows * maxRows) × ((rows : ℕ) → Begun work width rows marks labels₀ pending₀ first → Taking work width rows marks scan entries counts labels pending level count at)
 
 abbrev μ-loop : tie.MeasureT-loop
-μ-loop work width marks scan labels₀ pending₀ entries₀ counts₀ first rising level₀ count₀ at₀ labels pending entries counts level count at = length scan - at
+μ-loop work width marks scan labels₀ pending₀ entries₀ counts₀ first rise level₀ count₀ at₀ labels pending entries counts level count at = length scan - at
 
 cast-counts : tie.Need-cast-counts Inv-loop μ-loop
 cast-counts c = row-byte (c .before .before .before .before .before .before .before .pre .0 .1 .started .settled .few)
