@@ -3,7 +3,9 @@
 //! from those of its two halves, by calls. The tables of all circuits come from differences, and the circuits with a
 //! changed line stand side by side, as they do in the library. Choosing is the reference's own, on spectra made so.
 
-use reference::{decide, Chosen, Fault, Gate, Job, Kind, Purpose, Refusal, Table, MOST_FAULTS, MOST_GATES, MOST_INPUTS};
+use reference::{
+    decide, Chosen, Fault, Gate, Job, Kind, Purpose, Refusal, Table, MOST_FAULTS, MOST_GATES, MOST_INPUTS,
+};
 
 const MOST_LINES: usize = MOST_INPUTS + MOST_GATES;
 /// So many circuits stand side by side at most: the good one, and others in which a line is changed.
@@ -254,7 +256,8 @@ fn differences(job: &Job, faults: &[Fault], rows: &mut [u8], difference: &mut Li
         } else if readers[line] < SEVERAL {
             let gate = usize::from(readers[line]);
             let (a, b, [_, single, both]) = masks(job.gates[gate - inputs]);
-            let (single, other) = if a == b { (both, [0; 32]) } else { (single, row(rows, (a ^ b ^ line) * width, bytes)) };
+            let (single, other) =
+                if a == b { (both, [0; 32]) } else { (single, row(rows, (a ^ b ^ line) * width, bytes)) };
             let onward = difference[gate];
             for ((byte, onward), other) in difference[line][..bytes].iter_mut().zip(&onward).zip(&other) {
                 *byte = onward & (single ^ both & other);
