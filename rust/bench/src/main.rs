@@ -45,11 +45,14 @@ fn ratios(memory: &mut Memory) {
     println!("inputs  line            ratio  quarters          ratio         proved  reference");
     for inputs in [8, 6, 4] {
         let cases = cases(inputs, MOST_GATES, MOST_FAULTS);
-        for line in LINES {
+        // All are timed before any is counted: another program that has just run disturbs short times.
+        let times = LINES.map(|line| {
+            let timed = |library| Timed { line, library, cases: &cases };
+            ratio(timed(Library::Proved), timed(Library::Reference), memory)
+        });
+        for (line, ratio) in LINES.into_iter().zip(times) {
             let counted = if counts { instructions::ratio(line, &cases) } else { None };
             let counted = counted.map_or("-".into(), |ratio| format!("{ratio:.2}"));
-            let timed = |library| Timed { line, library, cases: &cases };
-            let ratio = ratio(timed(Library::Proved), timed(Library::Reference), memory);
             let quarters = format!("{:.2} to {:.2}", ratio.lower, ratio.upper);
             println!(
                 "{inputs:>6}  {:<14}  {:>5.2}  {quarters:<16}  {counted:>5}  {:>13.3}  {:>9.3}",
