@@ -3,7 +3,7 @@
 --   gives-same      equal answers give equal values
 --   never-gives     a refusal gives nothing
 --   unless-gives    a test that did not refuse held
---   unless-held     a test that holds refuses nothing
+--   unless-true     a test that holds refuses nothing
 --   onward-gives    both parts of `onward` gave
 --   andThen-gives   both parts of `andThen` gave
 --   check-then      a check that did not refuse held, and took nothing
@@ -37,8 +37,8 @@ pub unless-gives : {A : Type 0} {a : A} (t : Bool) (k : ℕ) (r : Answer A) → 
 unless-gives true k r e = (refl, e)
 unless-gives false k r e = absurd (never-gives e)
 
-pub unless-held : {A : Type 0} {t : Bool} (k : ℕ) (r : Answer A) → t ≡ true → unless t k r ≡ r
-unless-held k r e = ap (λ (t : Bool). unless t k r) e
+pub unless-true : {A : Type 0} {t : Bool} (k : ℕ) (r : Answer A) → t ≡ true → unless t k r ≡ r
+unless-true k r e = ap (λ (t : Bool). unless t k r) e
 
 pub onward-gives : {A B : Type 0} {b : B} (r : Answer A) (f : A → Answer B) → onward r f ≡ gives b → (a : A) × (r ≡ gives a) × (f a ≡ gives b)
 onward-gives (gives a) f e = (a, refl, e)

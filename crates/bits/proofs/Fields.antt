@@ -33,7 +33,7 @@ use Rattle.bits.specs.Field.{from, past, maxPlace, maxWidth, isWidth, fi
 use Rattle.bits.specs.Parser.{parsed, field}
 use Rattle.bits.specs.declared.Cursor.{Cursor}
 use Rattle.bits.specs.declared.Field.the-variants.{Value, Cut}
-use Rattle.bits.proofs.Taken.{field-room}
+use Rattle.bits.proofs.FieldParser.{field-room}
 use Rattle.bits.proofs.Tests.{and-l, and-r, and-i}
 use Rattle.bits.proofs.Bits.{AllBits, bits-take, bits-drop, bits-stringOf, length-bitsOf, length-stringOf, bitsOf-drop, drop-at-byte, valueOf-bitsOf, valueOf-lt}
 use Rattle.bits.proofs.Packed.{Bytes}

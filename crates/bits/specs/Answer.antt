@@ -1,4 +1,4 @@
--- What an operation answers and leaves in lent memory, in document 01's terms.
+-- Believed: what an operation answers and leaves in lent memory, in document 01's terms.
 --
 --   number       the number of a refusal ("Refusal by operation")
 --   Answer A     a value of A, or a refusal's number
@@ -12,32 +12,30 @@ use mathlib.Core.Bool.{Bool, true, false}
 use mathlib.Core.List.{List, _++_}
 use lib.ListN.{length, drop}
 use Rattle.bits.specs.declared.Refusal.{Refusal}
-use Rattle.bits.specs.declared.Refusal.the-variants.{FieldCut, InputCount, GateCount, GateLine, UnaryLines, OutputLine}
-use Rattle.bits.specs.declared.Refusal.the-variants.{FaultLine, FaultOrder, Ending, Memory, CircuitNumber, TableShape}
-use Rattle.bits.specs.declared.Refusal.the-variants.{Polarity, NoTable, Alike, Index, ReadingCount, FaultCount}
+use Rattle.bits.specs.declared.Refusal.the-variants.{BytesEnd, Inputs, Gates, GateLine, OneLine, Output, FaultLine, FaultPair, Spare, Memory, Circuit, Table, Polarity, NoSpectrum, Alike, Index, Readings, Faults}
 use Rattle.bits.specs.declared.Outcome.{Outcome}
 use Rattle.bits.specs.declared.Outcome.the-variants.{Done, Refused}
 
 -- "Refusal by operation": the number of each cause
 abbrev pub number : Refusal → ℕ
-number FieldCut = 1
-number InputCount = 2
-number GateCount = 3
+number BytesEnd = 1
+number Inputs = 2
+number Gates = 3
 number GateLine = 4
-number UnaryLines = 5
-number OutputLine = 6
+number OneLine = 5
+number Output = 6
 number FaultLine = 7
-number FaultOrder = 8
-number Ending = 9
+number FaultPair = 8
+number Spare = 9
 number Memory = 10
-number CircuitNumber = 11
-number TableShape = 12
+number Circuit = 11
+number Table = 12
 number Polarity = 13
-number NoTable = 14
+number NoSpectrum = 14
 number Alike = 15
 number Index = 16
-number ReadingCount = 17
-number FaultCount = 18
+number Readings = 17
+number Faults = 18
 
 pub data Answer (A : Type 0) : Type 0 where
   gives : A → Answer A

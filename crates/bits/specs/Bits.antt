@@ -1,4 +1,4 @@
--- Strings of bits and the bytes that hold them (document 01, "Job layout" and the packed tables of "Tables").
+-- Believed: strings of bits and the bytes that hold them (document 01, "Job layout" and the packed tables of "Tables").
 --
 --   bitsOf w v     the w lowest bits of v, most significant first
 --   valueOf bits   the number that bits give, most significant first

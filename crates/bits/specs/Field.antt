@@ -1,4 +1,4 @@
--- A field of a string of bits, as the code finds it at a place.
+-- Kept by the code: a field of a string of bits, as it is found at a place.
 use Prim.Native.Nat.{ℕ, _+_, _*_, _^_}
 use mathlib.Core.List.{List}
 use mathlib.Core.Bool.{Bool, _&&_, cond}

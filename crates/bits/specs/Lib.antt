@@ -4,3 +4,7 @@ pub mod Field
 pub mod Packed
 pub mod Parser
 pub mod Passing
+pub mod Sets
+pub mod Sizes
+pub mod Slices
+pub mod Tabulation

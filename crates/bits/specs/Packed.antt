@@ -1,4 +1,4 @@
--- Packed tables (document 01, "Tables").
+-- Believed: packed tables (document 01, "Tables").
 --
 --   tabulate N f   the N entries of a table, from entry 0 on
 --   packed N f     the table's bytes

@@ -1,4 +1,4 @@
--- "Reading takes fields in turn and stops at the first fault": a parser takes what it reads off the front of a string of bits.
+-- Believed: "Reading takes fields in turn and stops at the first fault": a parser takes what it reads off the front of a string of bits.
 --
 --   field w      the number in the next w bits; 1, the bytes end inside a field
 --   check t k    goes on where t holds, and refuses with k where it does not

@@ -1,4 +1,4 @@
--- Numbers that pass a test, in order.
+-- Believed: numbers that pass a test, in order.
 --
 --   passing    those below a bound
 --   filtered   those of a list

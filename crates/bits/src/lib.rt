@@ -1,30 +1,38 @@
-// Fields of a string of bits, most significant bit first in each byte and field; and the refusals of every operation.
+// The ground floor: the refusals of every operation, fields of a string of bits (most significant bit first in each byte and field), the sizes of packed
+// tables, and bytes that are filled or copied. Each function makes sure of its places by itself.
+ghost use mathlib.Core.Bool.{cond};
 ghost use mathlib.Core.Path.{_≡_};
+ghost use lib.Dec.{ltb};
 ghost use Prim.Native.Nat.{_+_, _-_, _*_, _/_, _%_, _^_, _≤_, _<_};
 ghost use lib.ListN.{getD, length};
 ghost use Rattle.bits.specs.Answer.{number};
+ghost use Rattle.bits.specs.Packed.{tabulate};
+ghost use Rattle.bits.specs.Sizes.{tableSizeOf, tableBytesOf};
+ghost use Rattle.bits.specs.Slices.{slice, splice, hasRoom, copyFits};
 ghost use Rattle.bits.specs.Field.{fieldAt, from, maxPlace, maxWidth, spareOnly, windowAt};
+
+pub mod sets;
 
 // The causes for which an operation refuses, in the order of their numbers in document 01, 1 to 18.
 pub enum Refusal {
-    FieldCut,
-    InputCount,
-    GateCount,
+    BytesEnd,
+    Inputs,
+    Gates,
     GateLine,
-    UnaryLines,
-    OutputLine,
+    OneLine,
+    Output,
     FaultLine,
-    FaultOrder,
-    Ending,
+    FaultPair,
+    Spare,
     Memory,
-    CircuitNumber,
-    TableShape,
+    Circuit,
+    Table,
     Polarity,
-    NoTable,
+    NoSpectrum,
     Alike,
     Index,
-    ReadingCount,
-    FaultCount,
+    Readings,
+    Faults,
 }
 
 impl Refusal {
@@ -33,24 +41,24 @@ impl Refusal {
         ensures { λ r. ⌜ r ≡ number self ⌝ }
     {
         match self {
-            Refusal::FieldCut => 1,
-            Refusal::InputCount => 2,
-            Refusal::GateCount => 3,
+            Refusal::BytesEnd => 1,
+            Refusal::Inputs => 2,
+            Refusal::Gates => 3,
             Refusal::GateLine => 4,
-            Refusal::UnaryLines => 5,
-            Refusal::OutputLine => 6,
+            Refusal::OneLine => 5,
+            Refusal::Output => 6,
             Refusal::FaultLine => 7,
-            Refusal::FaultOrder => 8,
-            Refusal::Ending => 9,
+            Refusal::FaultPair => 8,
+            Refusal::Spare => 9,
             Refusal::Memory => 10,
-            Refusal::CircuitNumber => 11,
-            Refusal::TableShape => 12,
+            Refusal::Circuit => 11,
+            Refusal::Table => 12,
             Refusal::Polarity => 13,
-            Refusal::NoTable => 14,
+            Refusal::NoSpectrum => 14,
             Refusal::Alike => 15,
             Refusal::Index => 16,
-            Refusal::ReadingCount => 17,
-            Refusal::FaultCount => 18,
+            Refusal::Readings => 17,
+            Refusal::Faults => 18,
         }
     }
 }
@@ -70,6 +78,13 @@ pub struct Cursor {
 pub enum Field {
     Value(usize, Cursor),
     Cut,
+}
+
+// The lesser of two numbers.
+pub fn least(a: usize, b: usize) -> usize
+    ensures { λ r. ⌜ r ≡ cond (ltb a b) a b ⌝ }
+{
+    if a < b { a } else { b }
 }
 
 // A byte of the slice, 0 past its end.
@@ -110,16 +125,16 @@ const MAX_WIDTH: usize = 8;
 const MAX_PLACE: usize = 1 << 62;
 
 // So many bytes have one more behind them, and no bit of them is past the last place: a field that begins in one of them is not cut.
-fn early_bytes(length: usize) -> usize
-    ensures { λ r. ⌜ (r ≤ length - 1) × (r * 8 ≤ maxPlace) ⌝ }
+fn early_bytes(size: usize) -> usize
+    ensures { λ r. ⌜ (r ≤ size - 1) × (r * 8 ≤ maxPlace) ⌝ }
 {
-    if length < 1 {
+    if size < 1 {
         return 0;
     }
-    if MAX_PLACE / 8 < length {
+    if MAX_PLACE / 8 < size {
         return MAX_PLACE / 8;
     }
-    length - 1
+    size - 1
 }
 
 // The field at a place among the last bytes or past them, where it may be cut.
@@ -178,4 +193,79 @@ pub fn spare_only(s: &[u8], c: Cursor) -> bool
         return false;
     }
     byte_or_zero(s, at) % (1 << (8 - used)) == 0
+}
+
+// The bits of a word: a shift must be by fewer.
+const WORD_BITS: usize = 64;
+
+// The entries of a table of n inputs, which are as many as its coefficients; 0 where no word holds their number.
+pub fn table_size(n: usize) -> usize
+    ensures { λ r. ⌜ r ≡ tableSizeOf n ⌝ }
+{
+    if WORD_BITS <= n {
+        return 0;
+    }
+    1 << n
+}
+
+// The bytes of a packed table of n inputs; 0 where no word holds the number of its entries.
+pub fn table_bytes(n: usize) -> usize
+    ensures { λ r. ⌜ r ≡ tableBytesOf n ⌝ }
+{
+    (table_size(n) + 7) / 8
+}
+
+// Whether `count` bytes from `at` on end within `size` bytes.
+pub fn has_room(size: usize, at: usize, count: usize) -> bool
+    ensures { λ r. ⌜ r ≡ hasRoom size at count ⌝ }
+{
+    if size < count {
+        return false;
+    }
+    at <= size - count
+}
+
+// Fills `count` bytes at `to` with one byte, if they end within the rows.
+pub fn fill(rows: &mut [u8], to: usize, count: usize, byte: u8)
+    ensures { λ r. ⌜ now (rows .exit) ≡ cond (hasRoom (length (now (rows .entry))) to count) (splice (now (rows .entry)) to (tabulate count (λ i. byte))) (now (rows .entry)) ⌝ }
+{
+    if !has_room(rows.len(), to, count) {
+        return;
+    }
+    fill_bytes(rows, to, count, byte);
+}
+
+fn fill_bytes(rows: &mut [u8], to: usize, count: usize, byte: u8)
+    requires { ⌜ to + count ≤ length (now rows) ⌝ }
+    ensures { λ r. ⌜ now (rows .exit) ≡ splice (now (rows .entry)) to (tabulate count (λ i. byte)) ⌝ }
+{
+    let mut i = 0;
+    while i < count {
+        rows[to + i] = byte;
+        i += 1;
+    }
+}
+
+// Copies `count` bytes at `at` of the rows to `to`, if they end within both.
+pub fn copy(out: &mut [u8], to: usize, rows: &[u8], at: usize, count: usize)
+    ensures { λ r. ⌜ now (out .exit) ≡ cond (copyFits to at count (length (now (out .entry))) (length (now (rows .entry)))) (splice (now (out .entry)) to (slice at count (now (rows .entry)))) (now (out .entry)) ⌝ }
+{
+    if !has_room(out.len(), to, count) {
+        return;
+    }
+    if !has_room(rows.len(), at, count) {
+        return;
+    }
+    copy_bytes(out, to, rows, at, count);
+}
+
+fn copy_bytes(out: &mut [u8], to: usize, rows: &[u8], at: usize, count: usize)
+    requires { ⌜ (to + count ≤ length (now out)) × (at + count ≤ length (now rows)) ⌝ }
+    ensures { λ r. ⌜ now (out .exit) ≡ splice (now (out .entry)) to (slice at count (now (rows .entry))) ⌝ }
+{
+    let mut i = 0;
+    while i < count {
+        out[to + i] = rows[at + i];
+        i += 1;
+    }
 }

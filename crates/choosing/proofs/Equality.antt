@@ -12,11 +12,11 @@ use Rattle.job.specs.Check.{Valid}
 use Rattle.job.specs.declared.Job.{Job}
 use Rattle.tables.specs.Circuit.{circuitEntry, circuitTable}
 use Rattle.spectra.specs.Operations.{sameNumbers}
-use Rattle.transform.specs.declared.Kind.{Kind}
-use Rattle.transform.proofs.Bounds.{coefficient-ext}
-use Rattle.spectra.proofs.Delivered.{entry-bit}
-use Rattle.spectra.proofs.Undone.{sameNumbers-refl, sameNumbers-true}
-use Rattle.spectra.proofs.Unique.{coefficients-unique}
+use Rattle.spectra.specs.declared.Kind.{Kind}
+use Rattle.spectra.proofs.Bounds.{coefficient-ext}
+use Rattle.spectra.proofs.JobTables.{entry-bit}
+use Rattle.spectra.proofs.Acceptance.{sameNumbers-refl, sameNumbers-true}
+use Rattle.spectra.proofs.Uniqueness.{coefficients-unique}
 use Rattle.method.specs.Method.{agree}
 use Rattle.choosing.specs.Choosing.{coefOf, scanOrder, sameTables}
 use Rattle.choosing.proofs.Indices.{agree-scan, scan-agree}

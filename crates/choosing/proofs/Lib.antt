@@ -1,7 +1,7 @@
 pub mod Arrays
-pub mod Bounded
-pub mod Decided
+pub mod Bound
+pub mod Decision
 pub mod Equality
 pub mod Indices
-pub mod Ordered
+pub mod Order
 pub mod Sizes

@@ -1,4 +1,4 @@
--- How the code lists the indices in the order of looking, and hands the spectra to the method.
+-- Kept by the code: how it lists the indices in the order of looking, and hands the spectra to the method.
 --
 --   maxPlaces   the most coefficients of a circuit
 --   maxOrders   the most orders of an index
@@ -9,8 +9,8 @@
 --   Placed      the indices stand at their places
 --   Listed      a list stands at the start of an array, and so many places are taken
 --   Filled      the counts are a job's, and its spectra lie within the work
---   choiceIn    the choice over any coefficients of the counted circuits
---   answerOf    the answer that stands for a choice
+--   decisionIn    the decision over any coefficients of the counted circuits
+--   answerOf    the answer that stands for a decision
 use Prim.Native.Nat.{ℕ, zero, suc, _+_, _*_, _^_, _≤_, _<_}
 use mathlib.Core.Path.{_≡_}
 use mathlib.Core.Bool.{_&&_}
@@ -22,13 +22,12 @@ use Rattle.bits.specs.Passing.{passing}
 use Rattle.job.specs.Layout.{maxInputs, maxFaults}
 use Rattle.tables.specs.declared.Counts.{Counts}
 use Rattle.bits.specs.declared.Refusal.the-variants.{Memory}
-use Rattle.matrix.specs.Matrix.{signatureOf}
+use Rattle.chooser.specs.Matrix.{signatureOf}
 use Rattle.method.specs.Method.{agree, signature, firstPair}
-use Rattle.matrix.specs.declared.Found.{Found}
-use Rattle.matrix.specs.declared.Found.the-variants.{Told, Unfit}
-use Rattle.matrix.specs.declared.Found.the-variants as found
-use Rattle.choosing.specs.Choosing.{Choice, Finding, choiceBy, needed, scanTo, scanOrder}
-use Rattle.choosing.specs.Choosing.Finding.{chosen, alike}
+use Rattle.chooser.specs.declared.Untold.{Untold}
+use Rattle.chooser.specs.declared.Untold.the-variants.{Nobody, Pair, NoMatrix}
+use Rattle.choosing.specs.Choosing.{Decision, Result, decisionBy, needed, scanTo, scanOrder}
+use Rattle.choosing.specs.Choosing.Result.{chosen, alike}
 use Rattle.choosing.specs.declared.Chosen.{Chosen}
 use Rattle.choosing.specs.declared.Purpose.{Purpose}
 use Rattle.choosing.specs.declared.Verdict.{Verdict}
@@ -62,27 +61,27 @@ Placed size places = (e : ℕ) → e < size → getD places (placeOf size e) 0 �
 
 pub record Listed (list : List ℕ) (count : ℕ) (places : List ℕ) : Type 0 where
   pub counted : count ≡ length list
-  pub held : take count places ≡ list
+  pub done : take count places ≡ list
 
 pub record Filled (counts : Counts) (room : ℕ) : Type 0 where
   pub inputs-few : counts .inputs ≤ maxInputs
   pub faults-few : counts .faults ≤ maxFaults
   pub enough : (counts .faults + 1) * 2 ^ (counts .inputs) ≤ room
 
-abbrev pub choiceIn : Purpose → Counts → (ℕ → ℕ → ℕ) → Choice
-choiceIn purpose counts coef =
-    choiceBy (firstPair (counts .faults + 1) (λ a b. needed purpose a b && agree coef (scanOrder (counts .inputs)) a b)) counts
+abbrev pub decisionIn : Purpose → Counts → (ℕ → ℕ → ℕ) → Decision
+decisionIn purpose counts coef =
+    decisionBy (firstPair (counts .faults + 1) (λ a b. needed purpose a b && agree coef (scanOrder (counts .inputs)) a b)) counts
     (signature coef (counts .faults + 1) (needed purpose) (scanOrder (counts .inputs)))
 
 -- the matrix always fits
-abbrev pub verdictOf : Counts → Found → Verdict
-verdictOf counts Told = Done counts
-verdictOf counts (found.Alike a b) = Alike a b
-verdictOf counts Unfit = Refused Memory
+abbrev pub verdictOf : Counts → Untold → Verdict
+verdictOf counts Nobody = Done counts
+verdictOf counts (Pair a b) = Alike a b
+verdictOf counts NoMatrix = Refused Memory
 
-abbrev pub verdictFor : Finding → Verdict
+abbrev pub verdictFor : Result → Verdict
 verdictFor (chosen counts) = Done counts
 verdictFor (alike a b) = Alike a b
 
-abbrev pub answerOf : Choice → Chosen
-answerOf c = record { verdict = verdictFor (c .finding); signature = signatureOf (c .entries) }
+abbrev pub answerOf : Decision → Chosen
+answerOf c = record { verdict = verdictFor (c .result); signature = signatureOf (c .entries) }

@@ -5,20 +5,17 @@ ghost use mathlib.Core.List.{[]};
 ghost use lib.Count.{ones};
 ghost use lib.ListN.{length};
 ghost use Rattle.job.specs.Layout.{maxInputs};
-ghost use Rattle.classes.specs.Labels.{Holds};
-ghost use mathlib.Core.Bool.{true};
-ghost use Rattle.matrix.specs.Matrix.{cell, maxRows, fits, pickedOver, choiceOf, signatureOf};
-ghost use Rattle.choosing.specs.Choosing.{mark, needed, scanTo, scanOrder, chosenOf, chose, verdictTold};
-ghost use Rattle.choosing.specs.declared.Purpose.the-variants.{Isolating};
+ghost use Rattle.bits.specs.Tabulation.{Tabulates};
+ghost use Rattle.chooser.specs.Matrix.{cell, maxRows, signatureOf};
+ghost use Rattle.choosing.specs.Choosing.{mark, scanTo, scanOrder, chosenOf, atExit, verdictTold};
 ghost use Rattle.choosing.specs.declared.Verdict.the-variants.{Refused};
-ghost use Rattle.choosing.specs.Looking.{maxPlaces, maxOrders, Few, summed, Placed, Listed, Filled, choiceIn, verdictOf, answerOf};
+ghost use Rattle.choosing.specs.Looking.{maxPlaces, maxOrders, Few, summed, Placed, Listed, Filled, decisionIn, verdictOf, answerOf};
 use bits::Refusal;
-use matrix::Choice;
-use matrix::Found;
-use matrix::Signature;
+use chooser::Signature;
+use chooser::Untold;
+use spectra::Kind;
 use tables::Counts;
-use tables::TablesAnswer;
-use transform::Kind;
+use tables::CountsAnswer;
 
 // To tell every two circuits apart, or the good one from each fault.
 pub enum Purpose {
@@ -47,7 +44,7 @@ const MAX_ORDERS: usize = job::MAX_INPUTS + 1;
 
 // A mark for each circuit: those with different marks are to be told apart.
 struct Marks {
-    of: [u8; matrix::MAX_ROWS],
+    of: [u8; chooser::MAX_ROWS],
 }
 
 // The order of each index.
@@ -66,14 +63,30 @@ struct Scan {
     of: [u16; MAX_PLACES],
 }
 
-// Every circuit has its own mark.
-fn own_marks() -> Marks
-    ensures { λ r. ⌜ Holds maxRows (mark Isolating) (r .of) ⌝ }
+// The mark of a circuit: its own number, or whether it is a faulty one.
+fn mark(purpose: Purpose, circuit: usize) -> u8
+    requires { ⌜ circuit < maxRows ⌝ }
+    ensures { λ r. ⌜ r ≡ mark purpose circuit ⌝ }
 {
-    let mut of = [0u8; matrix::MAX_ROWS];
+    match purpose {
+        Purpose::Isolating => circuit as u8,
+        Purpose::Detecting => {
+            if circuit == 0 {
+                return 0;
+            }
+            1
+        }
+    }
+}
+
+// The marks of all circuits that there may be.
+fn marks_of(purpose: Purpose) -> Marks
+    ensures { λ r. ⌜ Tabulates maxRows (mark purpose) (r .of) ⌝ }
+{
+    let mut of = [0u8; chooser::MAX_ROWS];
     let mut c = 0;
-    while c < matrix::MAX_ROWS {
-        of[c] = c as u8;
+    while c < chooser::MAX_ROWS {
+        of[c] = mark(purpose, c);
         c += 1;
     }
     Marks { of }
@@ -82,7 +95,7 @@ fn own_marks() -> Marks
 // The order of an index is its number of ones; those of the indices below `size`.
 fn orders_below(size: usize) -> Orders
     requires { ⌜ size ≤ maxPlaces ⌝ }
-    ensures { λ r. ⌜ Holds size ones (r .of) ⌝ }
+    ensures { λ r. ⌜ Tabulates size ones (r .of) ⌝ }
 {
     let mut of = [0u8; MAX_PLACES];
     let mut e = 0;
@@ -98,7 +111,7 @@ fn orders_below(size: usize) -> Orders
 // each sum takes the places as they were.
 fn add_input(firsts: &mut [usize])
     requires { ⌜ (length (now firsts) ≡ maxOrders) × Few (now firsts) ⌝ }
-    ensures { λ r. ⌜ Holds maxOrders (summed (now (firsts .entry))) (now (firsts .exit)) ⌝ }
+    ensures { λ r. ⌜ Tabulates maxOrders (summed (now (firsts .entry))) (now (firsts .exit)) ⌝ }
 {
     let mut order = MAX_ORDERS - 1;
     while 0 < order {
@@ -110,7 +123,7 @@ fn add_input(firsts: &mut [usize])
 // The place of the first index of each order, after all those of lower order: sums of binomial coefficients.
 fn first_places(n: usize) -> PerOrder
     requires { ⌜ n ≤ maxInputs ⌝ }
-    ensures { λ r. ⌜ Holds maxOrders (λ order. length (scanTo (2 ^ n) order)) (r .of) ⌝ }
+    ensures { λ r. ⌜ Tabulates maxOrders (λ order. length (scanTo (2 ^ n) order)) (r .of) ⌝ }
 {
     let mut of = [1usize; MAX_ORDERS];
     of[0] = 0;
@@ -124,7 +137,7 @@ fn first_places(n: usize) -> PerOrder
 
 // Puts each index at the next place of its order.
 fn put_indices(orders: &[u8], firsts: PerOrder, size: usize) -> Scan
-    requires { ⌜ (size ≤ maxPlaces) × (length (now orders) ≡ maxPlaces) × Holds size ones (now orders) × Holds maxOrders (λ order. length (scanTo size order)) (firsts .of) ⌝ }
+    requires { ⌜ (size ≤ maxPlaces) × (length (now orders) ≡ maxPlaces) × Tabulates size ones (now orders) × Tabulates maxOrders (λ order. length (scanTo size order)) (firsts .of) ⌝ }
     ensures { λ r. ⌜ (r .count ≡ size) × Placed size (r .of) ⌝ }
 {
     let mut next = firsts.of;
@@ -159,57 +172,44 @@ fn refused(cause: Refusal) -> Chosen
         verdict: Verdict::Refused(cause),
         signature: Signature {
             count: 0,
-            entries: [0u16; matrix::MAX_ENTRIES],
+            entries: [0u16; chooser::MAX_SIGNATURE],
         },
     }
 }
 
-// The verdict that the method's choice gives. The matrix always fits, so that `Unfit` stands for no answer of `choose`.
-fn concluded(counts: Counts, found: Found, signature: Signature) -> Chosen
-    ensures { λ r. ⌜ r ≡ record { verdict = verdictOf counts found; signature = signature } ⌝ }
+// The verdict that the method's choice gives. The matrix always fits, so that `NoMatrix` stands for no answer of `choose`.
+fn concluded(counts: Counts, untold: Untold, signature: Signature) -> Chosen
+    ensures { λ r. ⌜ r ≡ record { verdict = verdictOf counts untold; signature = signature } ⌝ }
 {
-    match found {
-        Found::Told => Chosen {
+    match untold {
+        Untold::Nobody => Chosen {
             verdict: Verdict::Done(counts),
             signature,
         },
-        Found::Alike(a, b) => Chosen {
+        Untold::Pair(a, b) => Chosen {
             verdict: Verdict::Alike(a, b),
             signature,
         },
-        Found::Unfit => Chosen {
+        Untold::NoMatrix => Chosen {
             verdict: Verdict::Refused(Refusal::Memory),
             signature,
         },
     }
 }
 
-// What the method chooses from so many rows: entries that tell every two apart, or the first from each other.
-fn choose_rows(work: &[u16], width: usize, rows: usize, purpose: Purpose, scan: &[u16]) -> Choice
-    requires { ⌜ fits (now work) width rows (now scan) ≡ true ⌝ }
-    ensures { λ r. ⌜ r ≡ choiceOf (pickedOver (now (work .entry)) width rows (needed purpose) (now (scan .entry))) ⌝ }
-{
-    match purpose {
-        Purpose::Isolating => {
-            let marks = own_marks();
-            picking::choose(work, width, rows, &marks.of, scan)
-        }
-        Purpose::Detecting => covering::choose(work, width, rows, scan),
-    }
-}
-
 // What the method chooses from the spectra in the work.
 fn choose_filled(work: &[u16], counts: Counts, purpose: Purpose) -> Chosen
     requires { ⌜ Filled counts (length (now work)) ⌝ }
-    ensures { λ r. ⌜ r ≡ answerOf (choiceIn purpose counts (cell (now (work .entry)) (2 ^ (counts .inputs)))) ⌝ }
+    ensures { λ r. ⌜ r ≡ answerOf (decisionIn purpose counts (cell (now (work .entry)) (2 ^ (counts .inputs)))) ⌝ }
 {
+    let marks = marks_of(purpose);
     let scan = scan_order(counts.inputs);
     let count = scan.count;
     let indices = scan.of;
     let size = 1 << counts.inputs;
-    let choice = choose_rows(work, size, counts.faults + 1, purpose, &indices[..count]);
-    let found = choice.found;
-    concluded(counts, found, choice.signature)
+    let choice = chooser::choose(work, size, counts.faults + 1, &marks.of, &indices[..count]);
+    let untold = choice.untold;
+    concluded(counts, untold, choice.signature)
 }
 
 // The signature that tells the circuits of a job apart: reading's refusals; 13; 10; 15 with the first needed pair that is alike.
@@ -220,11 +220,11 @@ pub fn choose(
     polarity: usize,
     work: &mut [u16],
 ) -> Chosen
-    ensures { λ r. ⌜ record { answer = verdictTold (r .verdict); signature = r .signature; memory = now (work .exit) } ≡ chose (chosenOf purpose (now (bytes .entry)) kind polarity (length (now (work .entry)))) (now (work .entry)) ⌝ }
+    ensures { λ r. ⌜ record { answer = verdictTold (r .verdict); signature = r .signature; memory = now (work .exit) } ≡ atExit (chosenOf purpose (now (bytes .entry)) kind polarity (length (now (work .entry)))) (now (work .entry)) ⌝ }
 {
     let answer = spectra::job_spectra(bytes, kind, polarity, work);
     match answer {
-        TablesAnswer::Refused(cause) => refused(cause),
-        TablesAnswer::Filled(counts) => choose_filled(work, counts, purpose),
+        CountsAnswer::Refused(cause) => refused(cause),
+        CountsAnswer::Filled(counts) => choose_filled(work, counts, purpose),
     }
 }

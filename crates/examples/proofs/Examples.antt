@@ -8,9 +8,8 @@ use Rattle.job.specs.Layout.{maxInputs, maxGates, maxFaults, inputCountBits, ga
 use Rattle.job.specs.Record.{noGates, noFaults, emptyJob}
 use Rattle.reading.specs.Reading.{entryFields, gate, fault, entriesFrom, spare, fromEnd, fromFaults, fromFaultCount, fromOutput, fromGates, wholeJob, reading}
 use Rattle.bits.specs.Packed.{tabulate, packed, entry}
-use Rattle.transform.specs.Operations.{zeroFrom, tableOk}
-use Rattle.spectra.specs.Operations.{spectrumOf, sameNumbers, isSpectrum, undoneOf, circuitSpectra}
-use Rattle.transform.specs.Spectrum.{inside, sumTo, subsetSum, coefficient, spectrum, recovered}
+use Rattle.spectra.specs.Operations.{zeroFrom, tableOk, spectrumOf, sameNumbers, isSpectrum, undoneOf, circuitSpectra}
+use Rattle.spectra.specs.Spectrum.{inside, sumTo, subsetSum, coefficient, spectrum, recovered}
 use Rattle.gates.specs.Answers.{answers, answer}
 use Rattle.gates.specs.Values.{inputValue, bridged}
 use Rattle.tables.specs.Circuit.{gateValue, ownValue, valuesTo, fixedBy, fixingOf, circuitEntry, circuitTable}
@@ -18,17 +17,17 @@ use Rattle.bits.specs.Passing.{passing}
 use Rattle.method.specs.Method.{without, someBelow, agree, somePair, useful, full, takes, drops, signature, pairWith, pairFrom}
 use Rattle.choosing.specs.Choosing.{scanTo, chosenOf}
 use lib.Count.{onesIn, ones}
-use Rattle.matrix.specs.Matrix.{maxEntries, zeros}
-use Rattle.sheet.specs.Sheet.{inputsWord, gatesWord, faultsWord, signatureWord, digits, decimal, numbersText, circuitLines}
-use Rattle.examples.specs.Examples.{holds, allHold, jobA, sheetA, examples}
+use Rattle.chooser.specs.Matrix.{maxSignature, zeros}
+use Rattle.report_text.specs.Text.{inputsWord, gatesWord, faultsWord, signatureWord, digits, decimal, numbersText, circuitLines}
+use Rattle.examples.specs.Examples.{passes, allPass, jobA, textA, examples}
 
-pub examples-hold : allHold examples ≡ true
+pub examples-pass : allPass examples ≡ true
 unfolding
-    holds
-    allHold
+    passes
+    allPass
     examples
     jobA
-    sheetA
+    textA
     bitsOf
     valueFrom
     valueOf
@@ -58,8 +57,8 @@ unfolding
     fromOutput
     fromGates
     wholeJob
-    circuitSpectra maxEntries zeros inputsWord gatesWord faultsWord signatureWord digits decimal numbersText circuitLines
+    circuitSpectra maxSignature zeros inputsWord gatesWord faultsWord signatureWord digits decimal numbersText circuitLines
     answers answer inputValue gateValue ownValue valuesTo bridged fixedBy fixingOf circuitEntry circuitTable
     passing without someBelow agree somePair useful full takes drops signature pairWith pairFrom scanTo chosenOf onesIn ones
     reading bytesTo bytesOf tabulate packed entry zeroFrom tableOk spectrumOf sameNumbers isSpectrum undoneOf inside sumTo subsetSum coefficient spectrum recovered
-examples-hold = refl
+examples-pass = refl

@@ -1,8 +1,8 @@
--- The examples of document 01, "Proved examples, P1 to P10".
+-- Believed: the examples of document 01, "Proved examples, P1 to P10".
 --
 --   Example    a call and what it is to answer
---   holds      the definitions answer so
---   jobA, sheetA   "job A" of the report program, and what it prints
+--   passes      the definitions answer so
+--   jobA, textA   "job A" of the report program, and what it prints
 --   examples   the list
 use Prim.Native.Nat.{ℕ, _^_}
 use mathlib.Core.Bool.{Bool, true, false, _&&_}
@@ -13,14 +13,14 @@ use Rattle.bits.specs.Answer.Answer.{gives, refused}
 use Rattle.job.specs.declared.Job.{Job}
 use Rattle.reading.specs.Reading.{reading}
 use Rattle.spectra.specs.Operations.{spectrumOf, undoneOf, sameNumbers}
-use Rattle.transform.specs.declared.Kind.{Kind}
-use Rattle.transform.specs.declared.Kind.the-variants.{Rm, Mrm}
-use Rattle.choosing.specs.Choosing.{Finding, Choice, chosenOf}
-use Rattle.choosing.specs.Choosing.Finding.{chosen, alike}
+use Rattle.spectra.specs.declared.Kind.{Kind}
+use Rattle.spectra.specs.declared.Kind.the-variants.{Rm, Mrm}
+use Rattle.choosing.specs.Choosing.{Result, Decision, chosenOf}
+use Rattle.choosing.specs.Choosing.Result.{chosen, alike}
 use Rattle.choosing.specs.declared.Purpose.{Purpose}
 use Rattle.choosing.specs.declared.Purpose.the-variants.{Isolating, Detecting}
-use Rattle.matrix.specs.Matrix.{zeros}
-use Rattle.sheet.specs.Sheet.{reportText}
+use Rattle.chooser.specs.Matrix.{zeros}
+use Rattle.report_text.specs.Text.{reportText}
 
 pub data Example : Type 0 where
   -- the bytes are refused with a number
@@ -52,39 +52,39 @@ abbrev pub fillsWith : Answer (Fills (Unit {0})) → List ℕ → Bool
 fillsWith (gives w) numbers = sameNumbers (w .filled) numbers
 fillsWith (refused e) numbers = false
 
-abbrev pub isSignature : Finding → List ℕ → List ℕ → Bool
+abbrev pub isSignature : Result → List ℕ → List ℕ → Bool
 isSignature (chosen e) entries numbers = sameNumbers entries numbers
 isSignature (alike a b) entries numbers = false
 
-abbrev pub isPair : Finding → ℕ → ℕ → Bool
+abbrev pub isPair : Result → ℕ → ℕ → Bool
 isPair (chosen e) a b = false
 isPair (alike c d) a b = eqb c a && eqb d b
 
-abbrev pub choosesSo : Answer (Fills Choice) → (Choice → Bool) → Bool
+abbrev pub choosesSo : Answer (Fills Decision) → (Decision → Bool) → Bool
 choosesSo (gives w) test = test (w .value)
 choosesSo (refused e) test = false
 
 -- the lent memory has just the room that is needed, 2 ^ n places or bytes being enough
-unfoldable pub holds : Example → Bool
-holds (refuses s k) = isRefused (reading s) k
-holds (counts s n g f) = hasCounts (reading s) n g f
-holds (transforms n s kind k numbers) = fillsWith (spectrumOf n s kind k (2 ^ n)) numbers
-holds (undoes n numbers kind k s) = fillsWith (undoneOf n numbers kind k (2 ^ n)) s
-holds (undoes-not n numbers kind k e) = isRefused (undoneOf n numbers kind k (2 ^ n)) e
-holds (chooses purpose s kind numbers) = choosesSo (chosenOf purpose s kind 0 16) (λ c. isSignature (c .finding) (c .entries) numbers)
-holds (chooses-not purpose s kind a b) = choosesSo (chosenOf purpose s kind 0 16) (λ c. isPair (c .finding) a b)
-holds (prints s text) = sameNumbers (reportText s (zeros 16)) text
+unfoldable pub passes : Example → Bool
+passes (refuses s k) = isRefused (reading s) k
+passes (counts s n g f) = hasCounts (reading s) n g f
+passes (transforms n s kind k numbers) = fillsWith (spectrumOf n s kind k (2 ^ n)) numbers
+passes (undoes n numbers kind k s) = fillsWith (undoneOf n numbers kind k (2 ^ n)) s
+passes (undoes-not n numbers kind k e) = isRefused (undoneOf n numbers kind k (2 ^ n)) e
+passes (chooses purpose s kind numbers) = choosesSo (chosenOf purpose s kind 0 16) (λ c. isSignature (c .result) (c .entries) numbers)
+passes (chooses-not purpose s kind a b) = choosesSo (chosenOf purpose s kind 0 16) (λ c. isPair (c .result) a b)
+passes (prints s text) = sameNumbers (reportText s (zeros 16)) text
 
-unfoldable pub allHold : List Example → Bool
-allHold [] = true
-allHold (e ∷ es) = holds e && allHold es
+unfoldable pub allPass : List Example → Bool
+allPass [] = true
+allPass (e ∷ es) = passes e && allPass es
 
 unfoldable pub jobA : List ℕ
 jobA = 0x20 ∷ 0x20 ∷ 0x00 ∷ 0x10 ∷ 0x41 ∷ 0x80 ∷ 0x00 ∷ 0x20 ∷ 0x00 ∷ 0x20 ∷ 0x40 ∷ 0x80 ∷ []
 
 -- what the report program prints for job A, line by line
-unfoldable pub sheetA : List ℕ
-sheetA =
+unfoldable pub textA : List ℕ
+textA =
     -- inputs 2 gates 1 faults 3
     105 ∷ 110 ∷ 112 ∷ 117 ∷ 116 ∷ 115 ∷ 32 ∷ 50 ∷ 32 ∷ 103 ∷ 97 ∷ 116 ∷ 101 ∷ 115 ∷ 32 ∷ 49 ∷ 32 ∷ 102 ∷ 97 ∷ 117 ∷ 108 ∷ 116 ∷ 115 ∷ 32 ∷ 51 ∷ 10
     -- signature 1 3
@@ -125,5 +125,5 @@ examples =
     -- P10
     ∷ chooses-not Isolating (0x20 ∷ 0x20 ∷ 0x00 ∷ 0x10 ∷ 0x40 ∷ 0xc0 ∷ 0x00 ∷ 0x80 ∷ []) Mrm 0 1
     -- the report program on job A
-    ∷ prints jobA sheetA
+    ∷ prints jobA textA
     ∷ []

@@ -1,8 +1,5 @@
 pub mod Answers
-pub mod Fitting
-pub mod Kept
-pub mod Polynomial
-pub mod Rows
-pub mod Sized
-pub mod Splice
-pub mod Tabled
+pub mod Masks
+pub mod Polynomials
+pub mod StepTests
+pub mod Tables

@@ -1,4 +1,4 @@
--- The answers of the gates (document 01, "Job layout").
+-- Believed: the answers of the gates (document 01, "Job layout").
 use Prim.Native.Nat.{ℕ, _+_, _*_}
 use mathlib.Core.List.{List, [], _∷_}
 use lib.ListN.{getD}

@@ -1,4 +1,4 @@
 pub mod Answers
-pub mod Form
+pub mod Polynomial
 pub mod Rows
 pub mod Values

@@ -1,4 +1,4 @@
--- The values of an input and of bridged inputs (document 01, "Tables").
+-- Believed: the values of an input and of bridged inputs (document 01, "Tables").
 --
 --   inputValue   the value of an input, for an input number
 --   bridged      the value that a bridge gives two inputs, for their own values

@@ -24,11 +24,11 @@ use Rattle.reading.specs.declared.Reading.{Reading}
 use Rattle.writing.specs.Writing.{written, writtenTold}
 use Rattle.writing.specs.declared.Written.{Written}
 use Rattle.writing.specs.declared.Written.the-variants as writing
-use Rattle.tables.proofs.Answering.{kept}
-use Rattle.transform.specs.declared.Kind.{Kind}
-use Rattle.transform.specs.declared.Kind.the-variants.{Mrm}
-use Rattle.matrix.specs.declared.Signature.{Signature}
-use Rattle.choosing.specs.Choosing.{Chose, verdictTold}
+use Rattle.tables.proofs.Answers.{kept}
+use Rattle.spectra.specs.declared.Kind.{Kind}
+use Rattle.spectra.specs.declared.Kind.the-variants.{Mrm}
+use Rattle.chooser.specs.declared.Signature.{Signature}
+use Rattle.choosing.specs.Choosing.{AtExit, verdictTold}
 use Rattle.choosing.specs.declared.Purpose.{Purpose}
 use Rattle.choosing.specs.declared.Purpose.the-variants.{Detecting}
 use Rattle.choosing.specs.declared.Verdict.{Verdict}
@@ -110,12 +110,12 @@ found-refused v s e h =
     ap (λ (m : ℕ). record { number = m; first = 0; second = 0; inputs = 0; gates = 0; faults = 0; count = s .count; entries = s .entries }) h
     ∙ ap (λ (x : Verdict). foundOf (verdictTold x) s) (sym e)
 
-pub chosen-by : {after : List ℕ} {signature : Signature} {purpose : Purpose} {kind : Kind} {r : ChoiceAnswer} (f : Purpose → Kind → Chose) (p k : ℕ) (v : Verdict)
+pub chosen-by : {after : List ℕ} {signature : Signature} {purpose : Purpose} {kind : Kind} {r : ChoiceAnswer} (f : Purpose → Kind → AtExit) (p k : ℕ) (v : Verdict)
     → purpose ≡ purposeOf p → kind ≡ kindOf k → record { answer = verdictTold v; signature = signature; memory = after } ≡ f purpose kind
     → r ≡ foundOf (verdictTold v) signature → (r ≡ choiceOf (f (purposeOf p) (kindOf k))) × (after ≡ f (purposeOf p) (kindOf k) .memory)
 chosen-by f p k v hp hk e h =
     let q = e ∙ ap₂ f hp hk in
-    (h ∙ ap (λ (x : Chose). choiceOf x) q, ap (λ (x : Chose). x .memory) q)
+    (h ∙ ap (λ (x : AtExit). choiceOf x) q, ap (λ (x : AtExit). x .memory) q)
 
 pub location-refused : {n : ℕ} {cause : Refusal} (v : Located) → v ≡ locating.Refused cause → n ≡ number cause
     → record { number = n; agreeing = 0; circuit = 0 } ≡ locationOf (locatedTold v)

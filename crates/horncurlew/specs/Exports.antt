@@ -1,4 +1,4 @@
--- What the exported operations answer: the document's number, 0 for success, and its values; unused places are 0.
+-- Believed: what the exported operations answer: the document's number, 0 for success, and its values; unused places are 0.
 --
 --   kindOf, purposeOf      0 is RM and isolating, any other number MRM and detecting
 --   numberOf               the number of an answer
@@ -14,17 +14,17 @@ use Rattle.bits.specs.Answer.Answer.{gives, refused}
 use Rattle.job.specs.declared.Job.{Job}
 use Rattle.reading.specs.Reading.{reading}
 use Rattle.writing.specs.Writing.{written}
-use Rattle.transform.specs.declared.Kind.{Kind}
-use Rattle.transform.specs.declared.Kind.the-variants.{Rm, Mrm}
-use Rattle.matrix.specs.declared.Signature.{Signature}
-use Rattle.choosing.specs.Choosing.{Finding, Chose}
-use Rattle.choosing.specs.Choosing.Finding.{chosen, alike}
+use Rattle.spectra.specs.declared.Kind.{Kind}
+use Rattle.spectra.specs.declared.Kind.the-variants.{Rm, Mrm}
+use Rattle.chooser.specs.declared.Signature.{Signature}
+use Rattle.choosing.specs.Choosing.{Result, AtExit}
+use Rattle.choosing.specs.Choosing.Result.{chosen, alike}
 use Rattle.choosing.specs.declared.Purpose.{Purpose}
 use Rattle.choosing.specs.declared.Purpose.the-variants.{Isolating, Detecting}
 use Rattle.locating.specs.Locating.{Location}
 use Rattle.locating.specs.Locating.Location.{alone, several, nowhere}
-use Rattle.sheet.specs.declared.Reported.{Reported}
-use Rattle.sheet.specs.declared.Reported.the-variants.{Written, Short}
+use Rattle.report_text.specs.declared.Reported.{Reported}
+use Rattle.report_text.specs.declared.Reported.the-variants.{Written, Short}
 use Rattle.horncurlew.specs.declared.ReportAnswer.{ReportAnswer}
 use Rattle.horncurlew.specs.declared.JobAnswer.{JobAnswer}
 use Rattle.horncurlew.specs.declared.LengthAnswer.{LengthAnswer}
@@ -62,7 +62,7 @@ lengthOf (refused k) = record { number = k; length = 0 }
 abbrev pub rewrittenOf : List ℕ → ℕ → Answer (Fills ℕ)
 rewrittenOf s room = onward (reading s) (λ j. written j room)
 
-abbrev pub foundOf : Answer Finding → Signature → ChoiceAnswer
+abbrev pub foundOf : Answer Result → Signature → ChoiceAnswer
 foundOf (gives (chosen c)) s =
     record {
       number = 0;
@@ -79,7 +79,7 @@ foundOf (gives (alike a b)) s =
 foundOf (refused k) s =
     record { number = k; first = 0; second = 0; inputs = 0; gates = 0; faults = 0; count = s .count; entries = s .entries }
 
-abbrev pub choiceOf : Chose → ChoiceAnswer
+abbrev pub choiceOf : AtExit → ChoiceAnswer
 choiceOf c = foundOf (c .answer) (c .signature)
 
 -- the number of agreeing circuits, and the lowest of them

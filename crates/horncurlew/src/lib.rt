@@ -7,17 +7,17 @@ ghost use Rattle.bits.specs.Answer.{leaves, outcome};
 ghost use Rattle.reading.specs.Reading.{reading};
 ghost use Rattle.tables.specs.Operations.{tableOf};
 ghost use Rattle.spectra.specs.Operations.{spectrumOf, undoneOf};
-ghost use Rattle.choosing.specs.Choosing.{chosenOf, chose, verdictTold};
+ghost use Rattle.choosing.specs.Choosing.{chosenOf, atExit, verdictTold};
 ghost use Rattle.locating.specs.Locating.{locatedOf, locatedTold};
-ghost use Rattle.sheet.specs.Sheet.{reported};
+ghost use Rattle.report_text.specs.Text.{reported};
 ghost use Rattle.horncurlew.specs.Exports.{reportOf, kindOf, purposeOf, numberOf, numbered, jobOf, lengthOf, rewrittenOf, foundOf, choiceOf, locationOf};
 use bits::Outcome;
+use chooser::Signature;
 use choosing::Purpose;
 use choosing::Verdict;
 use locating::Located;
-use matrix::Signature;
-use sheet::Reported;
-use transform::Kind;
+use report_text::Reported;
+use spectra::Kind;
 use writing::Written;
 
 // The counts of a job.
@@ -46,7 +46,7 @@ pub struct ChoiceAnswer {
     pub gates: usize,
     pub faults: usize,
     pub count: usize,
-    pub entries: [u16; matrix::MAX_ENTRIES],
+    pub entries: [u16; chooser::MAX_SIGNATURE],
 }
 
 // How many circuits agree, and the lowest of them.
@@ -217,7 +217,7 @@ pub extern "C" fn horncurlew_choose(
     polarity: usize,
     work: &mut [u16],
 ) -> ChoiceAnswer
-    ensures { λ r. ⌜ (r ≡ choiceOf (chose (chosenOf (purposeOf purpose) (now (bytes .entry)) (kindOf kind) polarity (length (now (work .entry)))) (now (work .entry)))) × (now (work .exit) ≡ chose (chosenOf (purposeOf purpose) (now (bytes .entry)) (kindOf kind) polarity (length (now (work .entry)))) (now (work .entry)) .memory) ⌝ }
+    ensures { λ r. ⌜ (r ≡ choiceOf (atExit (chosenOf (purposeOf purpose) (now (bytes .entry)) (kindOf kind) polarity (length (now (work .entry)))) (now (work .entry)))) × (now (work .exit) ≡ atExit (chosenOf (purposeOf purpose) (now (bytes .entry)) (kindOf kind) polarity (length (now (work .entry)))) (now (work .entry)) .memory) ⌝ }
 {
     let chosen = choosing::choose(bytes, purpose_of(purpose), kind_of(kind), polarity, work);
     let verdict = chosen.verdict;
@@ -284,6 +284,6 @@ fn report_of(reported: Reported) -> ReportAnswer
 pub extern "C" fn horncurlew_report(bytes: &[u8], work: &mut [u16], out: &mut [u8]) -> ReportAnswer
     ensures { λ r. ⌜ (r ≡ reportOf (reported (now (bytes .entry)) (now (work .entry)) (now (out .entry)) .answer)) × (now (work .exit) ≡ reported (now (bytes .entry)) (now (work .entry)) (now (out .entry)) .work) × (now (out .exit) ≡ reported (now (bytes .entry)) (now (work .entry)) (now (out .entry)) .text) ⌝ }
 {
-    let reported = sheet::report(bytes, work, out);
+    let reported = report_text::report(bytes, work, out);
     report_of(reported)
 }

@@ -1,6 +1,6 @@
-pub mod Check
-pub mod Checked
+pub mod Acceptance
 pub mod Numbers
 pub mod Record
 pub mod Sizes
 pub mod Unused
+pub mod Validity

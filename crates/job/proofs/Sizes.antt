@@ -5,10 +5,13 @@
 --   eight-kinds, four-kinds   the kinds are the numbers of their fields
 --   counts-of-faults    a count of faults that its field holds is within the limit
 --   most-inputs         the input numbers fit two bytes, with room for a carry
+--   inputs-few          the inputs are fewer than the bits of a word
 --   most-places         places of coefficients, for all circuits of a job, can be counted in a word
-use Prim.Native.Nat.{suc, _+_, _*_, _^_, _≤_, _<_}
+use Prim.Native.Nat.{ℕ, suc, _+_, _*_, _^_, _≤_, _<_}
+use native.Mathlib.Nat.{le-trans}
 use mathlib.Core.Path.{_≡_, refl}
 use lib.Dec.{lit<, lit≤}
+use Rattle.bits.proofs.TableSizes.{fifteen-few}
 use Rattle.job.specs.Layout.{maxInputs, maxGates, maxFaults, inputCountBits, gateCountBits, gateKindBits, lineBits, faultCountBits, faultKindBits}
 
 pub all-lines : maxInputs + maxGates ≤ 2 ^ lineBits
@@ -46,3 +49,6 @@ most-inputs = lit≤ tt
 pub most-places : (maxFaults + 1) * 2 ^ maxInputs < 2 ^ 64
 unfolding maxFaults maxInputs
 most-places = lit< tt
+
+pub inputs-few : {n : ℕ} → n ≤ maxInputs → n < 64
+inputs-few h = fifteen-few (le-trans h most-inputs)

@@ -1,4 +1,4 @@
--- The tests that document 01, "Refusal by operation", makes of a circuit and its faults, each with its number. Reading and writing share them.
+-- Believed: the tests that document 01, "Refusal by operation", makes of a circuit and its faults, each with its number. Reading and writing share them.
 --
 --   inputsOk, gatesOk, .., faultsOk   the tests 2, 3, 4, 6, 18, 7, 8
 --   checked                           the first refusal of a record, in the order of writing

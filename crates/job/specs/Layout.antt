@@ -1,4 +1,4 @@
--- The sizes that document 01 fixes: the ranges of its first paragraph and the widths of "Job layout".
+-- Believed: the sizes that document 01 fixes: the ranges of its first paragraph and the widths of "Job layout".
 use Prim.Native.Nat.{ℕ}
 
 -- "1 to 8 inputs, 0 to 64 gates, one output and 0 to 63 single faults"

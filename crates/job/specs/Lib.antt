@@ -1,4 +1,3 @@
 pub mod Check
 pub mod Layout
 pub mod Record
-pub mod Wiring

@@ -1,4 +1,4 @@
--- The record of a job, and the numbers that stand for its gates and faults (document 01, "Job layout").
+-- Believed: the record of a job, and the numbers that stand for its gates and faults (document 01, "Job layout").
 --
 --   gateKind, gateA, gateB      a gate's kind and lines as numbers; gateOf is the way back
 --   faultKind, faultA, faultB   a fault's kind and lines as numbers; faultOf is the way back

@@ -1,5 +1,5 @@
-pub mod Scanned
-pub mod Indexed
-pub mod Compared
-pub mod Sought
-pub mod Handed
+pub mod Answers
+pub mod Comparison
+pub mod Indices
+pub mod JobTables
+pub mod Scans

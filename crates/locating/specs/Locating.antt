@@ -1,4 +1,4 @@
--- Locating a unit from its readings (document 01, "Locating" and "Refusal by operation").
+-- Believed: locating a unit from its readings (document 01, "Locating" and "Refusal by operation").
 --
 --   Location       one circuit alone, several with the lowest and their number, or none
 --   readingsOf     "A circuit's readings for a list are its coefficients at the list's indices, in list order"
@@ -17,10 +17,9 @@ use Rattle.bits.specs.Passing.{passing}
 use Rattle.job.specs.declared.Job.{Job}
 use Rattle.reading.specs.Reading.{reading}
 use Rattle.tables.specs.Circuit.{circuitEntry}
-use Rattle.transform.specs.Operations.{polarityOk}
-use Rattle.spectra.specs.Operations.{circuitSpectra, sameNumbers}
-use Rattle.transform.specs.Spectrum.{coefficient}
-use Rattle.transform.specs.declared.Kind.{Kind}
+use Rattle.spectra.specs.Operations.{polarityOk, circuitSpectra, sameNumbers}
+use Rattle.spectra.specs.Spectrum.{coefficient}
+use Rattle.spectra.specs.declared.Kind.{Kind}
 use Rattle.locating.specs.declared.Located.{Located}
 use Rattle.locating.specs.declared.Located.the-variants.{Alone, Several, Nowhere, Refused}
 

@@ -1,4 +1,4 @@
--- What locating does once the tables are known.
+-- Kept by the code: what locating does once the tables are known.
 --
 --   numbersAt      the numbers of the work at a list of indices, from a place on
 --   workAgrees     a row of the work agrees with readings
@@ -13,9 +13,8 @@ use lib.Dec.{eqb}
 use lib.ListN.{length, getD}
 use Rattle.bits.specs.Answer.{Answer, Fills, unless, onward}
 use Rattle.bits.specs.Answer.Answer.{gives}
-use Rattle.transform.specs.Operations.{polarityOk, rowsOf}
-use Rattle.spectra.specs.Operations.{sameNumbers}
-use Rattle.transform.specs.declared.Kind.{Kind}
+use Rattle.spectra.specs.Operations.{polarityOk, rowsOf, sameNumbers}
+use Rattle.spectra.specs.declared.Kind.{Kind}
 use Rattle.locating.specs.Locating.{Location, location, agreeing, indicesOk}
 use Rattle.locating.specs.Locating.Location.{alone, several, nowhere}
 

@@ -7,17 +7,17 @@ ghost use lib.Dec.{eqb};
 ghost use lib.ListN.{length, take};
 ghost use Rattle.bits.specs.Answer.{leaves};
 ghost use Rattle.bits.specs.Answer.Answer.{gives};
-ghost use Rattle.gates.specs.Form.{tableBytes};
-ghost use Rattle.spectra.specs.Filling.{Counted};
+ghost use Rattle.bits.specs.Sizes.{tableBytes};
+ghost use Rattle.spectra.specs.Rows.{Counted};
 ghost use Rattle.spectra.specs.Operations.{sameNumbers};
 ghost use Rattle.locating.specs.Locating.{locatedOf, locatedTold, location, agreeing, indicesOk};
 ghost use Rattle.locating.specs.Scanning.{numbersAt, workAgrees, locationOf, rowsLocated, Readable};
 use bits::Outcome;
 use bits::Refusal;
+use spectra::Kind;
 use tables::ALL_TABLES_BYTES;
 use tables::Counts;
-use tables::TablesAnswer;
-use transform::Kind;
+use tables::CountsAnswer;
 
 // The one agreeing circuit; the lowest agreeing circuit and how many agree; none; or the refusal.
 pub enum Located {
@@ -32,7 +32,7 @@ fn indices_ok(indices: &[u16], n: usize) -> bool
     requires { ⌜ n ≤ 15 ⌝ }
     ensures { λ r. ⌜ r ≡ indicesOk n (now (indices .entry)) ⌝ }
 {
-    let size = gates::places(n);
+    let size = bits::table_size(n);
     let mut i = 0;
     while i < indices.len() {
         if size <= indices[i] as usize {
@@ -100,7 +100,7 @@ fn scan(work: &[u16], indices: &[u16], readings: &[u16], n: usize, rows: usize) 
     requires { ⌜ (n ≤ 15) × Readable n (now indices) (now readings) × (rows * 2 ^ n ≤ length (now work)) ⌝ }
     ensures { λ r. ⌜ locatedTold r ≡ gives (location (agreeing (workAgrees (now (work .entry)) n (now (indices .entry)) (now (readings .entry))) rows)) ⌝ }
 {
-    let size = gates::places(n);
+    let size = bits::table_size(n);
     let mut lowest = 0;
     let mut count = 0;
     let mut c = 0;
@@ -127,16 +127,16 @@ fn locate_rows(
     requires { ⌜ n ≤ 15 ⌝ }
     ensures { λ r. ⌜ record { answer = locatedTold r; memory = now (work .exit) } ≡ leaves (rowsLocated n rows (now (tables .entry)) kind polarity (now (indices .entry)) (now (readings .entry)) (length (now (work .entry)))) (now (work .entry)) ⌝ }
 {
-    if gates::places(n) <= polarity {
+    if bits::table_size(n) <= polarity {
         return Located::Refused(Refusal::Polarity);
     }
     if !indices_ok(indices, n) {
         return Located::Refused(Refusal::Index);
     }
     if indices.len() != readings.len() {
-        return Located::Refused(Refusal::ReadingCount);
+        return Located::Refused(Refusal::Readings);
     }
-    let outcome = transform::row_spectra(n, rows, tables, kind, polarity, work);
+    let outcome = spectra::row_spectra(n, rows, tables, kind, polarity, work);
     match outcome {
         Outcome::Refused(cause) => Located::Refused(cause),
         Outcome::Done => scan(work, indices, readings, n, rows),
@@ -157,7 +157,7 @@ fn locate_counted(
     ensures { λ r. ⌜ record { answer = locatedTold r; memory = now (work .exit) } ≡ leaves (rowsLocated (counts .inputs) (counts .faults + 1) (take ((counts .faults + 1) * tableBytes (counts .inputs)) (now (packed .entry))) kind polarity (now (indices .entry)) (now (readings .entry)) (length (now (work .entry)))) (now (work .entry)) ⌝ }
 {
     let rows = counts.faults + 1;
-    let end = rows * gates::table_bytes(counts.inputs);
+    let end = rows * bits::table_bytes(counts.inputs);
     locate_rows(
         counts.inputs,
         rows,
@@ -182,10 +182,10 @@ pub fn locate(
     ensures { λ r. ⌜ record { answer = locatedTold r; memory = now (work .exit) } ≡ leaves (locatedOf (now (bytes .entry)) kind polarity (now (indices .entry)) (now (readings .entry)) (length (now (work .entry)))) (now (work .entry)) ⌝ }
 {
     let mut packed = [0u8; ALL_TABLES_BYTES];
-    let answer = circuits::tables(bytes, &mut packed);
+    let answer = tables::tables(bytes, &mut packed);
     match answer {
-        TablesAnswer::Refused(cause) => Located::Refused(cause),
-        TablesAnswer::Filled(counts) => {
+        CountsAnswer::Refused(cause) => Located::Refused(cause),
+        CountsAnswer::Filled(counts) => {
             locate_counted(&packed, counts, kind, polarity, indices, readings, work)
         }
     }

@@ -1,9 +1,9 @@
-pub mod Pairs
 pub mod Agreement
-pub mod Takes
+pub mod Bound
+pub mod Congruence
 pub mod Drops
-pub mod Bounded
-pub mod Signatures
-pub mod Unchanged
 pub mod Firsts
-pub mod Applied
+pub mod JobA
+pub mod Pairs
+pub mod Signatures
+pub mod Takes

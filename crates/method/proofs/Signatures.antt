@@ -16,7 +16,7 @@ use Rattle.method.specs.Method.{without, agree, full, takes, signature}
 use Rattle.method.proofs.Pairs.{full-some}
 use Rattle.method.proofs.Takes.{takes-tell, takes-full, takes-from}
 use Rattle.method.proofs.Drops.{drops-tell, drops-full, drops-minimal, drops-from, drops-le}
-use Rattle.method.proofs.Bounded.{takes-bounded}
+use Rattle.method.proofs.Bound.{takes-bounded}
 
 module _ {E : Type 0} (coef : ℕ → E → ℕ) (rows : ℕ) (needed : ℕ → ℕ → Bool) (scan : List E) where
   pub signature-tell : (a b : ℕ) → a < b → b < rows → needed a b ≡ true → agree coef (signature coef rows needed scan) a b ≡ true

@@ -1,4 +1,4 @@
--- The method of choosing (document 01, "Choosing"), over any matrix of coefficients (a row a circuit, an entry of any type), any number of
+-- Believed: the method of choosing (document 01, "Choosing"), over any matrix of coefficients (a row a circuit, an entry of any type), any number of
 -- rows, any scan order and any relation of needed pairs.
 --
 --   agree       two rows have equal coefficients at every entry of a list

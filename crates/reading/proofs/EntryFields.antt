@@ -15,7 +15,7 @@ use Rattle.bits.specs.declared.Field.the-variants.{Value, Cut}
 use Rattle.bits.proofs.Fields.{field-value, field-cut, field-near}
 use Rattle.job.specs.Layout.{lineBits}
 use Rattle.reading.specs.Reading.{entryFields}
-use Rattle.reading.specs.Told.{Near}
+use Rattle.reading.specs.Stages.{Near}
 
 module _ (s : List ℕ) (at : Cursor) (w : ℕ) where
   pub entry-first : Near 24 at → isWidth w ≡ true → fieldAt s at w ≡ Cut → entryFields w (from s at) ≡ refused 1

@@ -1,7 +1,7 @@
+pub mod Consequences
 pub mod Entries
 pub mod EntryFields
 pub mod FaultKinds
-pub mod Parts
+pub mod Inversion
 pub mod Refusals
-pub mod Telling
-pub mod Valid
+pub mod Validity

@@ -1,4 +1,4 @@
--- Reading a job (document 01, "Job layout" and "Refusal by operation"). Each line of a `do` block takes a field, or checks what was taken.
+-- Believed: reading a job (document 01, "Job layout" and "Refusal by operation"). Each line of a `do` block takes a field, or checks what was taken.
 --
 --   entryFields             the three fields of a gate or a fault
 --   gate, fault             one gate, one fault

@@ -6,7 +6,8 @@ ghost use Rattle.bits.specs.Answer.Answer.{refused};
 ghost use Rattle.bits.specs.Field.{from, maxWidth};
 ghost use Rattle.job.specs.Layout.{maxGates, maxFaults};
 ghost use Rattle.reading.specs.Reading.{reading, valueRead, unaryLinesOk, gate, fault, fromGates, fromOutput, fromFaultCount, fromFaults, fromEnd};
-ghost use Rattle.reading.specs.Told.{told, due, gateTold, faultTold, gateEnd, faultEnd, Near};
+ghost use Rattle.reading.specs.Told.{told, due};
+ghost use Rattle.reading.specs.Stages.{gateTold, faultTold, gateEnd, faultEnd, Near};
 use bits::Cursor;
 use bits::Field;
 use bits::Outcome;
@@ -46,19 +47,19 @@ pub fn read(s: &[u8]) -> Reading
 {
     let start = Cursor { bit: 0 };
     let Field::Value(n, c) = bits::read_field(s, start, INPUT_COUNT_BITS) else {
-        return refused(Refusal::FieldCut);
+        return refused(Refusal::BytesEnd);
     };
     if n < 1 {
-        return refused(Refusal::InputCount);
+        return refused(Refusal::Inputs);
     }
     if MAX_INPUTS < n {
-        return refused(Refusal::InputCount);
+        return refused(Refusal::Inputs);
     }
     let Field::Value(g, d) = bits::read_field(s, c, GATE_COUNT_BITS) else {
-        return refused(Refusal::FieldCut);
+        return refused(Refusal::BytesEnd);
     };
     if MAX_GATES < g {
-        return refused(Refusal::GateCount);
+        return refused(Refusal::Gates);
     }
     let mut job = job::empty_job();
     job.inputs = n as u8;
@@ -85,13 +86,13 @@ fn read_gate(s: &[u8], at: Cursor, own: usize) -> GateRead
     ensures { λ r. ⌜ (gateTold (now (s .entry)) r ≡ gate own (from (now (s .entry)) at)) × (gateEnd r ≤ at .bit + 3 * maxWidth) ⌝ }
 {
     let Field::Value(kind, c) = bits::read_field(s, at, GATE_KIND_BITS) else {
-        return GateRead::Refused(Refusal::FieldCut);
+        return GateRead::Refused(Refusal::BytesEnd);
     };
     let Field::Value(a, d) = bits::read_field(s, c, LINE_BITS) else {
-        return GateRead::Refused(Refusal::FieldCut);
+        return GateRead::Refused(Refusal::BytesEnd);
     };
     let Field::Value(b, e) = bits::read_field(s, d, LINE_BITS) else {
-        return GateRead::Refused(Refusal::FieldCut);
+        return GateRead::Refused(Refusal::BytesEnd);
     };
     if own <= a {
         return GateRead::Refused(Refusal::GateLine);
@@ -100,7 +101,7 @@ fn read_gate(s: &[u8], at: Cursor, own: usize) -> GateRead
         return GateRead::Refused(Refusal::GateLine);
     }
     if !unary_lines_ok(kind, a, b) {
-        return GateRead::Refused(Refusal::UnaryLines);
+        return GateRead::Refused(Refusal::OneLine);
     }
     GateRead::Found(job::gate_of(kind, a as u8, b as u8), e)
 }
@@ -136,10 +137,10 @@ fn read_output(s: &[u8], at: Cursor, before: Job) -> Reading
     ensures { λ r. ⌜ told r ≡ due (valueRead (fromOutput before (from (now (s .entry)) at))) ⌝ }
 {
     let Field::Value(line, c) = bits::read_field(s, at, LINE_BITS) else {
-        return refused(Refusal::FieldCut);
+        return refused(Refusal::BytesEnd);
     };
     if before.inputs as usize + before.gate_count as usize <= line {
-        return refused(Refusal::OutputLine);
+        return refused(Refusal::Output);
     }
     let mut job = before;
     job.output = line as u8;
@@ -152,7 +153,7 @@ fn read_fault_count(s: &[u8], at: Cursor, before: Job) -> Reading
     ensures { λ r. ⌜ told r ≡ due (valueRead (fromFaultCount before (from (now (s .entry)) at))) ⌝ }
 {
     let Field::Value(f, c) = bits::read_field(s, at, FAULT_COUNT_BITS) else {
-        return refused(Refusal::FieldCut);
+        return refused(Refusal::BytesEnd);
     };
     let mut job = before;
     job.fault_count = f as u8;
@@ -171,20 +172,20 @@ fn read_fault(s: &[u8], at: Cursor, inputs: usize, lines: usize) -> FaultRead
     ensures { λ r. ⌜ (faultTold (now (s .entry)) r ≡ fault inputs lines (from (now (s .entry)) at)) × (faultEnd r ≤ at .bit + 3 * maxWidth) ⌝ }
 {
     let Field::Value(kind, c) = bits::read_field(s, at, FAULT_KIND_BITS) else {
-        return FaultRead::Refused(Refusal::FieldCut);
+        return FaultRead::Refused(Refusal::BytesEnd);
     };
     let Field::Value(a, d) = bits::read_field(s, c, LINE_BITS) else {
-        return FaultRead::Refused(Refusal::FieldCut);
+        return FaultRead::Refused(Refusal::BytesEnd);
     };
     let Field::Value(b, e) = bits::read_field(s, d, LINE_BITS) else {
-        return FaultRead::Refused(Refusal::FieldCut);
+        return FaultRead::Refused(Refusal::BytesEnd);
     };
     if kind < 2 {
         if lines <= a {
             return FaultRead::Refused(Refusal::FaultLine);
         }
         if b != a {
-            return FaultRead::Refused(Refusal::FaultOrder);
+            return FaultRead::Refused(Refusal::FaultPair);
         }
         return FaultRead::Found(job::fault_of(kind, a as u8, b as u8), e);
     }
@@ -195,7 +196,7 @@ fn read_fault(s: &[u8], at: Cursor, inputs: usize, lines: usize) -> FaultRead
         return FaultRead::Refused(Refusal::FaultLine);
     }
     if b <= a {
-        return FaultRead::Refused(Refusal::FaultOrder);
+        return FaultRead::Refused(Refusal::FaultPair);
     }
     FaultRead::Found(job::fault_of(kind, a as u8, b as u8), e)
 }
@@ -231,7 +232,7 @@ fn read_end(s: &[u8], at: Cursor, job: Job) -> Reading
     ensures { λ r. ⌜ told r ≡ due (valueRead (fromEnd job (from (now (s .entry)) at))) ⌝ }
 {
     if !bits::spare_only(s, at) {
-        return refused(Refusal::Ending);
+        return refused(Refusal::Spare);
     }
     Reading {
         outcome: Outcome::Done,

@@ -20,12 +20,12 @@ use lib.Bits.{bitXor, differ, xor-step, xor-shr, xor-mod, xor-zero-r, xor-self, 
 use lib.Pow.{pow-pos}
 use Rattle.bits.proofs.Below.{lt-or-ge}
 use Rattle.bits.proofs.Packed.{Table}
-use Rattle.transform.specs.Spectrum.{inside, sumTo, subsetSum, reduce, coefficient, recovered}
-use Rattle.transform.specs.declared.Kind.{Kind}
-use Rattle.transform.specs.declared.Kind.the-variants.{Rm, Mrm}
-use Rattle.transform.proofs.Bounds.{coefficient-ext}
-use Rattle.transform.proofs.Halves.{halves-lower, halves-upper}
-use Rattle.transform.proofs.Sums.{sumTo-ext, sumTo-plus, sumTo-mod, pow-double, term}
+use Rattle.spectra.specs.Spectrum.{inside, sumTo, subsetSum, reduce, coefficient, recovered}
+use Rattle.spectra.specs.declared.Kind.{Kind}
+use Rattle.spectra.specs.declared.Kind.the-variants.{Rm, Mrm}
+use Rattle.spectra.proofs.Bounds.{coefficient-ext}
+use Rattle.spectra.proofs.Halves.{halves-lower, halves-upper}
+use Rattle.spectra.proofs.Sums.{sumTo-ext, sumTo-plus, sumTo-mod, pow-double, term}
 
 -- ---- xor
 

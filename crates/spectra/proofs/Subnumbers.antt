@@ -12,9 +12,9 @@ use mathlib.Core.Logic.{_⊎_, inl, inr, ⊎-elim, _≢_, _↔_}
 use borrow.Author.Tests.{eqb-true, eq-eqb}
 use lib.Bits.{bitAnd, bitXor, and-le-l, and-mask, and-zero-r, xor-lt, xor-self}
 use Rattle.bits.proofs.Digits.{digit-lt, digits-equal, digit-and, digit-xor}
-use Rattle.transform.specs.Spectrum.{inside}
+use Rattle.spectra.specs.Spectrum.{inside}
 use Rattle.spectra.proofs.Inverse.{xor-undo}
-use Rattle.spectra.proofs.Unique.{equal-or-not}
+use Rattle.spectra.proofs.Uniqueness.{equal-or-not}
 
 abbrev pub Subnumber : ℕ → ℕ → ℕ → ℕ → Type 0
 Subnumber n k s m = (i : ℕ) → i < n → (s / 2 ^ i % 2 ≡ k / 2 ^ i % 2) ⊎ (m / 2 ^ i % 2 + k / 2 ^ i % 2 ≡ 1)

@@ -1,9 +1,10 @@
 -- Where a coefficient stands in filled work (specs/Operations.antt).
 --
---   joined-at           in lists of one length joined in a row, element j of list r stands at r × length + j
---   rowSpectra-at       work place r × N + j holds coefficient j of row r
+--   length-joined           lists of one length joined in a row have so many times that length
+--   joined-at               element j of list r stands at r × length + j
+--   rowSpectra-at           work place r × N + j holds coefficient j of row r
 --   length-circuitSpectra   the spectra of so many circuits are so many times N numbers
---   circuitSpectra-at   work place c × N + j holds coefficient j of circuit c
+--   circuitSpectra-at       work place c × N + j holds coefficient j of circuit c
 use Prim.Native.Nat.{ℕ, zero, suc, _+_, _*_, _^_, _≤_, _<_}
 use native.Mathlib.Nat.{not-suc-le-zero, zero-mul, suc-mul, mul-le-mul-right}
 use native.Mathlib.Omega.{arith}
@@ -16,22 +17,21 @@ use Rattle.bits.specs.Packed.{entry}
 use Rattle.bits.proofs.Below.{lt-or-ge}
 use Rattle.job.specs.declared.Job.{Job}
 use Rattle.tables.specs.Circuit.{circuitEntry}
-use Rattle.transform.specs.Operations.{tableRow, rowSpectra}
-use Rattle.spectra.specs.Operations.{circuitSpectra}
-use Rattle.transform.specs.Spectrum.{coefficient, spectrum}
-use Rattle.transform.specs.declared.Kind.{Kind}
-use Rattle.transform.proofs.Bounds.{length-spectrum, spectrum-at}
+use Rattle.spectra.specs.Operations.{tableRow, rowSpectra, circuitSpectra}
+use Rattle.spectra.specs.Spectrum.{coefficient, spectrum}
+use Rattle.spectra.specs.declared.Kind.{Kind}
+use Rattle.spectra.proofs.Bounds.{length-spectrum, spectrum-at}
 
-module _ (joined part : ℕ → List ℕ) (width : ℕ) (none : joined zero ≡ []) (more : (r : ℕ) → joined (suc r) ≡ joined r ++ part r) (wide : (r : ℕ) → length (part r) ≡ width) where
-  length-joined : (count : ℕ) → length (joined count) ≡ count * width
+module _ (joined list : ℕ → List ℕ) (width : ℕ) (none : joined zero ≡ []) (more : (r : ℕ) → joined (suc r) ≡ joined r ++ list r) (wide : (r : ℕ) → length (list r) ≡ width) where
+  pub length-joined : (count : ℕ) → length (joined count) ≡ count * width
   length-joined zero = ap length none ∙ sym (zero-mul width)
   length-joined (suc count) =
-      ap length (more count) ∙ length-append (joined count) (part count)
+      ap length (more count) ∙ length-append (joined count) (list count)
       ∙ (λ i. length-joined count i + wide count i) ∙ sym (suc-mul count width)
 
   -- the row lies before the last, or is the last
-  step : (count r j : ℕ) → j < width → (r < count → getD (joined count) (r * width + j) 0 ≡ getD (part r) j 0) → r < suc count
-      → getD (joined (suc count)) (r * width + j) 0 ≡ getD (part r) j 0
+  step : (count r j : ℕ) → j < width → (r < count → getD (joined count) (r * width + j) 0 ≡ getD (list r) j 0) → r < suc count
+      → getD (joined (suc count)) (r * width + j) 0 ≡ getD (list r) j 0
   step count r j h before l =
       ap (λ (s : List ℕ). getD s (r * width + j) 0) (more count)
       ∙ ⊎-elim
@@ -39,14 +39,14 @@ module _ (joined part : ℕ → List ℕ) (width : ℕ) (none : joined zero ≡ 
       let m : suc r * width ≤ count * width = mul-le-mul-right width b in
       let e : suc r * width ≡ r * width + width = suc-mul r width in
       let f : length (joined count) ≡ count * width = length-joined count in
-      List·getD-append (joined count) (part count) 0 (r * width + j) (omega arith) ∙ before b)
+      List·getD-append (joined count) (list count) 0 (r * width + j) (omega arith) ∙ before b)
       (λ (b : count ≤ r).
       let e : count ≡ r = omega arith in
-      subst (λ (c : ℕ). getD (joined c ++ part c) (r * width + j) 0 ≡ getD (part r) j 0) (sym e)
-      (ap (λ (k : ℕ). getD (joined r ++ part r) (k + j) 0) (sym (length-joined r)) ∙ getD-append-add (joined r) (part r) j 0))
+      subst (λ (c : ℕ). getD (joined c ++ list c) (r * width + j) 0 ≡ getD (list r) j 0) (sym e)
+      (ap (λ (k : ℕ). getD (joined r ++ list r) (k + j) 0) (sym (length-joined r)) ∙ getD-append-add (joined r) (list r) j 0))
       (lt-or-ge r count)
 
-  pub joined-at : (count r j : ℕ) → r < count → j < width → getD (joined count) (r * width + j) 0 ≡ getD (part r) j 0
+  pub joined-at : (count r j : ℕ) → r < count → j < width → getD (joined count) (r * width + j) 0 ≡ getD (list r) j 0
   joined-at zero r j l h = absurd (not-suc-le-zero l)
   joined-at (suc count) r j l h = step count r j h (λ b. joined-at count r j b h) l
 

@@ -1,3 +1,5 @@
-pub mod Filling
 pub mod Operations
-pub mod Packing
+pub mod Parities
+pub mod Recursion
+pub mod Rows
+pub mod Spectrum

@@ -1,35 +1,122 @@
 // Reed-Muller spectra of tables and of jobs, and their undoing (document 01, "Spectra").
-ghost use Prim.Native.Nat.{_+_, _*_, _^_, _≤_, _<_};
+ghost use Prim.Native.Nat.{_+_, _*_, _/_, _^_, _≤_, _<_};
 ghost use Rattle.bits.specs.Answer.{outcome, leaves};
 ghost use Rattle.bits.specs.Bits.{valueFrom};
 ghost use Rattle.bits.specs.Packed.{packed, tabulate};
-ghost use Rattle.spectra.specs.Filling.{Counted, spectraTold};
-ghost use Rattle.spectra.specs.Operations.{spectrumOf, undoneOf, jobSpectraOf, sameNumbers};
-ghost use Rattle.spectra.specs.Packing.{parityAt, Closed, Packs, Lent};
-ghost use Rattle.transform.specs.Operations.{rowsOf, at};
-ghost use Rattle.transform.specs.Spectrum.{recovered};
-ghost use Rattle.gates.specs.Form.{tableBytes};
-ghost use Rattle.gates.specs.Rows.{splice};
-ghost use Rattle.tables.specs.Operations.{tablesTold};
+ghost use Rattle.spectra.specs.Rows.{rowsFit, Counted, spectraTold};
+ghost use Rattle.spectra.specs.Operations.{tableOk, at, rowsOf, spectrumOf, undoneOf, jobSpectraOf, sameNumbers};
+ghost use Rattle.spectra.specs.Parities.{parityAt, Closed, Packs, Lent};
+ghost use Rattle.spectra.specs.Spectrum.{recovered};
+ghost use Rattle.bits.specs.Sizes.{tableBytes};
+ghost use Rattle.bits.specs.Slices.{splice};
+ghost use Rattle.tables.specs.Operations.{countsTold};
 ghost use lib.ListN.{length, take};
 ghost use mathlib.Core.Path.{_≡_};
 use bits::Outcome;
 use bits::Refusal;
 use tables::ALL_TABLES_BYTES;
 use tables::Counts;
+use tables::CountsAnswer;
 use tables::MAX_TABLE_BYTES;
-use tables::TablesAnswer;
-use transform::Kind;
+
+mod transform;
+
+// The kind of a spectrum: Reed-Muller, or modified Reed-Muller.
+pub enum Kind {
+    Rm,
+    Mrm,
+}
+
+// Whether the bytes are a packed table of n inputs: as many as it has, and spare bits 0. Only n 1 and 2 have spare bits.
+fn table_ok(table: &[u8], n: usize) -> bool
+    requires { ⌜ (1 ≤ n) × (n ≤ 15) ⌝ }
+    ensures { λ r. ⌜ r ≡ tableOk n (now (table .entry)) ⌝ }
+{
+    if table.len() != bits::table_bytes(n) {
+        return false;
+    }
+    if n == 1 {
+        return table[0] % 64 == 0;
+    }
+    if n == 2 {
+        return table[0] % 16 == 0;
+    }
+    true
+}
+
+// How many packed tables of n inputs so many bytes hold. A table has a power of two of bytes, and shifting takes less time than dividing.
+fn table_count(size: usize, n: usize) -> usize
+    requires { ⌜ n ≤ 15 ⌝ }
+    ensures { λ r. ⌜ r ≡ size / tableBytes n ⌝ }
+{
+    if n < 3 {
+        return size;
+    }
+    size >> (n - 3)
+}
+
+// Whether the bytes are so many packed tables of n inputs.
+fn rows_ok(tables: &[u8], n: usize, rows: usize) -> bool
+    requires { ⌜ (1 ≤ n) × (n ≤ 15) ⌝ }
+    ensures { λ r. ⌜ r ≡ rowsFit n (now (tables .entry)) rows ⌝ }
+{
+    let bytes = bits::table_bytes(n);
+    if table_count(tables.len(), n) != rows {
+        return false;
+    }
+    if rows * bytes != tables.len() {
+        return false;
+    }
+    let mut r = 0;
+    while r < rows {
+        if !table_ok(&tables[r * bytes..r * bytes + bytes], n) {
+            return false;
+        }
+        r += 1;
+    }
+    true
+}
+
+// The spectra of so many packed tables that stand row after row: 2; 12; 13; 10.
+pub fn row_spectra(
+    n: usize,
+    rows: usize,
+    tables: &[u8],
+    kind: Kind,
+    polarity: usize,
+    work: &mut [u16],
+) -> Outcome
+    ensures { λ r. ⌜ record { answer = outcome r; memory = now (work .exit) } ≡ leaves (rowsOf n rows (now (tables .entry)) kind polarity (length (now (work .entry)))) (now (work .entry)) ⌝ }
+{
+    if n < 1 {
+        return Outcome::Refused(Refusal::Inputs);
+    }
+    if job::MAX_INPUTS < n {
+        return Outcome::Refused(Refusal::Inputs);
+    }
+    if !rows_ok(tables, n, rows) {
+        return Outcome::Refused(Refusal::Table);
+    }
+    let size = bits::table_size(n);
+    if size <= polarity {
+        return Outcome::Refused(Refusal::Polarity);
+    }
+    if work.len() >> n < rows {
+        return Outcome::Refused(Refusal::Memory);
+    }
+    transform::fill_rows(work, tables, n, rows, polarity, kind);
+    Outcome::Done
+}
 
 // The spectra of all circuits of the job that the bytes give, with its counts: reading's refusals; 13; 10.
-pub fn job_spectra(bytes: &[u8], kind: Kind, polarity: usize, work: &mut [u16]) -> TablesAnswer
-    ensures { λ r. ⌜ record { answer = tablesTold r; memory = now (work .exit) } ≡ leaves (jobSpectraOf (now (bytes .entry)) kind polarity (length (now (work .entry)))) (now (work .entry)) ⌝ }
+pub fn job_spectra(bytes: &[u8], kind: Kind, polarity: usize, work: &mut [u16]) -> CountsAnswer
+    ensures { λ r. ⌜ record { answer = countsTold r; memory = now (work .exit) } ≡ leaves (jobSpectraOf (now (bytes .entry)) kind polarity (length (now (work .entry)))) (now (work .entry)) ⌝ }
 {
     let mut packed = [0u8; ALL_TABLES_BYTES];
-    let answer = circuits::tables(bytes, &mut packed);
+    let answer = tables::tables(bytes, &mut packed);
     match answer {
-        TablesAnswer::Refused(cause) => TablesAnswer::Refused(cause),
-        TablesAnswer::Filled(counts) => fill_job(work, &packed, counts, kind, polarity),
+        CountsAnswer::Refused(cause) => CountsAnswer::Refused(cause),
+        CountsAnswer::Filled(counts) => fill_job(work, &packed, counts, kind, polarity),
     }
 }
 
@@ -40,16 +127,16 @@ fn fill_job(
     counts: Counts,
     kind: Kind,
     polarity: usize,
-) -> TablesAnswer
+) -> CountsAnswer
     requires { ⌜ Counted counts (length (now packed)) ⌝ }
-    ensures { λ r. ⌜ record { answer = tablesTold r; memory = now (work .exit) } ≡ leaves (spectraTold counts (rowsOf (counts .inputs) (counts .faults + 1) (take ((counts .faults + 1) * tableBytes (counts .inputs)) (now (packed .entry))) kind polarity (length (now (work .entry))))) (now (work .entry)) ⌝ }
+    ensures { λ r. ⌜ record { answer = countsTold r; memory = now (work .exit) } ≡ leaves (spectraTold counts (rowsOf (counts .inputs) (counts .faults + 1) (take ((counts .faults + 1) * tableBytes (counts .inputs)) (now (packed .entry))) kind polarity (length (now (work .entry))))) (now (work .entry)) ⌝ }
 {
     let rows = counts.faults + 1;
-    let end = rows * gates::table_bytes(counts.inputs);
-    let outcome = transform::row_spectra(counts.inputs, rows, &packed[..end], kind, polarity, work);
+    let end = rows * bits::table_bytes(counts.inputs);
+    let outcome = row_spectra(counts.inputs, rows, &packed[..end], kind, polarity, work);
     match outcome {
-        Outcome::Refused(cause) => TablesAnswer::Refused(cause),
-        Outcome::Done => TablesAnswer::Filled(counts),
+        Outcome::Refused(cause) => CountsAnswer::Refused(cause),
+        Outcome::Done => CountsAnswer::Filled(counts),
     }
 }
 
@@ -57,16 +144,11 @@ fn fill_job(
 pub fn spectrum(n: usize, table: &[u8], kind: Kind, polarity: usize, out: &mut [u16]) -> Outcome
     ensures { λ r. ⌜ record { answer = outcome r; memory = now (out .exit) } ≡ leaves (spectrumOf n (now (table .entry)) kind polarity (length (now (out .entry)))) (now (out .entry)) ⌝ }
 {
-    let answer = transform::row_spectra(n, 1, table, kind, polarity, out);
-    // Taken apart, so that no byte is read that was not written: to wait for one costs as much as a leaf.
-    match answer {
-        Outcome::Done => Outcome::Done,
-        Outcome::Refused(cause) => Outcome::Refused(cause),
-    }
+    row_spectra(n, 1, table, kind, polarity, out)
 }
 
 // The entries of the largest table.
-const MAX_ENTRIES: usize = 1 << job::MAX_INPUTS;
+const MAX_TABLE_SIZE: usize = 1 << job::MAX_INPUTS;
 
 // The parity of number (m xor k); past the last number 0.
 fn parity(numbers: &[u16], m: usize, k: usize) -> u8
@@ -112,7 +194,7 @@ fn recover(table: &mut [u8], sums: &mut [u16], numbers: &[u16], n: usize, k: usi
     ensures { λ r. ⌜ now (table .exit) ≡ packed (2 ^ n) (recovered n k (at (now (numbers .entry)))) ⌝ }
 {
     pack(table, numbers, 0);
-    transform::row_spectra(n, 1, table, Kind::Rm, 0, sums);
+    row_spectra(n, 1, table, Kind::Rm, 0, sums);
     pack(table, sums, k);
 }
 
@@ -147,14 +229,14 @@ fn undo_in(
     ensures { λ r. ⌜ record { answer = outcome r; memory = now (out .exit) } ≡ leaves (undoneOf n (now (numbers .entry)) kind k (length (now (out .entry)))) (now (out .entry)) ⌝ }
 {
     recover(table, sums, numbers, n, k);
-    transform::row_spectra(n, 1, table, kind, k, sums);
+    row_spectra(n, 1, table, kind, k, sums);
     if !same(numbers, sums) {
-        return Outcome::Refused(Refusal::NoTable);
+        return Outcome::Refused(Refusal::NoSpectrum);
     }
     if out.len() < table.len() {
         return Outcome::Refused(Refusal::Memory);
     }
-    gates::copy(out, 0, table, 0, table.len());
+    bits::copy(out, 0, table, 0, table.len());
     Outcome::Done
 }
 
@@ -163,21 +245,21 @@ pub fn undo(n: usize, numbers: &[u16], kind: Kind, polarity: usize, out: &mut [u
     ensures { λ r. ⌜ record { answer = outcome r; memory = now (out .exit) } ≡ leaves (undoneOf n (now (numbers .entry)) kind polarity (length (now (out .entry)))) (now (out .entry)) ⌝ }
 {
     if n < 1 {
-        return Outcome::Refused(Refusal::InputCount);
+        return Outcome::Refused(Refusal::Inputs);
     }
     if job::MAX_INPUTS < n {
-        return Outcome::Refused(Refusal::InputCount);
+        return Outcome::Refused(Refusal::Inputs);
     }
-    let size = gates::places(n);
+    let size = bits::table_size(n);
     if size <= polarity {
         return Outcome::Refused(Refusal::Polarity);
     }
     if numbers.len() != size {
-        return Outcome::Refused(Refusal::NoTable);
+        return Outcome::Refused(Refusal::NoSpectrum);
     }
     let bytes = (size + 7) / 8;
     let mut table = [0u8; MAX_TABLE_BYTES];
-    let mut sums = [0u16; MAX_ENTRIES];
+    let mut sums = [0u16; MAX_TABLE_SIZE];
     undo_in(
         &mut table[..bytes],
         &mut sums[..size],

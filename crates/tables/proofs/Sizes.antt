@@ -1,18 +1,25 @@
 -- That one size fits another, computed from the limits' values (job's specs/Layout.antt, specs/Work.antt).
 --
 --   table-fits        the largest table has as many bytes as are kept for one
+--   some-gates        the record has room for a gate
 --   byte-inputs       an input behind the third has a bit of a byte
 --   all-tables-fit    places in the tables of the most circuits fit a word
---   circuit-fits      so do those in the rows of one circuit
+--   block-fits        a block has room for the largest table
+--   faults-fit        a set has room for the faults of a job
 use Prim.Native.Nat.{_+_, _*_, _^_, _≤_, _<_}
 use lib.Dec.{lit<, lit≤}
+use Rattle.bits.specs.Sets.{maxMembers}
 use Rattle.job.specs.Layout.{maxInputs, maxGates, maxFaults}
-use Rattle.gates.specs.Form.{tableBytes}
-use Rattle.tables.specs.Work.{maxTableBytes, circuitBytes}
+use Rattle.bits.specs.Sizes.{tableBytes}
+use Rattle.tables.specs.Work.{maxTableBytes, blockBytes}
 
 pub table-fits : tableBytes maxInputs ≤ maxTableBytes
 unfolding maxInputs maxTableBytes
 table-fits = lit≤ tt
+
+pub some-gates : 1 ≤ maxGates
+unfolding maxGates
+some-gates = lit≤ tt
 
 pub byte-inputs : maxInputs ≤ 11
 unfolding maxInputs
@@ -22,6 +29,10 @@ pub all-tables-fit : (maxFaults + 1) * maxTableBytes < 2 ^ 64
 unfolding maxFaults maxTableBytes
 all-tables-fit = lit< tt
 
-pub circuit-fits : circuitBytes < 2 ^ 64
-unfolding circuitBytes maxInputs maxGates maxTableBytes
-circuit-fits = lit< tt
+pub block-fits : maxTableBytes ≤ blockBytes
+unfolding maxTableBytes blockBytes
+block-fits = lit≤ tt
+
+pub faults-fit : maxFaults < maxMembers
+unfolding maxFaults maxMembers
+faults-fit = lit< tt

@@ -101,19 +101,19 @@ module _ (fix : ℕ → Fixing) (j : Job) (m : ℕ) where
 
   pub line-input : (l : ℕ) → ((v : ℕ) → fix m l v ≡ v) → l < j .inputs → lineValue fix j l m ≡ inputValue m l
   unfolding ownValue
-  line-input l loose h =
-      line-own l (omega arith) ∙ loose (ownValue j m l (valuesTo (fix m) j m l))
+  line-input l unfixed h =
+      line-own l (omega arith) ∙ unfixed (ownValue j m l (valuesTo (fix m) j m l))
       ∙ ap (λ (b : Bool). cond b (inputValue m l) (gateValue (gateAt j (l - j .inputs)) (valuesTo (fix m) j m l))) (lt-ltb l (j .inputs) h)
 
   pub line-gate : (q : ℕ) → ((v : ℕ) → fix m (j .inputs + q) v ≡ v) → q < j .«gate_count»
       → gateA (gateAt j q) < j .inputs + q → gateB (gateAt j q) < j .inputs + q
       → lineValue fix j (j .inputs + q) m ≡ answer (gateKind (gateAt j q)) (lineValue fix j (gateA (gateAt j q)) m) (lineValue fix j (gateB (gateAt j q)) m)
   unfolding ownValue gateValue
-  line-gate q loose h a b =
+  line-gate q unfixed h a b =
       let l : ℕ = j .inputs + q in
       let values : List ℕ = valuesTo (fix m) j m (j .inputs + q) in
       let e : j .inputs + q - j .inputs ≡ q = omega arith in
-      line-own (j .inputs + q) (omega arith) ∙ loose (ownValue j m (j .inputs + q) values)
+      line-own (j .inputs + q) (omega arith) ∙ unfixed (ownValue j m (j .inputs + q) values)
       ∙ ap (λ (b : Bool). cond b (inputValue m l) (gateValue (gateAt j (l - j .inputs)) values)) (le-ltb l (j .inputs) (omega arith))
       ∙ ap (λ (k : ℕ). gateValue (gateAt j k) values) e
       ∙ ap (λ (v : ℕ). answer (gateKind (gateAt j q)) v (getD values (gateB (gateAt j q)) 0)) (line-operand l (gateA (gateAt j q)) (omega arith) a)

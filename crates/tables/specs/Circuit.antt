@@ -1,4 +1,4 @@
--- The table of a circuit (document 01, "Tables").
+-- Believed: the table of a circuit (document 01, "Tables").
 --
 --   Fixing         what the readers of a line see, where the line by itself would have a value
 --   valuesTo       the values of the lines below a line, for one input number, as everyone reads them

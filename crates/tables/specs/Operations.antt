@@ -1,4 +1,4 @@
--- The operations on tables (document 01, "Tables" and "Refusal by operation").
+-- Believed: the operations on tables (document 01, "Tables" and "Refusal by operation").
 --
 --   tableOf       the table of one circuit, given the bytes of a job, the circuit's number and the length of the lent memory
 --   tablesOf      the tables of all circuits of a job, circuit after circuit, with the job's counts
@@ -10,11 +10,11 @@ use Rattle.bits.specs.Answer.{Answer, Fills, number, unless, onward}
 use Rattle.bits.specs.Answer.Answer.{gives, refused}
 use Rattle.job.specs.declared.Job.{Job}
 use Rattle.reading.specs.Reading.{reading}
-use Rattle.gates.specs.Form.{tableBytes}
+use Rattle.bits.specs.Sizes.{tableBytes}
 use Rattle.tables.specs.Circuit.{circuitTable}
 use Rattle.tables.specs.declared.Counts.{Counts}
-use Rattle.tables.specs.declared.TablesAnswer.{TablesAnswer}
-use Rattle.tables.specs.declared.TablesAnswer.the-variants.{Filled, Refused}
+use Rattle.tables.specs.declared.CountsAnswer.{CountsAnswer}
+use Rattle.tables.specs.declared.CountsAnswer.the-variants.{Filled, Refused}
 
 -- "Table of a circuit: reading's, then 11, circuit number over f, then 10"
 unfoldable pub tableOf : List ℕ → ℕ → ℕ → Answer (Fills (Unit {0}))
@@ -39,6 +39,6 @@ tablesOf s room =
     unless (leb ((j .«fault_count» + 1) * tableBytes (j .inputs)) room) 10
     (gives (record { value = countsOf j; filled = tablesTo j (j .«fault_count» + 1) })))
 
-abbrev pub tablesTold : TablesAnswer → Answer Counts
-tablesTold (Filled c) = gives c
-tablesTold (Refused e) = refused (number e)
+abbrev pub countsTold : CountsAnswer → Answer Counts
+countsTold (Filled c) = gives c
+countsTold (Refused e) = refused (number e)

@@ -22,7 +22,7 @@ use Rattle.job.specs.declared.Job.{Job}
 use Rattle.writing.specs.Pen.{Ready, Puts}
 use Rattle.writing.specs.Writing.{entryBits, gateBits, faultBits, allBits, jobBits}
 use Rattle.writing.specs.declared.Pen.{Pen}
-use Rattle.writing.proofs.Putting.{puts-none, puts-then, ready-front, ready-after}
+use Rattle.writing.proofs.PutBits.{puts-none, puts-then, ready-front, ready-after}
 
 -- the bits of a job from its gate count, its gates, its output line, its fault count on
 abbrev pub fromFaultCount : Job → List ℕ

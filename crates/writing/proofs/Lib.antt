@@ -1,6 +1,6 @@
-pub mod Answering
-pub mod Checking
+pub mod Answers
+pub mod Checks
 pub mod Entries
-pub mod Fitting
-pub mod Putting
+pub mod PutBits
 pub mod RoundTrip
+pub mod Widths

@@ -25,7 +25,7 @@ use Rattle.bits.proofs.Answers.{gives-same, unless-gives, onward-gives, field-t
 use Rattle.bits.proofs.Bits.{AllBits, bits-append, bits-bitsOf}
 use Rattle.bits.proofs.Packed.{Bytes}
 use Rattle.bits.proofs.Tests.{and-l, and-r}
-use Rattle.bits.proofs.Unpacked.{spareCount, stringOf-bytesOf, zeros-spare, bytesOf-spare}
+use Rattle.bits.proofs.SpareBits.{spareCount, stringOf-bytesOf, zeros-spare, bytesOf-spare}
 use Rattle.job.specs.Check.{Valid, checked, gateOk, faultLineOk, faultOrderOk}
 use Rattle.job.specs.Layout.{maxInputs, maxGates, maxFaults, inputCountBits, gateCountBits, gateKindBits, lineBits, faultCountBits, faultKindBits}
 use Rattle.job.specs.Record.{gateKind, gateA, gateB, faultKind, faultA, faultB, lines, emptyJob, reset, noGates, noFaults, unusedGate, unusedFault}
@@ -40,11 +40,11 @@ use Rattle.job.specs.declared.GateEntry.{GateEntry}
 use Rattle.job.specs.declared.Job.{Job}
 use Rattle.job.proofs.Sizes.{all-lines, all-inputs, all-gates, all-faults}
 use Rattle.job.proofs.Unused.{length-noGates, length-noFaults}
-use Rattle.job.proofs.Check.{valid}
+use Rattle.job.proofs.Validity.{valid}
 use Rattle.job.proofs.Numbers.{gateKind-of, gateA-of, gateB-of, faultKind-of, faultA-of, faultB-of, gateOf-parts, faultOf-parts, gateKind-lt, faultKind-lt}
 use Rattle.reading.specs.Reading.{entryFields, unaryLinesOk, gate, faultLinesOk, fault, entriesFrom, spare, fromEnd, fromFaults, fromFaultCount, fromOutput, fromGates, wholeJob, valueRead, reading}
-use Rattle.reading.proofs.Parts.{GateTaken, FaultTaken, Chain, EntriesTaken, sets-taken, Parts, reading-parts}
-use Rattle.reading.proofs.Valid.{reading-checked, reading-lengths, reading-valid}
+use Rattle.reading.proofs.Inversion.{GateTaken, FaultTaken, Chain, EntriesTaken, sets-taken, Parts, reading-parts}
+use Rattle.reading.proofs.Validity.{reading-checked, reading-lengths, reading-valid}
 use Rattle.writing.specs.Writing.{entryBits, gateBits, faultBits, allBits, jobBits, written}
 
 -- ---- the string of a job

@@ -1,4 +1,4 @@
--- Bits put one field after the other into lent bytes.
+-- Kept by the code: bits put one field after the other into lent bytes.
 --
 --   inked        the string of bits put so far: whole bytes, and the bits that wait for their byte to be full
 --   inkedBytes   the bytes that hold it
@@ -15,22 +15,22 @@ use Rattle.job.specs.Layout.{lineBits}
 use Rattle.writing.specs.declared.Pen.{Pen}
 
 unfoldable pub inked : List ℕ → Pen → List ℕ
-inked out p = stringOf (take (p .at) out) ++ bitsOf (p .count) (p .held)
+inked out p = stringOf (take (p .at) out) ++ bitsOf (p .count) (p .waiting)
 
 unfoldable pub inkedBytes : List ℕ → Pen → List ℕ
-inkedBytes out p = take (p .at) out ++ bytesOf (bitsOf (p .count) (p .held))
+inkedBytes out p = take (p .at) out ++ bytesOf (bitsOf (p .count) (p .waiting))
 
 abbrev pub filled : List ℕ → List ℕ → List ℕ
 filled start memory = start ++ drop (length start) memory
 
 pub record Ready (out : List ℕ) (p : Pen) (more : List ℕ) : Type 0 where
   pub few : p .count < 8
-  pub fits : p .held < 2 ^ (p .count)
+  pub fits : p .waiting < 2 ^ (p .count)
   pub room : p .at * 8 + p .count + length more ≤ length out * 8
 
 pub record Puts (out : List ℕ) (p : Pen) (bits : List ℕ) (after : List ℕ) (q : Pen) : Type 0 where
   pub few : q .count < 8
-  pub fits : q .held < 2 ^ (q .count)
+  pub fits : q .waiting < 2 ^ (q .count)
   pub place : q .at * 8 + q .count ≡ p .at * 8 + p .count + length bits
   pub long : length after ≡ length out
   pub text : inked after q ≡ inked out p ++ bits

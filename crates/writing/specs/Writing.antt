@@ -1,4 +1,4 @@
--- Writing a job (document 01, "Job layout" and "Refusal by operation").
+-- Believed: writing a job (document 01, "Job layout" and "Refusal by operation").
 --
 --   gateBits, faultBits   the bits of one gate, of one fault
 --   jobBits               the string of bits of a job, without its spare bits

@@ -74,13 +74,13 @@ fn check(job: Job) -> Outcome
     let n = job.inputs as usize;
     let g = job.gate_count as usize;
     if n < 1 {
-        return Outcome::Refused(Refusal::InputCount);
+        return Outcome::Refused(Refusal::Inputs);
     }
     if MAX_INPUTS < n {
-        return Outcome::Refused(Refusal::InputCount);
+        return Outcome::Refused(Refusal::Inputs);
     }
     if MAX_GATES < g {
-        return Outcome::Refused(Refusal::GateCount);
+        return Outcome::Refused(Refusal::Gates);
     }
     match check_gates(job) {
         Outcome::Refused(cause) => Outcome::Refused(cause),
@@ -94,10 +94,10 @@ fn check_rest(job: Job) -> Outcome
 {
     let lines = job.inputs as usize + job.gate_count as usize;
     if lines <= job.output as usize {
-        return Outcome::Refused(Refusal::OutputLine);
+        return Outcome::Refused(Refusal::Output);
     }
     if MAX_FAULTS < job.fault_count as usize {
-        return Outcome::Refused(Refusal::FaultCount);
+        return Outcome::Refused(Refusal::Faults);
     }
     check_faults(job)
 }
@@ -140,7 +140,7 @@ fn check_faults(job: Job) -> Outcome
             return Outcome::Refused(Refusal::FaultLine);
         }
         if !order_ok(fault) {
-            return Outcome::Refused(Refusal::FaultOrder);
+            return Outcome::Refused(Refusal::FaultPair);
         }
         i += 1;
     }
@@ -160,7 +160,7 @@ fn order_ok(fault: Fault) -> bool
 // Where the next bits go: so many whole bytes are put, and the bits that wait for their byte to be full are a number.
 struct Pen {
     at: usize,
-    held: usize,
+    waiting: usize,
     count: usize,
 }
 
@@ -171,15 +171,15 @@ fn put_field(out: &mut [u8], pen: Pen, width: usize, value: usize) -> Pen
 {
     let at = pen.at;
     let count = pen.count + width;
-    let held = (pen.held << width) + value;
+    let waiting = (pen.waiting << width) + value;
     if count < 8 {
-        return Pen { at, held, count };
+        return Pen { at, waiting, count };
     }
     let over = count - 8;
-    out[at] = (held >> over) as u8;
+    out[at] = (waiting >> over) as u8;
     Pen {
         at: at + 1,
-        held: held % (1 << over),
+        waiting: waiting % (1 << over),
         count: over,
     }
 }
@@ -249,9 +249,9 @@ fn put_spare(out: &mut [u8], pen: Pen)
 {
     let at = pen.at;
     let count = pen.count;
-    let held = pen.held;
+    let waiting = pen.waiting;
     if 0 < count {
-        out[at] = (held << (8 - count)) as u8;
+        out[at] = (waiting << (8 - count)) as u8;
     }
 }
 
@@ -262,7 +262,7 @@ fn put_job(out: &mut [u8], job: Job)
 {
     let start = Pen {
         at: 0,
-        held: 0,
+        waiting: 0,
         count: 0,
     };
     let inputs = put_field(out, start, INPUT_COUNT_BITS, job.inputs as usize);

@@ -8,8 +8,6 @@ use std::hint::black_box;
 pub enum Library {
     Proved,
     Reference,
-    /// The reference in the library's forms, where it has them.
-    Formed,
 }
 
 /// A job and the arguments of calls with it.
@@ -94,21 +92,7 @@ pub enum Purpose {
 use Kind::{Mrm, Rm};
 use Purpose::{Detecting, Isolating};
 
-pub const LINES: [Line; 10] = [
-    Line::Reading,
-    Line::Table,
-    Line::Spectrum(Rm),
-    Line::Spectrum(Mrm),
-    Line::Choosing(Isolating, Rm),
-    Line::Choosing(Isolating, Mrm),
-    Line::Choosing(Detecting, Rm),
-    Line::Choosing(Detecting, Mrm),
-    Line::Locating(Rm),
-    Line::Locating(Mrm),
-];
-
-/// The lines on which a form of the library's tells.
-pub const FORMED: [Line; 10] = [
+pub const LINES: [Line; 12] = [
     Line::Reading,
     Line::Table,
     Line::Spectrum(Rm),
@@ -119,6 +103,8 @@ pub const FORMED: [Line; 10] = [
     Line::Choosing(Isolating, Mrm),
     Line::Choosing(Detecting, Rm),
     Line::Choosing(Detecting, Mrm),
+    Line::Locating(Rm),
+    Line::Locating(Mrm),
 ];
 
 impl Kind {
@@ -174,7 +160,6 @@ impl Line {
         match library {
             Library::Proved => self.run_proved(case, memory),
             Library::Reference => self.run_reference(case, memory),
-            Library::Formed => self.run_formed(case, memory),
         }
         black_box(memory);
     }
@@ -235,32 +220,6 @@ impl Line {
                 let work = &mut numbers[..case.work];
                 black_box(locate(bytes, kind.reference(), case.polarity, &[], &[], work));
             }
-        }
-    }
-
-    fn run_formed(self, case: &Case, memory: &mut Memory) {
-        use crate::formed::{choose, fill, read, spectrum, table};
-        let bytes = &case.bytes[..];
-        let (out, numbers) = (&mut memory.bytes[..], &mut memory.numbers[..]);
-        match self {
-            Line::Reading => {
-                let _ = black_box(read(bytes));
-            }
-            Line::Table => {
-                black_box(table(bytes, case.circuit, out).is_ok());
-            }
-            Line::Spectrum(kind) => {
-                black_box(spectrum(case.inputs, &case.table, kind.reference(), case.polarity, numbers).is_ok());
-            }
-            Line::Filling(kind) => {
-                let work = &mut numbers[..case.work];
-                black_box(fill(bytes, kind.reference(), case.polarity, work).is_ok());
-            }
-            Line::Choosing(purpose, kind) => {
-                let work = &mut numbers[..case.work];
-                black_box(choose(bytes, purpose.reference(), kind.reference(), case.polarity, work));
-            }
-            Line::Locating(_) => unreachable!("no line of FORMED"),
         }
     }
 }

@@ -6,15 +6,14 @@
 
 #![forbid(unsafe_code)]
 
-mod formed;
 mod instructions;
 mod lines;
 mod measure;
 
 use differential::jobs::full_job;
 use differential::random::Random;
-use lines::{Case, Kind, Library, Line, Memory, Purpose, FORMED, LINES};
-use measure::{apart, ratio, Timed};
+use lines::{Case, Kind, Library, Line, Memory, Purpose, LINES};
+use measure::{ratio, Timed};
 
 const MOST_GATES: usize = 64;
 const MOST_FAULTS: usize = 63;
@@ -27,8 +26,6 @@ fn main() {
     }
     let mut memory = Memory::new();
     ratios(&mut memory);
-    forms(&mut memory);
-    choosing(&mut memory);
     growth(&mut memory);
 }
 
@@ -65,42 +62,6 @@ fn ratios(memory: &mut Memory) {
     }
     if !counts {
         println!("(instructions are counted where valgrind is there)");
-    }
-}
-
-/// What the forms cost that the library is held to: the reference written in them by the reference, and the library by that.
-fn forms(memory: &mut Memory) {
-    println!();
-    println!("Forms: the reference in the library's forms by the reference, and the library by that");
-    println!();
-    println!("inputs  line          forms  library by forms");
-    for inputs in [8, 6, 4] {
-        let cases = cases(inputs, MOST_GATES, MOST_FAULTS);
-        for line in FORMED {
-            let timed = |library| Timed { line, library, cases: &cases };
-            let cost = ratio(timed(Library::Formed), timed(Library::Reference), memory).median;
-            let proved = ratio(timed(Library::Proved), timed(Library::Formed), memory).median;
-            println!("{inputs:>6}  {:<12}  {cost:>5.2}  {proved:>5.2}", line.name());
-        }
-    }
-}
-
-/// Choosing by itself: without the filling of the work that it begins with.
-fn choosing(memory: &mut Memory) {
-    println!();
-    println!("Choosing without filling: proved library by reference");
-    println!();
-    println!("inputs  line           ratio");
-    for inputs in [8, 6, 4] {
-        let cases = cases(inputs, MOST_GATES, MOST_FAULTS);
-        for purpose in [Purpose::Isolating, Purpose::Detecting] {
-            for kind in [Kind::Rm, Kind::Mrm] {
-                let line = Line::Choosing(purpose, kind);
-                let timed = |library| [Line::Filling(kind), line].map(|line| Timed { line, library, cases: &cases });
-                let ratio = apart(timed(Library::Proved), timed(Library::Reference), memory);
-                println!("{inputs:>6}  {:<13}  {ratio:>5.2}", line.name());
-            }
-        }
     }
 }
 

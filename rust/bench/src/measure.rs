@@ -34,23 +34,6 @@ impl Timed<'_> {
     }
 }
 
-/// The first's time by the second's, each without the time of what it begins with: the median of the rounds. In a round all four are timed one
-/// after the other, so that they meet the same state of the machine.
-pub fn apart(first: [Timed; 2], second: [Timed; 2], memory: &mut Memory) -> f64 {
-    let mut turns = 1;
-    while first[0].time(turns, memory).min(second[0].time(turns, memory)) < LEAST {
-        turns *= 2;
-    }
-    let ratios = (0..ROUNDS).map(|_| {
-        let [beginning, whole, other_beginning, other_whole] =
-            [first[0], first[1], second[0], second[1]].map(|timed| timed.call(timed.time(turns, memory), turns));
-        (whole - beginning) / (other_whole - other_beginning)
-    });
-    let mut ratios: Vec<f64> = ratios.collect();
-    ratios.sort_by(f64::total_cmp);
-    ratios[ROUNDS / 2]
-}
-
 /// What the rounds gave.
 pub struct Ratio {
     /// The first's time by the second's: the median of the rounds, and the quarters below and above it.

@@ -70,8 +70,8 @@ pub fn choose(bytes: &[u8], purpose: Purpose, kind: Kind, polarity: usize, work:
     decide(&job, purpose, &tables[..faults + 1], work)
 }
 
-/// The choice for a job whose circuits' tables and spectra are there; the tables need only be equal where the circuits' are.
-pub fn decide(job: &Job, purpose: Purpose, tables: &[Table], work: &[u16]) -> Chosen {
+/// The choice for a job whose circuits' tables and spectra are there.
+fn decide(job: &Job, purpose: Purpose, tables: &[Table], work: &[u16]) -> Chosen {
     let (inputs, faults) = (usize::from(job.inputs), usize::from(job.fault_count));
     let alike = match purpose {
         Purpose::Isolating => first_alike(tables),

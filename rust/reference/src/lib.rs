@@ -20,11 +20,10 @@ mod spectra;
 mod tables;
 mod words;
 
-pub use choosing::{choose, decide, Chosen, Purpose};
+pub use choosing::{choose, Chosen, Purpose};
 pub use job::{read, write, Fault, Gate, Job, LONGEST_JOB, MOST_FAULTS, MOST_GATES, MOST_INPUTS};
 pub use locating::{locate, Located};
 pub use refusal::Refusal;
 pub use report::report;
 pub use spectra::{spectrum, undo, Kind};
 pub use tables::table;
-pub use words::Table;

@@ -7,7 +7,7 @@ use lib.Dec.{lit<, lit≤}
 use denote.Ref.{now}
 use Rattle.job.specs.Layout.{maxInputs}
 use Rattle.choosing.specs.Looking.{maxOrders}
-use Rattle.choosing.proofs.Ordered.{Summing, summing-none, summing-inside, summing-before, summing-fits, summing-next, summing-all}
+use Rattle.choosing.proofs.Order.{Summing, summing-none, summing-inside, summing-before, summing-fits, summing-next, summing-all}
 use Rattle.choosing.proofs.add_input.Statement.{statement}
 use Rattle.choosing.proofs.add_input.Tie as tie
 

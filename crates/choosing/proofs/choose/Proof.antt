@@ -1,6 +1,6 @@
 -- `choosing::choose` meets its contract.
 use borrow.Author.Needs.{needs}
-use Rattle.choosing.proofs.Decided.{chosen-unfilled, chosen-room, chosen-filled}
+use Rattle.choosing.proofs.Decision.{chosen-unfilled, chosen-room, chosen-filled}
 use Rattle.choosing.proofs.choose.Statement.{statement}
 use Rattle.choosing.proofs.choose.Tie as tie
 

@@ -4,51 +4,56 @@ use mathlib.Core.Path.{_∙_}
 use denote.Ref.{now}
 use Rattle.job.specs.Layout.{maxInputs, maxFaults}
 use Rattle.bits.proofs.Fields.{shift-exact}
-use Rattle.choosing.proofs.Decided.{filled-given, filled-answer}
-use Rattle.choosing.proofs.Ordered.{listed-within, listed-length}
+use Rattle.chooser.specs.Matrix.{maxRows}
+use Rattle.choosing.proofs.Decision.{filled-answer}
+use Rattle.choosing.proofs.Order.{listed-within, listed-length}
 use Rattle.choosing.proofs.choose_filled.Statement.{statement}
 use Rattle.choosing.proofs.choose_filled.Tie as tie
 
+marks-of-requires : tie.Need-marks-of-requires
+marks-of-requires c κs = tt
+
 scan-order-requires : tie.Need-scan-order-requires
-scan-order-requires c κs = c .before .pre .inputs-few
+scan-order-requires c κs = c .before .before .pre .inputs-few
 
 shl-size : tie.Need-shl-size
 unfolding maxInputs
-shl-size c = omega (arith, c .before .before .before .before .pre .inputs-few)
+shl-size c = omega (arith, c .before .before .before .before .before .pre .inputs-few)
 
-add-choose-rows : tie.Need-add-choose-rows
+add-choose : tie.Need-add-choose
 unfolding maxFaults
-add-choose-rows c = omega (arith, c .before .before .before .before .before .pre .faults-few)
+add-choose c = omega (arith, c .before .before .before .before .before .before .pre .faults-few)
 
 array-share-prefix-indices : tie.Need-array-share-prefix-indices
-array-share-prefix-indices c = listed-within (c .before .before .before .scan-order .ensures)
+array-share-prefix-indices c = listed-within (c .before .before .before .before .before .before .scan-order .ensures)
 
-slice-aggregate-choose-rows : tie.Need-slice-aggregate-choose-rows
-slice-aggregate-choose-rows c = listed-length (c .before .before .before .before .scan-order .ensures)
+slice-aggregate-choose : tie.Need-slice-aggregate-choose
+slice-aggregate-choose c = listed-length (c .before .before .before .before .before .before .before .scan-order .ensures)
 
-choose-rows-requires : tie.Need-choose-rows-requires
-unfolding maxInputs
-choose-rows-requires c κs = let a = c .before .before .before .before .before .before .args in filled-given (a .counts) (now (a .work)) (c .before .before .before .before .before .before .pre) _ _ (shift-exact (a .counts .inputs) (omega (arith, c .before .before .before .before .before .before .pre .inputs-few))) (c .before .before .before .before .scan-order .ensures .held)
+choose-requires : tie.Need-choose-requires
+choose-requires c κs = tt
 
 concluded-requires : tie.Need-concluded-requires
 concluded-requires c κs = tt
 
 returns : tie.Need-returns
-unfolding maxInputs
+unfolding maxInputs maxRows
 returns c =
-    let a = c .before .before .before .before .before .before .before .before .args in
+    let a = c .before .before .before .before .before .before .before .before .before .before .before .before .args in
     c .concluded .ensures
-    ∙ filled-answer (a .counts) (now (a .work)) (c .before .before .before .before .before .before .before .before .pre) (a .purpose) (c .before .choose-rows .result) _ _ (shift-exact (a .counts .inputs) (omega (arith, c .before .before .before .before .before .before .before .before .pre .inputs-few))) (c .before .before .before .before .before .before .scan-order .ensures .held) (c .before .choose-rows .ensures)
+    ∙ filled-answer (a .counts) (now (a .work)) (c .before .before .before .before .before .before .before .before .before .before .before .before .pre) (a .purpose) (c .before .choose .result) (c .before .before .before .before .before .before .before .before .before .before .marks-of .result .of) _ _ (c .before .before .before .choose-arg2 .given .0) (c .before .before .before .before .before .before .before .before .before .before .marks-of .ensures)
+    (shift-exact (a .counts .inputs) (omega (arith, c .before .before .before .before .before .before .before .before .before .before .before .before .pre .inputs-few))) (c .before .before .before .before .before .before .before .before .before .scan-order .ensures .done) (c .before .choose .ensures)
 
 pub choose-filled-spec : {M : Type 1} → statement M
 choose-filled-spec =
     tie.close
     (tie.spec
+    marks-of-requires
     scan-order-requires
     shl-size
-    add-choose-rows
+    add-choose
     array-share-prefix-indices
-    slice-aggregate-choose-rows
-    choose-rows-requires
+    slice-aggregate-choose
+    choose-requires
     concluded-requires
     returns)

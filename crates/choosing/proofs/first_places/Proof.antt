@@ -6,7 +6,7 @@ use borrow.Author.Count.{falls}
 use lib.Dec.{lit<}
 use Rattle.job.specs.Layout.{maxInputs}
 use Rattle.choosing.specs.Looking.{maxOrders}
-use Rattle.choosing.proofs.Ordered.{Starting, starting-none, starting-few, starting-next, starting-all}
+use Rattle.choosing.proofs.Order.{Starting, starting-none, starting-few, starting-next, starting-all}
 use Rattle.choosing.proofs.first_places.Statement.{statement}
 use Rattle.choosing.proofs.first_places.Tie as tie
 

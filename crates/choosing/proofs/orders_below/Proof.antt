@@ -6,7 +6,7 @@ use mathlib.Core.Path.{refl}
 use lib.Count.{ones}
 use borrow.Author.Count.{falls}
 use Rattle.job.specs.Layout.{maxInputs}
-use Rattle.classes.proofs.Columns.{Filling, filling-start, filling-next, filling-all}
+use Rattle.bits.proofs.Tabulation.{Filling, filling-start, filling-next, filling-all}
 use Rattle.choosing.specs.Looking.{maxPlaces}
 use Rattle.choosing.proofs.Arrays.{order-fits}
 use Rattle.choosing.proofs.orders_below.Statement.{statement}

@@ -7,7 +7,7 @@ use borrow.Author.Count.{falls}
 use borrow.Author.Needs.{length-unmapped}
 use Rattle.job.specs.Layout.{maxInputs}
 use Rattle.choosing.specs.Looking.{maxPlaces, maxOrders}
-use Rattle.choosing.proofs.Ordered.{order-within, index-fits, Placing, placing-none, placing-inside, placing-next, placing-all}
+use Rattle.choosing.proofs.Order.{order-within, index-fits, Placing, placing-none, placing-inside, placing-next, placing-all}
 use Rattle.choosing.proofs.put_indices.Statement.{statement}
 use Rattle.choosing.proofs.put_indices.Tie as tie
 

@@ -1,11 +1,11 @@
 -- `choosing::refused` meets its contract.
 use mathlib.Core.Path.{refl}
-use Rattle.matrix.specs.Matrix.{maxEntries, zeros}
+use Rattle.chooser.specs.Matrix.{maxSignature, zeros}
 use Rattle.choosing.proofs.refused.Statement.{statement}
 use Rattle.choosing.proofs.refused.Tie as tie
 
 returns : tie.Need-returns
-unfolding maxEntries zeros
+unfolding maxSignature zeros
 returns c = refl
 
 pub refused-spec : {M : Type 1} → statement M

@@ -3,7 +3,7 @@ use native.Mathlib.Omega.{arith}
 use borrow.Author.Needs.{length-unmapped}
 use Rattle.job.specs.Layout.{maxInputs}
 use Rattle.choosing.specs.Looking.{maxPlaces}
-use Rattle.choosing.proofs.Ordered.{shifted-few, shifted-firsts, placed-listed}
+use Rattle.choosing.proofs.Order.{shifted-few, shifted-firsts, placed-listed}
 use Rattle.choosing.proofs.scan_order.Statement.{statement}
 use Rattle.choosing.proofs.scan_order.Tie as tie
 

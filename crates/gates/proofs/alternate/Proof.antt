@@ -1,7 +1,8 @@
 -- `gates::alternate` meets its contract: where there is no room, or no such bit, the rows are left as they are.
 use lib.ListN.{length}
 use borrow.Author.Needs.{needs}
-use Rattle.gates.proofs.Fitting.{refused, passed, ends-within, kept, put, no-room, too-high, bit-inside}
+use Rattle.gates.proofs.StepTests.{no-room, too-high, bit-inside}
+use Rattle.bits.proofs.Room.{refused, passed, ends-within, kept, put}
 use Rattle.gates.proofs.alternate.Statement.{statement}
 use Rattle.gates.proofs.alternate.Tie as tie
 

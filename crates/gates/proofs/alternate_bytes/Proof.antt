@@ -2,9 +2,9 @@
 use Prim.Native.Nat.{_-_}
 use native.Mathlib.Omega.{arith}
 use borrow.Author.Count.{falls}
-use Rattle.gates.specs.Form.{alternating}
-use Rattle.gates.proofs.Splice.{Written, written-none, written-more, written-length, written-all}
-use Rattle.gates.proofs.Tabled.{alternate-low}
+use Rattle.gates.specs.Polynomial.{alternating}
+use Rattle.bits.proofs.Splice.{Written, written-none, written-more, written-length, written-all}
+use Rattle.gates.proofs.Tables.{alternate-low}
 use Rattle.gates.proofs.alternate_bytes.Statement.{statement}
 use Rattle.gates.proofs.alternate_bytes.Tie as tie
 

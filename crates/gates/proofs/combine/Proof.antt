@@ -1,10 +1,11 @@
 -- `gates::combine` meets its contract: where a test of room fails the rows are left as they are.
 use lib.ListN.{length}
 use Rattle.bits.specs.Packed.{tabulate}
-use Rattle.gates.specs.Form.{combined}
-use Rattle.gates.specs.Rows.{splice}
+use Rattle.gates.specs.Polynomial.{combined}
+use Rattle.bits.specs.Slices.{splice}
 use borrow.Author.Needs.{needs}
-use Rattle.gates.proofs.Fitting.{refused, passed, ends-within, kept, put, step-outside, first-late, step-second}
+use Rattle.gates.proofs.StepTests.{step-outside, first-late, step-second}
+use Rattle.bits.proofs.Room.{refused, passed, ends-within, kept, put}
 use Rattle.gates.proofs.combine.Statement.{statement}
 use Rattle.gates.proofs.combine.Tie as tie
 
@@ -49,7 +50,7 @@ same-length c = search needs
 returns-4 : tie.Need-returns-4
 returns-4 c =
     let a = c .before .before .before .before .before .before .before .before .before .before .before .args in
-    put (splice (a .rows .now) (a .to) (tabulate (a .count) (combined (a .form) (a .x) (a .y) (a .rows .now)))) (a .rows .now)
+    put (splice (a .rows .now) (a .to) (tabulate (a .count) (combined (a .polynomial) (a .x) (a .y) (a .rows .now)))) (a .rows .now)
     (step-second (a .x) (a .y) (a .to) (a .count) (length (a .rows .now)) (passed (c .before .before .before .before .before .before .before .before .before .has-room .ensures) (c .before .before .before .before .before .before .before .before .if1 .left)) (passed (c .before .before .before .before .before .before .before .has-room2 .ensures) (c .before .before .before .before .before .before .if2 .left))
     (passed (c .before .before .before .before .before .has-room3 .ensures) (c .before .before .before .before .if3 .left)))
     (c .before .before .combine-bytes .ensures)

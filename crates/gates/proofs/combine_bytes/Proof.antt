@@ -3,8 +3,8 @@ use Prim.Native.Nat.{_-_}
 use native.Mathlib.Omega.{arith}
 use mathlib.Core.Path.{ap₂}
 use borrow.Author.Count.{falls}
-use Rattle.gates.specs.Form.{step, combined}
-use Rattle.gates.proofs.Splice.{Written, written-none, written-more, written-length, written-before, written-all}
+use Rattle.gates.specs.Polynomial.{step, combined}
+use Rattle.bits.proofs.Splice.{Written, written-none, written-more, written-length, written-before, written-all}
 use Rattle.gates.proofs.combine_bytes.Statement.{statement}
 use Rattle.gates.proofs.combine_bytes.Tie as tie
 
@@ -45,7 +45,7 @@ loop-less c = falls _ _ (c .before .before .loop-test .taken)
 loop-again : tie.Need-loop-again Inv-loop μ-loop
 loop-again c =
     written-more (c .before .before .before .loop .inv) _ (c .before .before .loop-test .taken)
-    (ap₂ (step (c .before .before .before .before .args .form))
+    (ap₂ (step (c .before .before .before .before .args .polynomial))
     (written-before (c .before .before .before .loop .inv) _ (omega arith))
     (written-before (c .before .before .before .loop .inv) _ (omega arith)))
 

@@ -1,8 +1,8 @@
 -- `horncurlew::horncurlew_choose` meets its contract.
 use denote.Ref.{now}
 use lib.ListN.{length}
-use Rattle.transform.specs.declared.Kind.{Kind}
-use Rattle.choosing.specs.Choosing.{chosenOf, chose}
+use Rattle.spectra.specs.declared.Kind.{Kind}
+use Rattle.choosing.specs.Choosing.{chosenOf, atExit}
 use Rattle.choosing.specs.declared.Purpose.{Purpose}
 use Rattle.horncurlew.proofs.Numbers.{chosen-by}
 use borrow.Author.Needs.{needs}
@@ -27,7 +27,7 @@ same-length c = search needs
 returns : tie.Need-returns
 returns c =
     let a = c .before .before .before .before .before .before .before .before .before .args in
-    chosen-by (λ (purpose : Purpose) (kind : Kind). chose (chosenOf purpose (now (a .bytes)) kind (a .polarity) (length (now (a .work)))) (now (a .work))) (a .purpose) (a .kind) (c .before .before .before .choose .result .verdict) (c .before .before .before .before .before .before .purpose-of .ensures) (c .before .before .before .before .before .kind-of .ensures) (c .before .before .before .choose .ensures) (c .choice-of .ensures)
+    chosen-by (λ (purpose : Purpose) (kind : Kind). atExit (chosenOf purpose (now (a .bytes)) kind (a .polarity) (length (now (a .work)))) (now (a .work))) (a .purpose) (a .kind) (c .before .before .before .choose .result .verdict) (c .before .before .before .before .before .before .purpose-of .ensures) (c .before .before .before .before .before .kind-of .ensures) (c .before .before .before .choose .ensures) (c .choice-of .ensures)
 
 pub horncurlew-choose-spec : {M : Type 1} → statement M
 horncurlew-choose-spec =

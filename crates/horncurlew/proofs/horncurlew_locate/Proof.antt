@@ -2,7 +2,7 @@
 use denote.Ref.{now}
 use lib.ListN.{length}
 use Rattle.bits.specs.Answer.{leaves}
-use Rattle.transform.specs.declared.Kind.{Kind}
+use Rattle.spectra.specs.declared.Kind.{Kind}
 use Rattle.locating.specs.Locating.{locatedOf}
 use Rattle.horncurlew.proofs.Numbers.{located-by}
 use borrow.Author.Needs.{needs}

@@ -1,7 +1,7 @@
 -- `horncurlew::horncurlew_report` meets its contract.
 use borrow.Author.Needs.{needs}
 use mathlib.Core.Path.{_∙_, ap}
-use Rattle.sheet.specs.Sheet.{Report}
+use Rattle.report_text.specs.Text.{Report}
 use Rattle.horncurlew.specs.Exports.{reportOf}
 use Rattle.horncurlew.proofs.horncurlew_report.Statement.{statement}
 use Rattle.horncurlew.proofs.horncurlew_report.Tie as tie

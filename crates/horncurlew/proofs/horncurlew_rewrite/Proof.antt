@@ -1,7 +1,7 @@
 -- `horncurlew::horncurlew_rewrite` meets its contract.
 use denote.Ref.{now}
 use Rattle.reading.specs.Reading.{reading}
-use Rattle.reading.proofs.Telling.{told-refused, told-done}
+use Rattle.reading.proofs.Consequences.{told-refused, told-done}
 use Rattle.horncurlew.proofs.Numbers.{rewritten-unread, rewritten-onward, length-bytes, length-refused}
 use borrow.Author.Needs.{needs}
 use Rattle.horncurlew.proofs.horncurlew_rewrite.Statement.{statement}

@@ -4,10 +4,10 @@ use Prim.Native.Nat.{_-_}
 use lib.ListN.{length}
 use denote.Ref.{now}
 use borrow.Author.Count.{falls}
-use Rattle.spectra.proofs.Undoing.{Comparing}
+use Rattle.spectra.proofs.Recovery.{Comparing}
 use Rattle.locating.specs.Scanning.{numbersAt}
-use Rattle.locating.proofs.Indexed.{index-below}
-use Rattle.locating.proofs.Compared.{compared-none, compared-stop, compared-more, compared-all}
+use Rattle.locating.proofs.Indices.{index-below}
+use Rattle.locating.proofs.Comparison.{compared-none, compared-stop, compared-more, compared-all}
 use Rattle.locating.proofs.agrees.Statement.{statement}
 use Rattle.locating.proofs.agrees.Tie as tie
 

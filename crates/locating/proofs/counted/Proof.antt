@@ -1,5 +1,5 @@
 -- `counted` meets its contract.
-use Rattle.locating.proofs.Scanned.{counted-yes, counted-no}
+use Rattle.locating.proofs.Scans.{counted-yes, counted-no}
 use borrow.Author.Needs.{needs}
 use Rattle.locating.proofs.counted.Statement.{statement}
 use Rattle.locating.proofs.counted.Tie as tie

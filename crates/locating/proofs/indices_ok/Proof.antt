@@ -4,8 +4,8 @@ use Prim.Native.Nat.{_-_}
 use lib.ListN.{length}
 use denote.Ref.{now}
 use borrow.Author.Count.{falls}
-use Rattle.gates.proofs.Sized.{places-exact, fifteen-few}
-use Rattle.locating.proofs.Indexed.{Indexing, indexing-none, indexing-stop, indexing-next, indexing-all}
+use Rattle.bits.proofs.TableSizes.{table-size-exact, fifteen-few}
+use Rattle.locating.proofs.Indices.{Indexing, indexing-none, indexing-stop, indexing-next, indexing-all}
 use Rattle.locating.proofs.indices_ok.Statement.{statement}
 use Rattle.locating.proofs.indices_ok.Tie as tie
 
@@ -15,8 +15,8 @@ Inv-loop indices n size i₀ i = Indexing n indices i
 abbrev μ-loop : tie.MeasureT-loop
 μ-loop indices n size i₀ i = length indices - i
 
-places-requires : tie.Need-places-requires Inv-loop μ-loop
-places-requires c κs = tt
+table-size-requires : tie.Need-table-size-requires Inv-loop μ-loop
+table-size-requires c κs = tt
 
 loop-holds : tie.Need-loop-holds Inv-loop μ-loop
 loop-holds c = indexing-none (c .before .before .args .n) (now (c .before .before .args .indices))
@@ -31,7 +31,7 @@ cast-if1 : tie.Need-cast-if1 Inv-loop μ-loop
 cast-if1 c = omega (arith, c .shared-slice-known2 .given (c .before .before .loop .i))
 
 returns : tie.Need-returns Inv-loop μ-loop
-returns c = indexing-stop (c .before .before .before .loop .inv) (places-exact (fifteen-few (c .before .before .before .before .before .before .pre)) (c .before .before .before .before .places .ensures)) (c .before .before .loop-test .taken) (c .if1 .taken)
+returns c = indexing-stop (c .before .before .before .loop .inv) (table-size-exact (fifteen-few (c .before .before .before .before .before .before .pre)) (c .before .before .before .before .table-size .ensures)) (c .before .before .loop-test .taken) (c .if1 .taken)
 
 add-i : tie.Need-add-i Inv-loop μ-loop
 add-i c = omega arith
@@ -40,7 +40,7 @@ loop-less : tie.Need-loop-less Inv-loop μ-loop
 loop-less c = falls _ _ (c .before .before .loop-test .taken)
 
 loop-again : tie.Need-loop-again Inv-loop μ-loop
-loop-again c = indexing-next (c .before .before .before .loop .inv) (places-exact (fifteen-few (c .before .before .before .before .before .before .pre)) (c .before .before .before .before .places .ensures)) (c .before .before .loop-test .taken) (c .if1 .left)
+loop-again c = indexing-next (c .before .before .before .loop .inv) (table-size-exact (fifteen-few (c .before .before .before .before .before .before .pre)) (c .before .before .before .before .table-size .ensures)) (c .before .before .loop-test .taken) (c .if1 .left)
 
 returns-2 : tie.Need-returns-2 Inv-loop μ-loop
 returns-2 c = indexing-all (c .before .loop .inv) (c .loop-test .left)
@@ -51,7 +51,7 @@ indices-ok-spec =
     (tie.spec
     Inv-loop
     μ-loop
-    places-requires
+    table-size-requires
     loop-holds
     mul-if1
     shared-slice-read-if1

@@ -6,8 +6,8 @@ use lib.ListN.{replicate, length-replicate}
 use Prim.Native.Nat.{ℕ}
 use Rattle.job.specs.Layout.{maxFaults}
 use Rattle.tables.specs.Work.{maxTableBytes}
-use Rattle.spectra.proofs.Delivered.{tables-deliver, tables-unread, job-counted}
-use Rattle.locating.proofs.Handed.{located-unread, located-onward}
+use Rattle.spectra.proofs.JobTables.{tables-deliver, tables-unread, job-counted}
+use Rattle.locating.proofs.JobTables.{located-unread, located-onward}
 use Rattle.locating.proofs.locate.Statement.{statement}
 use Rattle.locating.proofs.locate.Tie as tie
 

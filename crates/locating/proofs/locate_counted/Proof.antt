@@ -4,9 +4,10 @@ use Prim.Native.Nat.{_+_}
 use mathlib.Core.Path.{_∙_}
 use denote.Ref.{now}
 use Rattle.job.specs.Layout.{maxInputs, maxFaults}
-use Rattle.gates.proofs.Sized.{table-bytes-exact, inputs-few}
-use Rattle.spectra.proofs.Handed.{rows-end, rows-length}
-use Rattle.locating.proofs.Handed.{rows-taken}
+use Rattle.bits.proofs.TableSizes.{table-bytes-exact}
+use Rattle.job.proofs.Sizes.{inputs-few}
+use Rattle.spectra.proofs.JobRows.{rows-end, rows-length}
+use Rattle.locating.proofs.JobTables.{rows-taken}
 use Rattle.locating.proofs.locate_counted.Statement.{statement}
 use Rattle.locating.proofs.locate_counted.Tie as tie
 

@@ -4,9 +4,9 @@ use Prim.Native.Nat.{_-_}
 use mathlib.Core.Path.{_∙_}
 use denote.Ref.{now}
 use borrow.Author.Count.{falls}
-use Rattle.gates.proofs.Sized.{places-exact, fifteen-few}
+use Rattle.bits.proofs.TableSizes.{table-size-exact, fifteen-few}
 use Rattle.locating.specs.Scanning.{workAgrees}
-use Rattle.locating.proofs.Scanned.{Scanned, scanned-none, scanned-next, scanned-all, row-within, agreed-row}
+use Rattle.locating.proofs.Scans.{Scanned, scanned-none, scanned-next, scanned-all, row-within, agreed-row}
 use Rattle.locating.proofs.scan.Statement.{statement}
 use Rattle.locating.proofs.scan.Tie as tie
 
@@ -16,17 +16,17 @@ Inv-loop work indices readings n rows size lowest₀ count₀ c₀ lowest count 
 abbrev μ-loop : tie.MeasureT-loop
 μ-loop work indices readings n rows size lowest₀ count₀ c₀ lowest count c = rows - c
 
-places-requires : tie.Need-places-requires Inv-loop μ-loop
-places-requires c κs = tt
+table-size-requires : tie.Need-table-size-requires Inv-loop μ-loop
+table-size-requires c κs = tt
 
 loop-holds : tie.Need-loop-holds Inv-loop μ-loop
 loop-holds c = let a = c .before .before .before .before .args in scanned-none (workAgrees (now (a .work)) (a .n) (now (a .indices)) (now (a .readings))) (a .rows)
 
 mul-agrees : tie.Need-mul-agrees Inv-loop μ-loop
-mul-agrees c = omega (arith, row-within (c .before .before .before .before .before .before .args .n) (places-exact (fifteen-few (c .before .before .before .before .before .before .pre .0)) (c .before .before .places .ensures)) (c .loop-test .taken) (c .before .before .before .before .before .before .pre .2))
+mul-agrees c = omega (arith, row-within (c .before .before .before .before .before .before .args .n) (table-size-exact (fifteen-few (c .before .before .before .before .before .before .pre .0)) (c .before .before .table-size .ensures)) (c .loop-test .taken) (c .before .before .before .before .before .before .pre .2))
 
 agrees-requires : tie.Need-agrees-requires Inv-loop μ-loop
-agrees-requires c κs = (c .before .before .before .before .before .before .pre .1, row-within (c .before .before .before .before .before .before .args .n) (places-exact (fifteen-few (c .before .before .before .before .before .before .pre .0)) (c .before .before .places .ensures)) (c .loop-test .taken) (c .before .before .before .before .before .before .pre .2))
+agrees-requires c κs = (c .before .before .before .before .before .before .pre .1, row-within (c .before .before .before .before .before .before .args .n) (table-size-exact (fifteen-few (c .before .before .before .before .before .before .pre .0)) (c .before .before .table-size .ensures)) (c .loop-test .taken) (c .before .before .before .before .before .before .pre .2))
 
 lowest-of-requires : tie.Need-lowest-of-requires Inv-loop μ-loop
 lowest-of-requires c κs = tt
@@ -41,7 +41,7 @@ loop-less : tie.Need-loop-less Inv-loop μ-loop
 loop-less c = falls _ _ (c .before .before .before .loop-test .taken)
 
 loop-again : tie.Need-loop-again Inv-loop μ-loop
-loop-again c = let a = c .before .before .before .before .before .before .before .before .before .args in scanned-next (c .before .before .agrees .result) (c .before .before .before .before .loop .inv) (c .before .before .before .loop-test .taken) (agreed-row (now (a .work)) (a .n) (now (a .indices)) (now (a .readings)) (c .before .before .before .before .loop .c) (places-exact (fifteen-few (c .before .before .before .before .before .before .before .before .before .pre .0)) (c .before .before .before .before .before .places .ensures)) (c .before .before .agrees .ensures)) (c .before .lowest-of .ensures) (c .counted .ensures)
+loop-again c = let a = c .before .before .before .before .before .before .before .before .before .args in scanned-next (c .before .before .agrees .result) (c .before .before .before .before .loop .inv) (c .before .before .before .loop-test .taken) (agreed-row (now (a .work)) (a .n) (now (a .indices)) (now (a .readings)) (c .before .before .before .before .loop .c) (table-size-exact (fifteen-few (c .before .before .before .before .before .before .before .before .before .pre .0)) (c .before .before .before .before .before .table-size .ensures)) (c .before .before .agrees .ensures)) (c .before .lowest-of .ensures) (c .counted .ensures)
 
 told-requires : tie.Need-told-requires Inv-loop μ-loop
 told-requires c κs = tt
@@ -55,7 +55,7 @@ scan-spec =
     (tie.spec
     Inv-loop
     μ-loop
-    places-requires
+    table-size-requires
     loop-holds
     mul-agrees
     agrees-requires

@@ -1,5 +1,5 @@
 -- `told` meets its contract: one law for each way out.
-use Rattle.locating.proofs.Scanned.{told-none, told-one, told-more}
+use Rattle.locating.proofs.Scans.{told-none, told-one, told-more}
 use Rattle.locating.proofs.told.Statement.{statement}
 use Rattle.locating.proofs.told.Tie as tie
 

@@ -55,7 +55,15 @@ refused-requires-4 c κs = search needs
 
 returns-4 : tie.Need-returns-4
 unfolding reading wholeJob inputCountBits gateCountBits maxInputs maxGates from
-returns-4 c = c .refused4 .ensures ∙ simp (field-value (now (c .before .before .before .before .before .before .before .before .before .before .before .args .s)) _ 4 _ _ (sym (c .before .before .before .before .before .before .before .before .before .read-field .ensures) ∙ c .before .before .before .before .before .before .before .n .given .1), le-leb _ _ (c .before .before .before .before .before .if1 .left), le-leb _ _ (c .before .before .before .before .if2 .left), field-cut (now (c .before .before .before .before .before .before .before .before .before .before .before .args .s)) _ 7 refl (omega (arith, field-near (now (c .before .before .before .before .before .before .before .before .before .before .before .args .s)) _ 4 _ _ (sym (c .before .before .before .before .before .before .before .before .before .read-field .ensures) ∙ c .before .before .before .before .before .before .before .n .given .1))) (sym (c .before .before .before .read-field2 .ensures) ∙ c .before .enum-told2 .given .1))
+returns-4 c =
+    let c-args = c .before .before .before .before .before .before .before .before .before .before .before .args in
+    let c-read-field = c .before .before .before .before .before .before .before .before .before .read-field in
+    let c-n = c .before .before .before .before .before .before .before .n in
+    let c-if1 = c .before .before .before .before .before .if1 in
+    let c-if2 = c .before .before .before .before .if2 in
+    let c-read-field2 = c .before .before .before .read-field2 in
+    let c-enum-told2 = c .before .enum-told2 in
+    c .refused4 .ensures ∙ simp (field-value (now (c-args .s)) _ 4 _ _ (sym (c-read-field .ensures) ∙ c-n .given .1), le-leb _ _ (c-if1 .left), le-leb _ _ (c-if2 .left), field-cut (now (c-args .s)) _ 7 refl (omega (arith, field-near (now (c-args .s)) _ 4 _ _ (sym (c-read-field .ensures) ∙ c-n .given .1))) (sym (c-read-field2 .ensures) ∙ c-enum-told2 .given .1))
 
 refused-requires-5 : tie.Need-refused-requires-5
 refused-requires-5 c κs = search needs

@@ -52,11 +52,30 @@ returns-3 c = (simp (entry-third (now (c .before .before .before .before .before
 
 returns-4 : tie.Need-returns-4
 unfolding faultKindBits lineBits
-returns-4 c = (stuck-outside (now (c .before .before .before .before .before .before .before .before .before .before .before .before .before .before .before .args .s)) (c .before .before .before .before .before .before .before .before .before .before .before .before .before .before .before .args .at) (c .before .before .before .before .before .before .before .before .before .before .before .before .before .before .before .args .inputs) (c .before .before .before .before .before .before .before .before .before .before .before .before .before .before .before .args .lines) (entry-read (now (c .before .before .before .before .before .before .before .before .before .before .before .before .before .before .before .args .s)) (c .before .before .before .before .before .before .before .before .before .before .before .before .before .before .before .args .at) 2 (sym (c .before .before .before .before .before .before .before .before .before .before .before .before .before .read-field .ensures) ∙ c .before .before .before .before .before .before .before .before .before .before .before .kind .given .1) (sym (c .before .before .before .before .before .before .before .before .before .read-field2 .ensures) ∙ c .before .before .before .before .before .before .before .a .given .1) (sym (c .before .before .before .before .before .read-field3 .ensures) ∙ c .before .before .before .b .given .1)) (c .before .if1 .taken) (c .if2 .taken), zero≤)
+returns-4 c =
+    let c-args = c .before .before .before .before .before .before .before .before .before .before .before .before .before .before .before .args in
+    let c-read-field = c .before .before .before .before .before .before .before .before .before .before .before .before .before .read-field in
+    let c-kind = c .before .before .before .before .before .before .before .before .before .before .before .kind in
+    let c-read-field2 = c .before .before .before .before .before .before .before .before .before .read-field2 in
+    let c-a = c .before .before .before .before .before .before .before .a in
+    let c-read-field3 = c .before .before .before .before .before .read-field3 in
+    let c-b = c .before .before .before .b in
+    let c-if1 = c .before .if1 in
+    (stuck-outside (now (c-args .s)) (c-args .at) (c-args .inputs) (c-args .lines) (entry-read (now (c-args .s)) (c-args .at) 2 (sym (c-read-field .ensures) ∙ c-kind .given .1) (sym (c-read-field2 .ensures) ∙ c-a .given .1) (sym (c-read-field3 .ensures) ∙ c-b .given .1)) (c-if1 .taken) (c .if2 .taken), zero≤)
 
 returns-5 : tie.Need-returns-5
 unfolding faultKindBits lineBits
-returns-5 c = (stuck-unlike (now (c .before .before .before .before .before .before .before .before .before .before .before .before .before .before .before .before .args .s)) (c .before .before .before .before .before .before .before .before .before .before .before .before .before .before .before .before .args .at) (c .before .before .before .before .before .before .before .before .before .before .before .before .before .before .before .before .args .inputs) (c .before .before .before .before .before .before .before .before .before .before .before .before .before .before .before .before .args .lines) (entry-read (now (c .before .before .before .before .before .before .before .before .before .before .before .before .before .before .before .before .args .s)) (c .before .before .before .before .before .before .before .before .before .before .before .before .before .before .before .before .args .at) 2 (sym (c .before .before .before .before .before .before .before .before .before .before .before .before .before .before .read-field .ensures) ∙ c .before .before .before .before .before .before .before .before .before .before .before .before .kind .given .1) (sym (c .before .before .before .before .before .before .before .before .before .before .read-field2 .ensures) ∙ c .before .before .before .before .before .before .before .before .a .given .1) (sym (c .before .before .before .before .before .before .read-field3 .ensures) ∙ c .before .before .before .before .b .given .1)) (c .before .before .if1 .taken) (c .before .if2 .left) (c .if3 .taken), zero≤)
+returns-5 c =
+    let c-args = c .before .before .before .before .before .before .before .before .before .before .before .before .before .before .before .before .args in
+    let c-read-field = c .before .before .before .before .before .before .before .before .before .before .before .before .before .before .read-field in
+    let c-kind = c .before .before .before .before .before .before .before .before .before .before .before .before .kind in
+    let c-read-field2 = c .before .before .before .before .before .before .before .before .before .before .read-field2 in
+    let c-a = c .before .before .before .before .before .before .before .before .a in
+    let c-read-field3 = c .before .before .before .before .before .before .read-field3 in
+    let c-b = c .before .before .before .before .b in
+    let c-if1 = c .before .before .if1 in
+    let c-if2 = c .before .if2 in
+    (stuck-unlike (now (c-args .s)) (c-args .at) (c-args .inputs) (c-args .lines) (entry-read (now (c-args .s)) (c-args .at) 2 (sym (c-read-field .ensures) ∙ c-kind .given .1) (sym (c-read-field2 .ensures) ∙ c-a .given .1) (sym (c-read-field3 .ensures) ∙ c-b .given .1)) (c-if1 .taken) (c-if2 .left) (c .if3 .taken), zero≤)
 
 cast-fault-of : tie.Need-cast-fault-of
 cast-fault-of c = omega (arith, field-lt (now (c .before .before .before .before .before .before .before .before .before .before .before .before .before .before .before .before .args .s)) _ 7 _ _ (sym (c .before .before .before .before .before .before .before .before .before .before .read-field2 .ensures) ∙ c .before .before .before .before .before .before .before .before .a .given .1))
@@ -69,19 +88,60 @@ fault-of-requires c κs = search needs
 
 returns-6 : tie.Need-returns-6
 unfolding faultKindBits lineBits
-returns-6 c = (stuck-found (now (c .before .before .before .before .before .before .before .before .before .before .before .before .before .before .before .before .before .args .s)) (c .before .before .before .before .before .before .before .before .before .before .before .before .before .before .before .before .before .args .at) (c .before .before .before .before .before .before .before .before .before .before .before .before .before .before .before .before .before .args .inputs) (c .before .before .before .before .before .before .before .before .before .before .before .before .before .before .before .before .before .args .lines) (entry-read (now (c .before .before .before .before .before .before .before .before .before .before .before .before .before .before .before .before .before .args .s)) (c .before .before .before .before .before .before .before .before .before .before .before .before .before .before .before .before .before .args .at) 2 (sym (c .before .before .before .before .before .before .before .before .before .before .before .before .before .before .before .read-field .ensures) ∙ c .before .before .before .before .before .before .before .before .before .before .before .before .before .kind .given .1) (sym (c .before .before .before .before .before .before .before .before .before .before .before .read-field2 .ensures) ∙ c .before .before .before .before .before .before .before .before .before .a .given .1) (sym (c .before .before .before .before .before .before .before .read-field3 .ensures) ∙ c .before .before .before .before .before .b .given .1)) (c .before .before .before .if1 .taken) (c .before .before .if2 .left) (c .before .if3 .left) (c .fault-of .ensures), entry-end (now (c .before .before .before .before .before .before .before .before .before .before .before .before .before .before .before .before .before .args .s)) (c .before .before .before .before .before .before .before .before .before .before .before .before .before .before .before .before .before .args .at) 2 (sym (c .before .before .before .before .before .before .before .before .before .before .before .before .before .before .before .read-field .ensures) ∙ c .before .before .before .before .before .before .before .before .before .before .before .before .before .kind .given .1) (sym (c .before .before .before .before .before .before .before .before .before .before .before .read-field2 .ensures) ∙ c .before .before .before .before .before .before .before .before .before .a .given .1) (sym (c .before .before .before .before .before .before .before .read-field3 .ensures) ∙ c .before .before .before .before .before .b .given .1))
+returns-6 c =
+    let c-args = c .before .before .before .before .before .before .before .before .before .before .before .before .before .before .before .before .before .args in
+    let c-read-field = c .before .before .before .before .before .before .before .before .before .before .before .before .before .before .before .read-field in
+    let c-kind = c .before .before .before .before .before .before .before .before .before .before .before .before .before .kind in
+    let c-read-field2 = c .before .before .before .before .before .before .before .before .before .before .before .read-field2 in
+    let c-a = c .before .before .before .before .before .before .before .before .before .a in
+    let c-read-field3 = c .before .before .before .before .before .before .before .read-field3 in
+    let c-b = c .before .before .before .before .before .b in
+    let c-if1 = c .before .before .before .if1 in
+    let c-if2 = c .before .before .if2 in
+    let c-if3 = c .before .if3 in
+    (stuck-found (now (c-args .s)) (c-args .at) (c-args .inputs) (c-args .lines) (entry-read (now (c-args .s)) (c-args .at) 2 (sym (c-read-field .ensures) ∙ c-kind .given .1) (sym (c-read-field2 .ensures) ∙ c-a .given .1) (sym (c-read-field3 .ensures) ∙ c-b .given .1)) (c-if1 .taken) (c-if2 .left) (c-if3 .left) (c .fault-of .ensures), entry-end (now (c-args .s)) (c-args .at) 2 (sym (c-read-field .ensures) ∙ c-kind .given .1) (sym (c-read-field2 .ensures) ∙ c-a .given .1) (sym (c-read-field3 .ensures) ∙ c-b .given .1))
 
 returns-7 : tie.Need-returns-7
 unfolding faultKindBits lineBits
-returns-7 c = (bridge-outside (now (c .before .before .before .before .before .before .before .before .before .before .before .before .before .before .before .args .s)) (c .before .before .before .before .before .before .before .before .before .before .before .before .before .before .before .args .at) (c .before .before .before .before .before .before .before .before .before .before .before .before .before .before .before .args .inputs) (c .before .before .before .before .before .before .before .before .before .before .before .before .before .before .before .args .lines) (entry-read (now (c .before .before .before .before .before .before .before .before .before .before .before .before .before .before .before .args .s)) (c .before .before .before .before .before .before .before .before .before .before .before .before .before .before .before .args .at) 2 (sym (c .before .before .before .before .before .before .before .before .before .before .before .before .before .read-field .ensures) ∙ c .before .before .before .before .before .before .before .before .before .before .before .kind .given .1) (sym (c .before .before .before .before .before .before .before .before .before .read-field2 .ensures) ∙ c .before .before .before .before .before .before .before .a .given .1) (sym (c .before .before .before .before .before .read-field3 .ensures) ∙ c .before .before .before .b .given .1)) (c .before .if1 .left) (c .if4 .taken), zero≤)
+returns-7 c =
+    let c-args = c .before .before .before .before .before .before .before .before .before .before .before .before .before .before .before .args in
+    let c-read-field = c .before .before .before .before .before .before .before .before .before .before .before .before .before .read-field in
+    let c-kind = c .before .before .before .before .before .before .before .before .before .before .before .kind in
+    let c-read-field2 = c .before .before .before .before .before .before .before .before .before .read-field2 in
+    let c-a = c .before .before .before .before .before .before .before .a in
+    let c-read-field3 = c .before .before .before .before .before .read-field3 in
+    let c-b = c .before .before .before .b in
+    let c-if1 = c .before .if1 in
+    (bridge-outside (now (c-args .s)) (c-args .at) (c-args .inputs) (c-args .lines) (entry-read (now (c-args .s)) (c-args .at) 2 (sym (c-read-field .ensures) ∙ c-kind .given .1) (sym (c-read-field2 .ensures) ∙ c-a .given .1) (sym (c-read-field3 .ensures) ∙ c-b .given .1)) (c-if1 .left) (c .if4 .taken), zero≤)
 
 returns-8 : tie.Need-returns-8
 unfolding faultKindBits lineBits
-returns-8 c = (bridge-above (now (c .before .before .before .before .before .before .before .before .before .before .before .before .before .before .before .before .args .s)) (c .before .before .before .before .before .before .before .before .before .before .before .before .before .before .before .before .args .at) (c .before .before .before .before .before .before .before .before .before .before .before .before .before .before .before .before .args .inputs) (c .before .before .before .before .before .before .before .before .before .before .before .before .before .before .before .before .args .lines) (entry-read (now (c .before .before .before .before .before .before .before .before .before .before .before .before .before .before .before .before .args .s)) (c .before .before .before .before .before .before .before .before .before .before .before .before .before .before .before .before .args .at) 2 (sym (c .before .before .before .before .before .before .before .before .before .before .before .before .before .before .read-field .ensures) ∙ c .before .before .before .before .before .before .before .before .before .before .before .before .kind .given .1) (sym (c .before .before .before .before .before .before .before .before .before .before .read-field2 .ensures) ∙ c .before .before .before .before .before .before .before .before .a .given .1) (sym (c .before .before .before .before .before .before .read-field3 .ensures) ∙ c .before .before .before .before .b .given .1)) (c .before .before .if1 .left) (c .before .if4 .left) (c .if5 .taken), zero≤)
+returns-8 c =
+    let c-args = c .before .before .before .before .before .before .before .before .before .before .before .before .before .before .before .before .args in
+    let c-read-field = c .before .before .before .before .before .before .before .before .before .before .before .before .before .before .read-field in
+    let c-kind = c .before .before .before .before .before .before .before .before .before .before .before .before .kind in
+    let c-read-field2 = c .before .before .before .before .before .before .before .before .before .before .read-field2 in
+    let c-a = c .before .before .before .before .before .before .before .before .a in
+    let c-read-field3 = c .before .before .before .before .before .before .read-field3 in
+    let c-b = c .before .before .before .before .b in
+    let c-if1 = c .before .before .if1 in
+    let c-if4 = c .before .if4 in
+    (bridge-above (now (c-args .s)) (c-args .at) (c-args .inputs) (c-args .lines) (entry-read (now (c-args .s)) (c-args .at) 2 (sym (c-read-field .ensures) ∙ c-kind .given .1) (sym (c-read-field2 .ensures) ∙ c-a .given .1) (sym (c-read-field3 .ensures) ∙ c-b .given .1)) (c-if1 .left) (c-if4 .left) (c .if5 .taken), zero≤)
 
 returns-9 : tie.Need-returns-9
 unfolding faultKindBits lineBits
-returns-9 c = (bridge-order (now (c .before .before .before .before .before .before .before .before .before .before .before .before .before .before .before .before .before .args .s)) (c .before .before .before .before .before .before .before .before .before .before .before .before .before .before .before .before .before .args .at) (c .before .before .before .before .before .before .before .before .before .before .before .before .before .before .before .before .before .args .inputs) (c .before .before .before .before .before .before .before .before .before .before .before .before .before .before .before .before .before .args .lines) (entry-read (now (c .before .before .before .before .before .before .before .before .before .before .before .before .before .before .before .before .before .args .s)) (c .before .before .before .before .before .before .before .before .before .before .before .before .before .before .before .before .before .args .at) 2 (sym (c .before .before .before .before .before .before .before .before .before .before .before .before .before .before .before .read-field .ensures) ∙ c .before .before .before .before .before .before .before .before .before .before .before .before .before .kind .given .1) (sym (c .before .before .before .before .before .before .before .before .before .before .before .read-field2 .ensures) ∙ c .before .before .before .before .before .before .before .before .before .a .given .1) (sym (c .before .before .before .before .before .before .before .read-field3 .ensures) ∙ c .before .before .before .before .before .b .given .1)) (c .before .before .before .if1 .left) (c .before .before .if4 .left) (c .before .if5 .left) (c .if6 .taken), zero≤)
+returns-9 c =
+    let c-args = c .before .before .before .before .before .before .before .before .before .before .before .before .before .before .before .before .before .args in
+    let c-read-field = c .before .before .before .before .before .before .before .before .before .before .before .before .before .before .before .read-field in
+    let c-kind = c .before .before .before .before .before .before .before .before .before .before .before .before .before .kind in
+    let c-read-field2 = c .before .before .before .before .before .before .before .before .before .before .before .read-field2 in
+    let c-a = c .before .before .before .before .before .before .before .before .before .a in
+    let c-read-field3 = c .before .before .before .before .before .before .before .read-field3 in
+    let c-b = c .before .before .before .before .before .b in
+    let c-if1 = c .before .before .before .if1 in
+    let c-if4 = c .before .before .if4 in
+    let c-if5 = c .before .if5 in
+    (bridge-order (now (c-args .s)) (c-args .at) (c-args .inputs) (c-args .lines) (entry-read (now (c-args .s)) (c-args .at) 2 (sym (c-read-field .ensures) ∙ c-kind .given .1) (sym (c-read-field2 .ensures) ∙ c-a .given .1) (sym (c-read-field3 .ensures) ∙ c-b .given .1)) (c-if1 .left) (c-if4 .left) (c-if5 .left) (c .if6 .taken), zero≤)
 
 cast-fault-of-3 : tie.Need-cast-fault-of-3
 cast-fault-of-3 c = omega (arith, field-lt (now (c .before .before .before .before .before .before .before .before .before .before .before .before .before .before .before .before .before .args .s)) _ 7 _ _ (sym (c .before .before .before .before .before .before .before .before .before .before .before .read-field2 .ensures) ∙ c .before .before .before .before .before .before .before .before .before .a .given .1))
@@ -94,7 +154,19 @@ fault-of-requires-2 c κs = search needs
 
 returns-10 : tie.Need-returns-10
 unfolding faultKindBits lineBits
-returns-10 c = (bridge-found (now (c .before .before .before .before .before .before .before .before .before .before .before .before .before .before .before .before .before .before .args .s)) (c .before .before .before .before .before .before .before .before .before .before .before .before .before .before .before .before .before .before .args .at) (c .before .before .before .before .before .before .before .before .before .before .before .before .before .before .before .before .before .before .args .inputs) (c .before .before .before .before .before .before .before .before .before .before .before .before .before .before .before .before .before .before .args .lines) (entry-read (now (c .before .before .before .before .before .before .before .before .before .before .before .before .before .before .before .before .before .before .args .s)) (c .before .before .before .before .before .before .before .before .before .before .before .before .before .before .before .before .before .before .args .at) 2 (sym (c .before .before .before .before .before .before .before .before .before .before .before .before .before .before .before .before .read-field .ensures) ∙ c .before .before .before .before .before .before .before .before .before .before .before .before .before .before .kind .given .1) (sym (c .before .before .before .before .before .before .before .before .before .before .before .before .read-field2 .ensures) ∙ c .before .before .before .before .before .before .before .before .before .before .a .given .1) (sym (c .before .before .before .before .before .before .before .before .read-field3 .ensures) ∙ c .before .before .before .before .before .before .b .given .1)) (c .before .before .before .before .if1 .left) (c .before .before .before .if4 .left) (c .before .before .if5 .left) (c .before .if6 .left) (c .fault-of2 .ensures), entry-end (now (c .before .before .before .before .before .before .before .before .before .before .before .before .before .before .before .before .before .before .args .s)) (c .before .before .before .before .before .before .before .before .before .before .before .before .before .before .before .before .before .before .args .at) 2 (sym (c .before .before .before .before .before .before .before .before .before .before .before .before .before .before .before .before .read-field .ensures) ∙ c .before .before .before .before .before .before .before .before .before .before .before .before .before .before .kind .given .1) (sym (c .before .before .before .before .before .before .before .before .before .before .before .before .read-field2 .ensures) ∙ c .before .before .before .before .before .before .before .before .before .before .a .given .1) (sym (c .before .before .before .before .before .before .before .before .read-field3 .ensures) ∙ c .before .before .before .before .before .before .b .given .1))
+returns-10 c =
+    let c-args = c .before .before .before .before .before .before .before .before .before .before .before .before .before .before .before .before .before .before .args in
+    let c-read-field = c .before .before .before .before .before .before .before .before .before .before .before .before .before .before .before .before .read-field in
+    let c-kind = c .before .before .before .before .before .before .before .before .before .before .before .before .before .before .kind in
+    let c-read-field2 = c .before .before .before .before .before .before .before .before .before .before .before .before .read-field2 in
+    let c-a = c .before .before .before .before .before .before .before .before .before .before .a in
+    let c-read-field3 = c .before .before .before .before .before .before .before .before .read-field3 in
+    let c-b = c .before .before .before .before .before .before .b in
+    let c-if1 = c .before .before .before .before .if1 in
+    let c-if4 = c .before .before .before .if4 in
+    let c-if5 = c .before .before .if5 in
+    let c-if6 = c .before .if6 in
+    (bridge-found (now (c-args .s)) (c-args .at) (c-args .inputs) (c-args .lines) (entry-read (now (c-args .s)) (c-args .at) 2 (sym (c-read-field .ensures) ∙ c-kind .given .1) (sym (c-read-field2 .ensures) ∙ c-a .given .1) (sym (c-read-field3 .ensures) ∙ c-b .given .1)) (c-if1 .left) (c-if4 .left) (c-if5 .left) (c-if6 .left) (c .fault-of2 .ensures), entry-end (now (c-args .s)) (c-args .at) 2 (sym (c-read-field .ensures) ∙ c-kind .given .1) (sym (c-read-field2 .ensures) ∙ c-a .given .1) (sym (c-read-field3 .ensures) ∙ c-b .given .1))
 
 pub read-fault-spec : {M : Type 1} → statement M
 read-fault-spec =

@@ -13,7 +13,8 @@ use Rattle.job.specs.declared.Job.{Job}
 use Rattle.job.specs.Layout.{maxFaults}
 use Rattle.job.specs.Record.{lines}
 use Rattle.reading.specs.Reading.{fault, entriesFrom, withFaults, valueRead}
-use Rattle.reading.specs.Told.{due, faultTold, faultEnd}
+use Rattle.reading.specs.Told.{due}
+use Rattle.reading.specs.Stages.{faultTold, faultEnd}
 use Rattle.reading.proofs.Entries.{entries-end, entries-stop, entries-next, fromFaults-stop, fromFaults-done}
 use Rattle.reading.proofs.read_faults.Statement.{statement}
 use Rattle.reading.proofs.read_faults.Tie as tie
@@ -60,7 +61,13 @@ refused-requires : tie.Need-refused-requires Inv-loop μ-loop
 refused-requires c κs = tt
 
 returns : tie.Need-returns Inv-loop μ-loop
-returns c = c .refused .ensures ∙ ap (λ (x : Answer (Parsed Job)). due (valueRead x)) (sym (fromFaults-stop (c .before .before .before .before .before .before .before .before .before .before .before .args .before) (from (now (c .before .before .before .before .before .before .before .before .before .before .before .args .s)) (c .before .before .before .before .before .before .before .before .before .before .before .args .at)) (c .before .before .before .before .before .before .loop .inv .2 .0 ∙ entries-stop (λ i. fault (c .before .before .before .before .before .before .before .before .before .before .before .args .before .inputs) (lines (c .before .before .before .before .before .before .before .before .before .before .before .args .before))) (c .before .before .before .before .before .before .before .before .before .before .before .args .before .«fault_count») (c .before .before .before .before .before .before .loop .i) (c .before .before .before .before .before .before .loop .job .faults) (from (now (c .before .before .before .before .before .before .before .before .before .before .before .args .s)) (c .before .before .before .before .before .before .loop .c)) (c .before .before .before .before .before .loop-test .taken) (sym (c .before .before .before .before .read-fault .ensures .0) ∙ ap (faultTold (now (c .before .before .before .before .before .before .before .before .before .before .before .args .s))) (c .before .before .cause .given .1)))))
+returns c =
+    let c-args = c .before .before .before .before .before .before .before .before .before .before .before .args in
+    let c-loop = c .before .before .before .before .before .before .loop in
+    let c-loop-test = c .before .before .before .before .before .loop-test in
+    let c-read-fault = c .before .before .before .before .read-fault in
+    let c-cause = c .before .before .cause in
+    c .refused .ensures ∙ ap (λ (x : Answer (Parsed Job)). due (valueRead x)) (sym (fromFaults-stop (c-args .before) (from (now (c-args .s)) (c-args .at)) (c-loop .inv .2 .0 ∙ entries-stop (λ i. fault (c-args .before .inputs) (lines (c-args .before))) (c-args .before .«fault_count») (c-loop .i) (c-loop .job .faults) (from (now (c-args .s)) (c-loop .c)) (c-loop-test .taken) (sym (c-read-fault .ensures .0) ∙ ap (faultTold (now (c-args .s))) (c-cause .given .1)))))
 
 add-i : tie.Need-add-i Inv-loop μ-loop
 unfolding maxFaults
@@ -70,13 +77,23 @@ loop-less : tie.Need-loop-less Inv-loop μ-loop
 loop-less c = omega arith
 
 loop-again : tie.Need-loop-again Inv-loop μ-loop
-loop-again c = (omega arith, omega (arith, c .before .before .before .before .before .loop .inv .1, c .before .before .before .read-fault .ensures .1, ap faultEnd (c .before .fault .given .1)), (c .before .before .before .before .before .loop .inv .2 .0 ∙ entries-next (λ i. fault (c .before .before .before .before .before .before .before .before .before .before .args .before .inputs) (lines (c .before .before .before .before .before .before .before .before .before .before .args .before))) (c .before .before .before .before .before .before .before .before .before .before .args .before .«fault_count») (c .before .before .before .before .before .loop .i) (c .before .before .before .before .before .loop .job .faults) (from (now (c .before .before .before .before .before .before .before .before .before .before .args .s)) (c .before .before .before .before .before .loop .c)) (c .before .before .before .before .loop-test .taken) (sym (c .before .before .before .read-fault .ensures .0) ∙ ap (faultTold (now (c .before .before .before .before .before .before .before .before .before .before .args .s))) (c .before .fault .given .1)), ap (λ (x : Job). withFaults x (set (c .before .before .before .before .before .loop .job .faults) (c .before .before .before .before .before .loop .i) (record { fault = c .before .fault .given .0 .0 }))) (c .before .before .before .before .before .loop .inv .2 .1)))
+loop-again c =
+    let c-loop = c .before .before .before .before .before .loop in
+    let c-read-fault = c .before .before .before .read-fault in
+    let c-fault = c .before .fault in
+    let c-args = c .before .before .before .before .before .before .before .before .before .before .args in
+    let c-loop-test = c .before .before .before .before .loop-test in
+    (omega arith, omega (arith, c-loop .inv .1, c-read-fault .ensures .1, ap faultEnd (c-fault .given .1)), (c-loop .inv .2 .0 ∙ entries-next (λ i. fault (c-args .before .inputs) (lines (c-args .before))) (c-args .before .«fault_count») (c-loop .i) (c-loop .job .faults) (from (now (c-args .s)) (c-loop .c)) (c-loop-test .taken) (sym (c-read-fault .ensures .0) ∙ ap (faultTold (now (c-args .s))) (c-fault .given .1)), ap (λ (x : Job). withFaults x (set (c-loop .job .faults) (c-loop .i) (record { fault = c-fault .given .0 .0 }))) (c-loop .inv .2 .1)))
 
 read-end-requires : tie.Need-read-end-requires Inv-loop μ-loop
 read-end-requires c κs = tt
 
 returns-2 : tie.Need-returns-2 Inv-loop μ-loop
-returns-2 c = c .read-end .ensures ∙ ap (λ (x : Answer (Parsed Job)). due (valueRead x)) (sym (fromFaults-done (c .before .before .before .before .before .before .before .args .before) (from (now (c .before .before .before .before .before .before .before .args .s)) (c .before .before .before .before .before .before .before .args .at)) (c .before .before .loop .job) (from (now (c .before .before .before .before .before .before .before .args .s)) (c .before .before .loop .c)) (c .before .before .loop .inv .2 .0 ∙ entries-end (λ i. fault (c .before .before .before .before .before .before .before .args .before .inputs) (lines (c .before .before .before .before .before .before .before .args .before))) (c .before .before .before .before .before .before .before .args .before .«fault_count») (c .before .before .loop .i) (c .before .before .loop .job .faults) (from (now (c .before .before .before .before .before .before .before .args .s)) (c .before .before .loop .c)) (c .before .loop-test .left)) (c .before .before .loop .inv .2 .1)))
+returns-2 c =
+    let c-args = c .before .before .before .before .before .before .before .args in
+    let c-loop = c .before .before .loop in
+    let c-loop-test = c .before .loop-test in
+    c .read-end .ensures ∙ ap (λ (x : Answer (Parsed Job)). due (valueRead x)) (sym (fromFaults-done (c-args .before) (from (now (c-args .s)) (c-args .at)) (c-loop .job) (from (now (c-args .s)) (c-loop .c)) (c-loop .inv .2 .0 ∙ entries-end (λ i. fault (c-args .before .inputs) (lines (c-args .before))) (c-args .before .«fault_count») (c-loop .i) (c-loop .job .faults) (from (now (c-args .s)) (c-loop .c)) (c-loop-test .left)) (c-loop .inv .2 .1)))
 
 pub read-faults-spec : {M : Type 1} → statement M
 read-faults-spec =

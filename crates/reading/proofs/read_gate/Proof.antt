@@ -63,7 +63,18 @@ unary-lines-ok-requires c κs = search needs
 
 returns-6 : tie.Need-returns-6
 unfolding gate gateKindBits lineBits
-returns-6 c = (simp (entry-read (now (c .before .before .before .before .before .before .before .before .before .before .before .before .before .before .before .before .before .args .s)) (c .before .before .before .before .before .before .before .before .before .before .before .before .before .before .before .before .before .args .at) 3 (sym (c .before .before .before .before .before .before .before .before .before .before .before .before .before .before .before .read-field .ensures) ∙ c .before .before .before .before .before .before .before .before .before .before .before .before .before .kind .given .1) (sym (c .before .before .before .before .before .before .before .before .before .before .before .read-field2 .ensures) ∙ c .before .before .before .before .before .before .before .before .before .a .given .1) (sym (c .before .before .before .before .before .before .before .read-field3 .ensures) ∙ c .before .before .before .before .before .b .given .1), lt-ltb _ _ (c .before .before .before .if1 .left), lt-ltb _ _ (c .before .before .if2 .left), sym (c .before .unary-lines-ok .ensures) ∙ not-true _ (c .if3 .taken)), zero≤)
+returns-6 c =
+    let c-args = c .before .before .before .before .before .before .before .before .before .before .before .before .before .before .before .before .before .args in
+    let c-read-field = c .before .before .before .before .before .before .before .before .before .before .before .before .before .before .before .read-field in
+    let c-kind = c .before .before .before .before .before .before .before .before .before .before .before .before .before .kind in
+    let c-read-field2 = c .before .before .before .before .before .before .before .before .before .before .before .read-field2 in
+    let c-a = c .before .before .before .before .before .before .before .before .before .a in
+    let c-read-field3 = c .before .before .before .before .before .before .before .read-field3 in
+    let c-b = c .before .before .before .before .before .b in
+    let c-if1 = c .before .before .before .if1 in
+    let c-if2 = c .before .before .if2 in
+    let c-unary-lines-ok = c .before .unary-lines-ok in
+    (simp (entry-read (now (c-args .s)) (c-args .at) 3 (sym (c-read-field .ensures) ∙ c-kind .given .1) (sym (c-read-field2 .ensures) ∙ c-a .given .1) (sym (c-read-field3 .ensures) ∙ c-b .given .1), lt-ltb _ _ (c-if1 .left), lt-ltb _ _ (c-if2 .left), sym (c-unary-lines-ok .ensures) ∙ not-true _ (c .if3 .taken)), zero≤)
 
 cast-gate-of : tie.Need-cast-gate-of
 cast-gate-of c = omega (arith, field-lt (now (c .before .before .before .before .before .before .before .before .before .before .before .before .before .before .before .before .before .args .s)) _ 7 _ _ (sym (c .before .before .before .before .before .before .before .before .before .before .before .read-field2 .ensures) ∙ c .before .before .before .before .before .before .before .before .before .a .given .1))
@@ -76,7 +87,19 @@ gate-of-requires c κs = search needs
 
 returns-7 : tie.Need-returns-7
 unfolding gate gateKindBits lineBits
-returns-7 c = (simp (entry-read (now (c .before .before .before .before .before .before .before .before .before .before .before .before .before .before .before .before .before .before .args .s)) (c .before .before .before .before .before .before .before .before .before .before .before .before .before .before .before .before .before .before .args .at) 3 (sym (c .before .before .before .before .before .before .before .before .before .before .before .before .before .before .before .before .read-field .ensures) ∙ c .before .before .before .before .before .before .before .before .before .before .before .before .before .before .kind .given .1) (sym (c .before .before .before .before .before .before .before .before .before .before .before .before .read-field2 .ensures) ∙ c .before .before .before .before .before .before .before .before .before .before .a .given .1) (sym (c .before .before .before .before .before .before .before .before .read-field3 .ensures) ∙ c .before .before .before .before .before .before .b .given .1), lt-ltb _ _ (c .before .before .before .before .if1 .left), lt-ltb _ _ (c .before .before .before .if2 .left), sym (c .before .before .unary-lines-ok .ensures) ∙ not-false _ (c .before .if3 .left), c .gate-of .ensures), entry-end (now (c .before .before .before .before .before .before .before .before .before .before .before .before .before .before .before .before .before .before .args .s)) (c .before .before .before .before .before .before .before .before .before .before .before .before .before .before .before .before .before .before .args .at) 3 (sym (c .before .before .before .before .before .before .before .before .before .before .before .before .before .before .before .before .read-field .ensures) ∙ c .before .before .before .before .before .before .before .before .before .before .before .before .before .before .kind .given .1) (sym (c .before .before .before .before .before .before .before .before .before .before .before .before .read-field2 .ensures) ∙ c .before .before .before .before .before .before .before .before .before .before .a .given .1) (sym (c .before .before .before .before .before .before .before .before .read-field3 .ensures) ∙ c .before .before .before .before .before .before .b .given .1))
+returns-7 c =
+    let c-args = c .before .before .before .before .before .before .before .before .before .before .before .before .before .before .before .before .before .before .args in
+    let c-read-field = c .before .before .before .before .before .before .before .before .before .before .before .before .before .before .before .before .read-field in
+    let c-kind = c .before .before .before .before .before .before .before .before .before .before .before .before .before .before .kind in
+    let c-read-field2 = c .before .before .before .before .before .before .before .before .before .before .before .before .read-field2 in
+    let c-a = c .before .before .before .before .before .before .before .before .before .before .a in
+    let c-read-field3 = c .before .before .before .before .before .before .before .before .read-field3 in
+    let c-b = c .before .before .before .before .before .before .b in
+    let c-if1 = c .before .before .before .before .if1 in
+    let c-if2 = c .before .before .before .if2 in
+    let c-unary-lines-ok = c .before .before .unary-lines-ok in
+    let c-if3 = c .before .if3 in
+    (simp (entry-read (now (c-args .s)) (c-args .at) 3 (sym (c-read-field .ensures) ∙ c-kind .given .1) (sym (c-read-field2 .ensures) ∙ c-a .given .1) (sym (c-read-field3 .ensures) ∙ c-b .given .1), lt-ltb _ _ (c-if1 .left), lt-ltb _ _ (c-if2 .left), sym (c-unary-lines-ok .ensures) ∙ not-false _ (c-if3 .left), c .gate-of .ensures), entry-end (now (c-args .s)) (c-args .at) 3 (sym (c-read-field .ensures) ∙ c-kind .given .1) (sym (c-read-field2 .ensures) ∙ c-a .given .1) (sym (c-read-field3 .ensures) ∙ c-b .given .1))
 
 pub read-gate-spec : {M : Type 1} → statement M
 read-gate-spec =

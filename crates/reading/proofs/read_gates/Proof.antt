@@ -12,7 +12,8 @@ use Rattle.bits.specs.Parser.{Parsed}
 use Rattle.job.specs.declared.Job.{Job}
 use Rattle.job.specs.Layout.{maxGates}
 use Rattle.reading.specs.Reading.{gate, entriesFrom, withGates, valueRead}
-use Rattle.reading.specs.Told.{due, gateTold, gateEnd}
+use Rattle.reading.specs.Told.{due}
+use Rattle.reading.specs.Stages.{gateTold, gateEnd}
 use Rattle.reading.proofs.Entries.{entries-end, entries-stop, entries-next, fromGates-stop, fromGates-done}
 use Rattle.reading.proofs.read_gates.Statement.{statement}
 use Rattle.reading.proofs.read_gates.Tie as tie
@@ -56,7 +57,13 @@ refused-requires : tie.Need-refused-requires Inv-loop μ-loop
 refused-requires c κs = tt
 
 returns : tie.Need-returns Inv-loop μ-loop
-returns c = c .refused .ensures ∙ ap (λ (x : Answer (Parsed Job)). due (valueRead x)) (sym (fromGates-stop (c .before .before .before .before .before .before .before .before .before .before .args .before) (from (now (c .before .before .before .before .before .before .before .before .before .before .args .s)) (c .before .before .before .before .before .before .before .before .before .before .args .at)) (c .before .before .before .before .before .before .loop .inv .2 .0 ∙ entries-stop (λ i. gate (c .before .before .before .before .before .before .before .before .before .before .args .before .inputs + i)) (c .before .before .before .before .before .before .before .before .before .before .args .before .«gate_count») (c .before .before .before .before .before .before .loop .q) (c .before .before .before .before .before .before .loop .job .gates) (from (now (c .before .before .before .before .before .before .before .before .before .before .args .s)) (c .before .before .before .before .before .before .loop .c)) (c .before .before .before .before .before .loop-test .taken) (sym (c .before .before .before .before .read-gate .ensures .0) ∙ ap (gateTold (now (c .before .before .before .before .before .before .before .before .before .before .args .s))) (c .before .before .cause .given .1)))))
+returns c =
+    let c-args = c .before .before .before .before .before .before .before .before .before .before .args in
+    let c-loop = c .before .before .before .before .before .before .loop in
+    let c-loop-test = c .before .before .before .before .before .loop-test in
+    let c-read-gate = c .before .before .before .before .read-gate in
+    let c-cause = c .before .before .cause in
+    c .refused .ensures ∙ ap (λ (x : Answer (Parsed Job)). due (valueRead x)) (sym (fromGates-stop (c-args .before) (from (now (c-args .s)) (c-args .at)) (c-loop .inv .2 .0 ∙ entries-stop (λ i. gate (c-args .before .inputs + i)) (c-args .before .«gate_count») (c-loop .q) (c-loop .job .gates) (from (now (c-args .s)) (c-loop .c)) (c-loop-test .taken) (sym (c-read-gate .ensures .0) ∙ ap (gateTold (now (c-args .s))) (c-cause .given .1)))))
 
 add-q : tie.Need-add-q Inv-loop μ-loop
 unfolding maxGates
@@ -66,7 +73,13 @@ loop-less : tie.Need-loop-less Inv-loop μ-loop
 loop-less c = omega arith
 
 loop-again : tie.Need-loop-again Inv-loop μ-loop
-loop-again c = (omega arith, omega (arith, c .before .before .before .before .before .loop .inv .1, c .before .before .before .read-gate .ensures .1, ap gateEnd (c .before .gate .given .1)), (c .before .before .before .before .before .loop .inv .2 .0 ∙ entries-next (λ i. gate (c .before .before .before .before .before .before .before .before .before .args .before .inputs + i)) (c .before .before .before .before .before .before .before .before .before .args .before .«gate_count») (c .before .before .before .before .before .loop .q) (c .before .before .before .before .before .loop .job .gates) (from (now (c .before .before .before .before .before .before .before .before .before .args .s)) (c .before .before .before .before .before .loop .c)) (c .before .before .before .before .loop-test .taken) (sym (c .before .before .before .read-gate .ensures .0) ∙ ap (gateTold (now (c .before .before .before .before .before .before .before .before .before .args .s))) (c .before .gate .given .1)), ap (λ (x : Job). withGates x (set (c .before .before .before .before .before .loop .job .gates) (c .before .before .before .before .before .loop .q) (record { gate = c .before .gate .given .0 .0 }))) (c .before .before .before .before .before .loop .inv .2 .1)))
+loop-again c =
+    let c-loop = c .before .before .before .before .before .loop in
+    let c-read-gate = c .before .before .before .read-gate in
+    let c-gate = c .before .gate in
+    let c-args = c .before .before .before .before .before .before .before .before .before .args in
+    let c-loop-test = c .before .before .before .before .loop-test in
+    (omega arith, omega (arith, c-loop .inv .1, c-read-gate .ensures .1, ap gateEnd (c-gate .given .1)), (c-loop .inv .2 .0 ∙ entries-next (λ i. gate (c-args .before .inputs + i)) (c-args .before .«gate_count») (c-loop .q) (c-loop .job .gates) (from (now (c-args .s)) (c-loop .c)) (c-loop-test .taken) (sym (c-read-gate .ensures .0) ∙ ap (gateTold (now (c-args .s))) (c-gate .given .1)), ap (λ (x : Job). withGates x (set (c-loop .job .gates) (c-loop .q) (record { gate = c-gate .given .0 .0 }))) (c-loop .inv .2 .1)))
 
 read-output-requires : tie.Need-read-output-requires Inv-loop μ-loop
 read-output-requires c κs = omega (arith, c .before .loop .inv .1, c .before .loop .inv .0, c .before .before .before .before .before .pre .0, c .before .before .before .before .before .pre .1)

@@ -6,10 +6,11 @@ use denote.Ref.{now}
 use lib.ListN.{length, take}
 use Rattle.bits.specs.Answer.{Answer, Fills, leaves}
 use Rattle.job.specs.Layout.{maxFaults}
-use Rattle.gates.specs.Form.{tableBytes}
-use Rattle.transform.specs.Operations.{rowsOf}
-use Rattle.gates.proofs.Sized.{table-bytes-exact, inputs-few}
-use Rattle.spectra.proofs.Handed.{rows-end, rows-length, rows-taken, told-done, told-refused}
+use Rattle.bits.specs.Sizes.{tableBytes}
+use Rattle.spectra.specs.Operations.{rowsOf}
+use Rattle.bits.proofs.TableSizes.{table-bytes-exact}
+use Rattle.job.proofs.Sizes.{inputs-few}
+use Rattle.spectra.proofs.JobRows.{rows-end, rows-length, rows-taken, told-done, told-refused}
 use Rattle.spectra.proofs.fill_job.Statement.{statement}
 use Rattle.spectra.proofs.fill_job.Tie as tie
 

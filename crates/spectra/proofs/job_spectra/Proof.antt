@@ -6,8 +6,8 @@ use lib.ListN.{replicate, length-replicate}
 use Prim.Native.Nat.{ℕ}
 use Rattle.job.specs.Layout.{maxFaults}
 use Rattle.tables.specs.Work.{maxTableBytes}
-use Rattle.spectra.proofs.Delivered.{tables-deliver, tables-unread, job-counted, job-unread}
-use Rattle.spectra.proofs.Handed.{job-onward}
+use Rattle.spectra.proofs.JobTables.{tables-deliver, tables-unread, job-counted, job-unread}
+use Rattle.spectra.proofs.JobRows.{job-onward}
 use Rattle.spectra.proofs.job_spectra.Statement.{statement}
 use Rattle.spectra.proofs.job_spectra.Tie as tie
 

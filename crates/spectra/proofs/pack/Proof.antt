@@ -3,8 +3,8 @@ use Prim.Native.Nat.{_-_}
 use native.Mathlib.Omega.{arith}
 use borrow.Author.Count.{falls}
 use lib.ListN.{length}
-use Rattle.gates.proofs.Splice.{written-length}
-use Rattle.spectra.proofs.Packing.{Packing, packing-none, packing-lt, packing-first, packing-more, packing-all}
+use Rattle.bits.proofs.Splice.{written-length}
+use Rattle.spectra.proofs.Parities.{Packing, packing-none, packing-lt, packing-first, packing-more, packing-all}
 use Rattle.spectra.proofs.pack.Statement.{statement}
 use Rattle.spectra.proofs.pack.Tie as tie
 

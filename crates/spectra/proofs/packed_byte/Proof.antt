@@ -5,9 +5,9 @@ use borrow.Author.Count.{falls}
 use denote.Ref.{now}
 use lib.ListN.{length}
 use Rattle.bits.specs.Packed.{tabulate}
-use Rattle.transform.specs.Operations.{at}
-use Rattle.spectra.specs.Packing.{parityAt}
-use Rattle.spectra.proofs.Packing.{Digits, digits-none, digits-twice, digits-fits, digits-more, digits-all, parity-bit}
+use Rattle.spectra.specs.Operations.{at}
+use Rattle.spectra.specs.Parities.{parityAt}
+use Rattle.spectra.proofs.Parities.{Digits, digits-none, digits-twice, digits-fits, digits-more, digits-all, parity-bit}
 use Rattle.spectra.proofs.packed_byte.Statement.{statement}
 use Rattle.spectra.proofs.packed_byte.Tie as tie
 

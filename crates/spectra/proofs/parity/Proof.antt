@@ -5,7 +5,7 @@ use borrow.Author.Needs.{needs}
 use denote.Ref.{now}
 use lib.ListN.{length}
 use Rattle.bits.proofs.Packed.{tabulate-at, tabulate-past}
-use Rattle.spectra.specs.Packing.{parityAt}
+use Rattle.spectra.specs.Parities.{parityAt}
 use Rattle.spectra.proofs.parity.Statement.{statement}
 use Rattle.spectra.proofs.parity.Tie as tie
 

@@ -1,6 +1,6 @@
 -- `spectra::recover` meets its contract: the parities are packed, transformed, and packed again.
 use mathlib.Core.Path.{_∙_}
-use Rattle.spectra.proofs.Undoing.{packs-numbers, packs-sums, recovers}
+use Rattle.spectra.proofs.Recovery.{packs-numbers, packs-sums, recovers}
 use Rattle.spectra.proofs.recover.Statement.{statement}
 use Rattle.spectra.proofs.recover.Tie as tie
 

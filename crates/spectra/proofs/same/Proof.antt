@@ -3,7 +3,7 @@ use Prim.Native.Nat.{_-_}
 use native.Mathlib.Omega.{arith}
 use borrow.Author.Count.{falls}
 use lib.ListN.{length}
-use Rattle.spectra.proofs.Undoing.{Comparing, comparing-none, comparing-stop, comparing-more, comparing-all, same-lengths}
+use Rattle.spectra.proofs.Recovery.{Comparing, comparing-none, comparing-stop, comparing-more, comparing-all, same-lengths}
 use Rattle.spectra.proofs.same.Statement.{statement}
 use Rattle.spectra.proofs.same.Tie as tie
 

@@ -2,8 +2,8 @@
 use mathlib.Core.Path.{sym, _∙_}
 use borrow.Author.Tests.{not-true, not-false}
 use denote.Ref.{now}
-use Rattle.spectra.proofs.Undoing.{compares, undo-none, undo-memory, undo-done}
-use Rattle.spectra.proofs.Packing.{copied-whole}
+use Rattle.spectra.proofs.Recovery.{compares, undo-none, undo-memory, undo-done}
+use Rattle.spectra.proofs.Parities.{copied-whole}
 use Rattle.spectra.proofs.undo_in.Statement.{statement}
 use Rattle.spectra.proofs.undo_in.Tie as tie
 
@@ -32,7 +32,15 @@ same-length-4 : tie.Need-same-length-4
 same-length-4 c = c .before .before .before .before .before .before .row-spectra .kept .1 .1 .1 .1 .1 .0 ∙ c .before .before .before .before .before .before .before .before .before .before .sums .given
 
 returns-2 : tie.Need-returns-2
-returns-2 c = let a = c .before .before .before .before .before .before .before .before .before .before .before .before .before .before .before .before .before .before .before .before .args in let l = c .before .before .before .before .before .before .before .before .before .before .before .before .before .before .before .before .before .before .before .before .pre in undo-memory (a .n) (now (a .numbers)) (a .kind) (a .k) (now (a .out)) (l .some) (l .few) (l .polarity) (sym (not-false _ (c .before .if1 .left)) ∙ c .before .before .same .ensures ∙ compares l (a .kind) (c .before .before .before .before .before .before .before .before .before .before .before .before .before .recover .last .1 .0) (c .before .before .before .before .before .before .before .before .before .before .before .before .before .recover .ensures) (c .before .before .before .before .before .before .before .before .before .before .sums .given) (c .before .before .before .before .before .before .row-spectra .ensures)) (c .before .before .before .before .before .before .before .before .before .before .before .before .before .recover .ensures) (c .if2 .taken)
+returns-2 c =
+    let c-args = c .before .before .before .before .before .before .before .before .before .before .before .before .before .before .before .before .before .before .before .before .args in
+    let c-pre = c .before .before .before .before .before .before .before .before .before .before .before .before .before .before .before .before .before .before .before .before .pre in
+    let c-if1 = c .before .if1 in
+    let c-same = c .before .before .same in
+    let c-recover = c .before .before .before .before .before .before .before .before .before .before .before .before .before .recover in
+    let c-sums = c .before .before .before .before .before .before .before .before .before .before .sums in
+    let c-row-spectra = c .before .before .before .before .before .before .row-spectra in
+    let a = c-args in let l = c-pre in undo-memory (a .n) (now (a .numbers)) (a .kind) (a .k) (now (a .out)) (l .some) (l .few) (l .polarity) (sym (not-false _ (c-if1 .left)) ∙ c-same .ensures ∙ compares l (a .kind) (c-recover .last .1 .0) (c-recover .ensures) (c-sums .given) (c-row-spectra .ensures)) (c-recover .ensures) (c .if2 .taken)
 
 copy-requires : tie.Need-copy-requires
 copy-requires c κs = tt
@@ -47,7 +55,17 @@ same-length-7 : tie.Need-same-length-7
 same-length-7 c = c .before .before .copy .kept .0
 
 returns-3 : tie.Need-returns-3
-returns-3 c = let a = c .before .before .before .before .before .before .before .before .before .before .before .before .before .before .before .before .before .before .before .before .before .before .before .before .before .args in let l = c .before .before .before .before .before .before .before .before .before .before .before .before .before .before .before .before .before .before .before .before .before .before .before .before .before .pre in undo-done (a .n) (now (a .numbers)) (a .kind) (a .k) (now (a .out)) (l .some) (l .few) (l .polarity) (sym (not-false _ (c .before .before .before .before .before .before .if1 .left)) ∙ c .before .before .before .before .before .before .before .same .ensures ∙ compares l (a .kind) (c .before .before .before .before .before .before .before .before .before .before .before .before .before .before .before .before .before .before .recover .last .1 .0) (c .before .before .before .before .before .before .before .before .before .before .before .before .before .before .before .before .before .before .recover .ensures) (c .before .before .before .before .before .before .before .before .before .before .before .before .before .before .before .sums .given) (c .before .before .before .before .before .before .before .before .before .before .before .row-spectra .ensures)) (c .before .before .before .before .before .before .before .before .before .before .before .before .before .before .before .before .before .before .recover .ensures) (c .before .before .before .before .before .if2 .left) (copied-whole (now (a .out)) (c .before .before .before .before .before .before .before .before .before .before .before .before .before .before .before .before .before .before .recover .last .0) (c .before .before .before .before .before .if2 .left) (c .before .before .copy .ensures))
+returns-3 c =
+    let c-args = c .before .before .before .before .before .before .before .before .before .before .before .before .before .before .before .before .before .before .before .before .before .before .before .before .before .args in
+    let c-pre = c .before .before .before .before .before .before .before .before .before .before .before .before .before .before .before .before .before .before .before .before .before .before .before .before .before .pre in
+    let c-if1 = c .before .before .before .before .before .before .if1 in
+    let c-same = c .before .before .before .before .before .before .before .same in
+    let c-recover = c .before .before .before .before .before .before .before .before .before .before .before .before .before .before .before .before .before .before .recover in
+    let c-sums = c .before .before .before .before .before .before .before .before .before .before .before .before .before .before .before .sums in
+    let c-row-spectra = c .before .before .before .before .before .before .before .before .before .before .before .row-spectra in
+    let c-if2 = c .before .before .before .before .before .if2 in
+    let c-copy = c .before .before .copy in
+    let a = c-args in let l = c-pre in undo-done (a .n) (now (a .numbers)) (a .kind) (a .k) (now (a .out)) (l .some) (l .few) (l .polarity) (sym (not-false _ (c-if1 .left)) ∙ c-same .ensures ∙ compares l (a .kind) (c-recover .last .1 .0) (c-recover .ensures) (c-sums .given) (c-row-spectra .ensures)) (c-recover .ensures) (c-if2 .left) (copied-whole (now (a .out)) (c-recover .last .0) (c-if2 .left) (c-copy .ensures))
 
 pub undo-in-spec : {M : Type 1} → statement M
 undo-in-spec =

@@ -1,16 +1,18 @@
 -- `tables::table` meets its contract.
 use Prim.Native.Nat.{ℕ, _≤_, _<_}
-use mathlib.Core.Path.{_≡_, ap, subst, _∙_}
+use mathlib.Core.Path.{_≡_, refl, ap, subst, _∙_}
 use denote.Ref.{now}
 use lib.ListN.{length}
 use Rattle.reading.specs.Reading.{reading}
-use Rattle.reading.proofs.Telling.{told-refused, told-done, told-valid}
-use Rattle.gates.proofs.Sized.{inputs-few}
+use Rattle.reading.proofs.Consequences.{told-refused, told-done, told-valid}
+use Rattle.job.specs.Layout.{maxInputs, maxGates}
+use Rattle.job.proofs.Sizes.{inputs-few}
 use Rattle.tables.specs.Sizes.{shapeOf}
+use Rattle.tables.specs.Work.{maxTableBytes, rowBytes}
 use Rattle.tables.specs.declared.rows.Shape.{Shape}
-use Rattle.tables.proofs.Answering.{table-unread, table-number, table-memory, table-done}
-use Rattle.tables.proofs.Delivered.{single-room}
-use Rattle.tables.proofs.Shaped.{few-shape}
+use Rattle.tables.proofs.Answers.{table-unread, table-number, table-memory, table-done}
+use Rattle.tables.proofs.Delivery.{wide-one}
+use Rattle.tables.proofs.ShapedRows.{few-shape}
 use borrow.Author.Needs.{needs}
 use Rattle.tables.proofs.table.Statement.{statement}
 use Rattle.tables.proofs.table.Tie as tie
@@ -31,7 +33,7 @@ cast-if1 : tie.Need-cast-if1
 cast-if1 c = search needs
 
 returns-2 : tie.Need-returns-2
-returns-2 c = let a = c .before .before .before .before .before .before .before .before .args in let r = c .before .before .before .before .before .read in let done = c .before .before .before .enum-told in table-number (now (a .bytes)) (now (a .out)) (a .circuit) (r .result .job) (told-done (r .result) (reading (now (a .bytes))) (r .ensures) (done .given .1)) (c .if1 .taken)
+returns-2 c = let a = c .before .before .before .before .before .before .before .before .args in let r = c .before .before .before .before .before .read in table-number (now (a .bytes)) (now (a .out)) (a .circuit) (r .result .job) (told-done (r .result) (reading (now (a .bytes))) (r .ensures) (c .before .before .before .enum-told .given .1)) (c .if1 .taken)
 
 cast-shape-of : tie.Need-cast-shape-of
 cast-shape-of c = search needs
@@ -43,16 +45,25 @@ shaped : (c : tie.After-shape-of) → c .shape-of .result ≡ shapeOf (c .before
 shaped c = let r = c .before .before .before .before .before .before .before .read in c .shape-of .ensures ∙ few-shape (inputs-few (told-valid (r .result) (now (c .before .before .before .before .before .before .before .before .before .before .args .bytes)) (r .ensures) (c .before .before .before .before .before .enum-told .given .1) .few))
 
 returns-3 : tie.Need-returns-3
-returns-3 c = let a = c .before .before .before .before .before .before .before .before .before .before .before .before .args in let r = c .before .before .before .before .before .before .before .before .before .read in let done = c .before .before .before .before .before .before .before .enum-told in table-memory (now (a .bytes)) (now (a .out)) (a .circuit) (r .result .job) (told-done (r .result) (reading (now (a .bytes))) (r .ensures) (done .given .1)) (c .before .before .before .before .if1 .left) (subst (λ (k : ℕ). length (now (a .out)) < k) (ap (λ (x : Shape). x .bytes) (shaped (c .before .before))) (c .if2 .taken))
+returns-3 c = let a = c .before .before .before .before .before .before .before .before .before .before .before .before .args in let r = c .before .before .before .before .before .before .before .before .before .read in table-memory (now (a .bytes)) (now (a .out)) (a .circuit) (r .result .job) (told-done (r .result) (reading (now (a .bytes))) (r .ensures) (c .before .before .before .before .before .before .before .enum-told .given .1)) (c .before .before .before .before .if1 .left) (subst (λ (k : ℕ). length (now (a .out)) < k) (ap (λ (x : Shape). x .bytes) (shaped (c .before .before))) (c .if2 .taken))
 
-put-circuit-requires : tie.Need-put-circuit-requires
-put-circuit-requires c κs = let a = c .before .before .before .before .before .before .before .before .before .before .before .before .before .args in let r = c .before .before .before .before .before .before .before .before .before .before .read in let done = c .before .before .before .before .before .before .before .before .enum-told in single-room (r .result .job) (c .before .before .before .shape-of .result) (length (now (a .out))) (told-valid (r .result) (now (a .bytes)) (r .ensures) (done .given .1)) (shaped (c .before .before .before)) (a .circuit) (c .before .before .before .before .before .if1 .left) (c .before .if2 .left)
+slice-aggregate-put-table : tie.Need-slice-aggregate-put-table
+slice-aggregate-put-table c = search needs
+
+put-table-requires : tie.Need-put-table-requires
+unfolding rowBytes maxInputs maxGates maxTableBytes
+put-table-requires c κs =
+    let a = c .before .before .before .before .before .before .before .before .before .before .before .before .before .before .args in let r = c .before .before .before .before .before .before .before .before .before .before .before .read in let s = shaped (c .before .before .before .before) in (
+      wide-one (r .result .job) (c .before .before .before .before .shape-of .result) _ (told-valid (r .result) (now (a .bytes)) (r .ensures) (c .before .before .before .before .before .before .before .before .before .enum-told .given .1)) s refl,
+      c .before .before .before .before .before .before .if1 .left,
+      subst (λ (k : ℕ). k ≤ length (now (a .out))) (ap (λ (x : Shape). x .bytes) s) (c .before .before .if2 .left),
+    )
 
 same-length : tie.Need-same-length
-same-length c = c .before .before .put-circuit .kept .0
+same-length c = c .before .before .before .put-table .kept .0
 
 returns-4 : tie.Need-returns-4
-returns-4 c = let a = c .before .before .before .before .before .before .before .before .before .before .before .before .before .before .before .before .args in let r = c .before .before .before .before .before .before .before .before .before .before .before .before .before .read in let done = c .before .before .before .before .before .before .before .before .before .before .before .enum-told in table-done (now (a .bytes)) (now (a .out)) (a .circuit) (r .result .job) (told-done (r .result) (reading (now (a .bytes))) (r .ensures) (done .given .1)) _ (c .before .before .before .before .before .before .before .before .if1 .left) (subst (λ (k : ℕ). k ≤ length (now (a .out))) (ap (λ (x : Shape). x .bytes) (shaped (c .before .before .before .before .before .before))) (c .before .before .before .before .if2 .left)) (c .before .before .put-circuit .ensures)
+returns-4 c = let a = c .before .before .before .before .before .before .before .before .before .before .before .before .before .before .before .before .before .before .args in let r = c .before .before .before .before .before .before .before .before .before .before .before .before .before .before .before .read in table-done (now (a .bytes)) (now (a .out)) (a .circuit) (r .result .job) (told-done (r .result) (reading (now (a .bytes))) (r .ensures) (c .before .before .before .before .before .before .before .before .before .before .before .before .before .enum-told .given .1)) _ (c .before .before .before .before .before .before .before .before .before .before .if1 .left) (subst (λ (k : ℕ). k ≤ length (now (a .out))) (ap (λ (x : Shape). x .bytes) (shaped (c .before .before .before .before .before .before .before .before))) (c .before .before .before .before .before .before .if2 .left)) (c .before .before .before .put-table .ensures)
 
 pub table-spec : {M : Type 1} → statement M
 table-spec =
@@ -67,6 +78,7 @@ table-spec =
     cast-shape-of
     shape-of-requires
     returns-3
-    put-circuit-requires
+    slice-aggregate-put-table
+    put-table-requires
     same-length
     returns-4)

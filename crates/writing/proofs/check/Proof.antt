@@ -5,7 +5,7 @@ use borrow.Author.Needs.{needs}
 use Rattle.bits.specs.Answer.{outcome}
 use Rattle.job.specs.Layout.{maxInputs, maxGates}
 use Rattle.job.specs.Check.{checked}
-use Rattle.writing.proofs.Checking.{checked-rest}
+use Rattle.writing.proofs.Checks.{checked-rest}
 use Rattle.writing.proofs.check.Statement.{statement}
 use Rattle.writing.proofs.check.Tie as tie
 

@@ -7,7 +7,7 @@ use borrow.Author.Tests.{not-true, not-false}
 use borrow.Author.Needs.{needs, zero≤}
 use Rattle.job.specs.Layout.{maxFaults}
 use Rattle.job.specs.Check.{faultsChecked}
-use Rattle.writing.proofs.Checking.{faults-step, faults-next, faults-end}
+use Rattle.writing.proofs.Checks.{faults-step, faults-next, faults-end}
 use Rattle.writing.proofs.check_faults.Statement.{statement}
 use Rattle.writing.proofs.check_faults.Tie as tie
 

@@ -7,7 +7,7 @@ use borrow.Author.Tests.{lt-ltb, le-ltb}
 use borrow.Author.Needs.{needs, zero≤}
 use Rattle.job.specs.Layout.{maxGates}
 use Rattle.job.specs.Check.{gatesChecked}
-use Rattle.writing.proofs.Checking.{gates-step, gates-next, gates-end}
+use Rattle.writing.proofs.Checks.{gates-step, gates-next, gates-end}
 use Rattle.writing.proofs.check_gates.Statement.{statement}
 use Rattle.writing.proofs.check_gates.Tie as tie
 

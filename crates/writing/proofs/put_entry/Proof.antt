@@ -5,7 +5,7 @@ use lib.Dec.{lit≤}
 use Rattle.bits.specs.Bits.{bitsOf}
 use Rattle.job.specs.Layout.{lineBits}
 use Rattle.writing.specs.Writing.{entryBits}
-use Rattle.writing.proofs.Putting.{puts-then, ready-front, ready-after}
+use Rattle.writing.proofs.PutBits.{puts-then, ready-front, ready-after}
 use Rattle.writing.proofs.put_entry.Statement.{statement}
 use Rattle.writing.proofs.put_entry.Tie as tie
 

@@ -9,7 +9,7 @@ use Rattle.job.specs.Record.{unusedFault}
 use Rattle.job.specs.Layout.{maxFaults, faultKindBits}
 use Rattle.writing.specs.Writing.{faultBits, allBits}
 use Rattle.writing.specs.Pen.{Puts}
-use Rattle.writing.proofs.Fitting.{fault-fits, fits-same}
+use Rattle.writing.proofs.Widths.{fault-fits, fits-same}
 use Rattle.writing.proofs.Entries.{entry-same, entries-none, entries-ready, entries-next, entries-done}
 use Rattle.writing.proofs.put_faults.Statement.{statement}
 use Rattle.writing.proofs.put_faults.Tie as tie

@@ -3,21 +3,21 @@ use Prim.Native.Nat.{_+_, _-_}
 use native.Mathlib.Omega.{arith}
 use borrow.Author.Needs.{needs}
 use lib.Pow.{pow-pos}
-use Rattle.writing.proofs.Putting.{held-small, inside, over-exact, byte-fits, puts-held, puts-byte}
+use Rattle.writing.proofs.PutBits.{waiting-small, inside, over-exact, byte-fits, puts-waiting, puts-byte}
 use Rattle.writing.proofs.put_field.Statement.{statement}
 use Rattle.writing.proofs.put_field.Tie as tie
 
 add-count : tie.Need-add-count
 add-count c = search needs
 
-shl-held : tie.Need-shl-held
-shl-held c = search needs
+shl-waiting : tie.Need-shl-waiting
+shl-waiting c = search needs
 
-add-held : tie.Need-add-held
-add-held c = omega (arith, held-small (c .before .before .args .width) (c .before .before .args .value) (c .before .before .pre .0) (c .before .before .pre .1) (c .before .before .pre .2))
+add-waiting : tie.Need-add-waiting
+add-waiting c = omega (arith, waiting-small (c .before .before .args .width) (c .before .before .args .value) (c .before .before .pre .0) (c .before .before .pre .1) (c .before .before .pre .2))
 
 returns : tie.Need-returns
-returns c = puts-held (c .before .before .before .args .width) (c .before .before .before .args .value) (c .before .before .before .pre .0) (c .before .before .before .pre .1) (c .before .before .before .pre .2) (c .if1 .taken)
+returns c = puts-waiting (c .before .before .before .args .width) (c .before .before .before .args .value) (c .before .before .before .pre .0) (c .before .before .before .pre .1) (c .before .before .before .pre .2) (c .if1 .taken)
 
 shr-out : tie.Need-shr-out
 shr-out c = search needs
@@ -48,8 +48,8 @@ put-field-spec =
     tie.close
     (tie.spec
     add-count
-    shl-held
-    add-held
+    shl-waiting
+    add-waiting
     returns
     shr-out
     cast-out

@@ -9,7 +9,7 @@ use Rattle.job.specs.Record.{unusedGate}
 use Rattle.job.specs.Layout.{maxGates, gateKindBits}
 use Rattle.writing.specs.Writing.{gateBits, allBits}
 use Rattle.writing.specs.Pen.{Puts}
-use Rattle.writing.proofs.Fitting.{gate-fits, fits-same}
+use Rattle.writing.proofs.Widths.{gate-fits, fits-same}
 use Rattle.writing.proofs.Entries.{entry-same, entries-none, entries-ready, entries-next, entries-done}
 use Rattle.writing.proofs.put_gates.Statement.{statement}
 use Rattle.writing.proofs.put_gates.Tie as tie

@@ -7,8 +7,8 @@ use Rattle.bits.specs.Bits.{bitsOf}
 use Rattle.job.specs.Layout.{inputCountBits, gateCountBits, lineBits, faultCountBits}
 use Rattle.writing.specs.Writing.{gateBits, faultBits, allBits, jobBits}
 use Rattle.writing.specs.Pen.{Ready, Puts}
-use Rattle.writing.proofs.Putting.{puts-then, ready-front, ready-after, ready-end, start-ready, start-filled}
-use Rattle.writing.proofs.Fitting.{line-fits, inputs-fit, gates-fit, faults-fit}
+use Rattle.writing.proofs.PutBits.{puts-then, ready-front, ready-after, ready-end, start-ready, start-filled}
+use Rattle.writing.proofs.Widths.{line-fits, inputs-fit, gates-fit, faults-fit}
 use Rattle.writing.proofs.Entries.{fromGateCount, fromGates, fromOutput, fromFaultCount}
 use Rattle.writing.proofs.put_job.Statement.{statement}
 use Rattle.writing.proofs.put_job.Tie as tie
@@ -33,7 +33,7 @@ past-fault-count : (c : tie.After-put-field4) → Ready (c .put-field4 .last .0)
 unfolding faultCountBits
 past-fault-count c = ready-after (allBits faultBits (take (c .before .before .before .before .before .before .before .before .before .before .before .before .before .before .before .before .before .before .before .before .before .before .before .args .job .«fault_count») (c .before .before .before .before .before .before .before .before .before .before .before .before .before .before .before .before .before .before .before .before .before .before .before .args .job .faults))) (past-output (c .before .before .before .before .before)) (c .put-field4 .ensures)
 
-all-put : (c : tie.After-put-faults) → Puts (c .before .before .before .before .before .before .before .before .before .before .before .before .before .before .before .before .before .before .before .before .before .before .before .before .before .before .before .args .out .now) (record { at = 0; held = 0; count = 0 }) (jobBits (c .before .before .before .before .before .before .before .before .before .before .before .before .before .before .before .before .before .before .before .before .before .before .before .before .before .before .before .args .job)) (c .put-faults .last .0) (c .put-faults .result)
+all-put : (c : tie.After-put-faults) → Puts (c .before .before .before .before .before .before .before .before .before .before .before .before .before .before .before .before .before .before .before .before .before .before .before .before .before .before .before .args .out .now) (record { at = 0; waiting = 0; count = 0 }) (jobBits (c .before .before .before .before .before .before .before .before .before .before .before .before .before .before .before .before .before .before .before .before .before .before .before .before .before .before .before .args .job)) (c .put-faults .last .0) (c .put-faults .result)
 unfolding jobBits inputCountBits gateCountBits lineBits faultCountBits
 all-put c =
     puts-then (c .before .before .before .before .before .before .before .before .before .before .before .before .before .before .before .before .before .before .before .before .before .before .before .put-field .ensures)

@@ -1,7 +1,7 @@
 -- `writing::put_spare` meets its contract.
 use native.Mathlib.Omega.{arith}
 use borrow.Author.Needs.{needs}
-use Rattle.writing.proofs.Putting.{spare-fits, spare-inside, spare-put, spare-none}
+use Rattle.writing.proofs.PutBits.{spare-fits, spare-inside, spare-put, spare-none}
 use Rattle.writing.proofs.put_spare.Statement.{statement}
 use Rattle.writing.proofs.put_spare.Tie as tie
 

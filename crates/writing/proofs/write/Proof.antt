@@ -5,8 +5,8 @@ use borrow.Author.Needs.{needs}
 use denote.Ref.{now}
 use lib.ListN.{length}
 use Rattle.bits.specs.Answer.{outcome}
-use Rattle.job.proofs.Check.{valid}
-use Rattle.writing.proofs.Answering.{writes-refused, writes-short, writes-done}
+use Rattle.job.proofs.Validity.{valid}
+use Rattle.writing.proofs.Answers.{writes-refused, writes-short, writes-done}
 use Rattle.writing.proofs.write.Statement.{statement}
 use Rattle.writing.proofs.write.Tie as tie
 

@@ -1,10 +1,11 @@
--- `tables::rows::fix_row` meets its contract: a stuck line's bytes are its level, those of bridged lines come from the good circuit's tables.
+-- `tables::rows::fix_row` meets its contract: a stuck line's table is its level, that of bridged lines comes from the good circuit's rows, which
+-- stand before it.
 use Prim.Native.Nat.{ℕ}
 use mathlib.Core.Path.{sym, ap, _∙_}
 use mathlib.Core.Bool.{Bool, cond}
 use mathlib.Core.Logic.{⊎-elim}
 use borrow.Author.Needs.{needs}
-use Rattle.tables.proofs.Shaped.{stuck-put, bridge-put}
+use Rattle.tables.proofs.ShapedRows.{fixed-stuck, fixed-bridge, low-fits, high-fits}
 use Rattle.tables.proofs.rows.fix_row.Statement.{statement}
 use Rattle.tables.proofs.rows.fix_row.Tie as tie
 
@@ -17,8 +18,20 @@ fill-requires c κs = tt
 enum-known-fault-2 : tie.Need-enum-known-fault-2
 enum-known-fault-2 c = search needs
 
-bridge-form-requires : tie.Need-bridge-form-requires
-bridge-form-requires c κs = tt
+cast-x : tie.Need-cast-x
+cast-x c = search needs
+
+mul-x : tie.Need-mul-x
+mul-x c = let a = c .before .before .before .before .args in low-fits (a .shape) (a .to) (a .rows .now) (a .fault) (c .before .before .before .before .pre) (c .before .before .before .before .good .0 .0) (c .before .fault2 .given .1)
+
+cast-y : tie.Need-cast-y
+cast-y c = search needs
+
+mul-y : tie.Need-mul-y
+mul-y c = let a = c .before .before .before .before .args in high-fits (a .shape) (a .to) (a .rows .now) (a .fault) (c .before .before .before .before .pre) (c .before .before .before .before .good .0 .0) (c .before .fault2 .given .1)
+
+bridge-polynomial-requires : tie.Need-bridge-polynomial-requires
+bridge-polynomial-requires c κs = tt
 
 combine-requires : tie.Need-combine-requires
 combine-requires c κs = tt
@@ -30,8 +43,8 @@ returns : tie.Need-returns
 returns c =
     let a = c .before .before .before .before .before .before .before .before .before .args in
     let is = c .before .before .before .before .before .before .fault .given in
-    let pick : Bool → ℕ = λ b. cond b (a .shape .keep) 0 in
-    stuck-put (a .x) (a .y) (a .to) (a .shape .bytes) (a .shape .keep) (a .rows .now) (a .fault) (is .0 .0) (is .0 .1 .0) (is .1)
+    let pick : Bool → ℕ = λ b. cond b (a .shape .mask) 0 in
+    fixed-stuck (a .shape) (a .to) (a .rows .now) (a .fault) (c .before .before .before .before .before .before .before .before .before .pre) (is .0 .0) (is .0 .1 .0) (is .1)
     (⊎-elim (λ w. w .1 ∙ ap pick (sym (w .0 .taken))) (λ w. w .1 ∙ ap pick (sym (w .0 .left))) (c .before .before .before .before .if1 .came))
     (c .before .before .fill .ensures)
 
@@ -42,7 +55,7 @@ returns-2 : tie.Need-returns-2
 returns-2 c =
     let a = c .before .before .before .before .before .before .before .before .before .args in
     let is = c .before .before .before .before .before .before .fault2 .given in
-    bridge-put (a .x) (a .y) (a .to) (a .shape .bytes) (a .shape .keep) (a .rows .now) (a .fault) (is .0 .0) (is .0 .1 .0) (is .0 .1 .1 .0) (is .1) (c .before .before .before .before .bridge-form .ensures) (c .before .before .combine .ensures)
+    fixed-bridge (a .shape) (a .to) (a .rows .now) (a .fault) (c .before .before .before .before .before .before .before .before .before .pre) (is .0 .0) (is .0 .1 .0) (is .0 .1 .1 .0) (is .1) (c .before .before .before .before .bridge-polynomial .result) (c .before .before .before .before .bridge-polynomial .ensures) (c .before .before .combine .ensures)
 
 pub fix-row-spec : {M : Type 1} → statement M
 fix-row-spec =
@@ -51,7 +64,11 @@ fix-row-spec =
     enum-known-fault
     fill-requires
     enum-known-fault-2
-    bridge-form-requires
+    cast-x
+    mul-x
+    cast-y
+    mul-y
+    bridge-polynomial-requires
     combine-requires
     same-length
     returns

@@ -1,0 +1,30 @@
+-- Where the numbers of rows stand (specs/Matrix.antt, `cell`).
+--
+--   cell-within     a row's number at an entry lies within the work
+--   cell-inside     so for a row that is there
+--   count-within    a count no greater than a size is within what has that size
+--   place-fits      a place within lent memory fits a machine word
+--   start-fits      and so does the start of the row that it lies in
+use Prim.Native.Nat.{ℕ, suc, _+_, _*_, _^_, _≤_, _<_}
+use native.Mathlib.Nat.{mul-le-mul-right, mul-suc, suc-mul, le-trans}
+use native.Mathlib.Omega.{arith}
+use mathlib.Core.Path.{_≡_}
+use mir.Syntax.{w64}
+use mir.Val.{Fits}
+
+pub cell-inside : (c : ℕ) {width entry room : ℕ} → suc c * width ≤ room → entry < width → c * width + entry < room
+cell-inside c {width} h l = omega (arith, suc-mul c width)
+
+pub cell-within : {width rows c entry room : ℕ} → c < rows → entry < width → rows * width ≤ room → c * width + entry < room
+cell-within {width} {c = c} h l r = cell-inside c (le-trans (mul-le-mul-right width h) r) l
+
+pub count-within : {count places n : ℕ} → places ≡ n → count ≤ n → count ≤ places
+count-within e h = omega arith
+
+-- n entries of so many bytes, at least one, take fewer than 2 ^ 63
+module _ {n : ℕ} (bytes : ℕ) (room : n * suc bytes < 2 ^ 63) where
+  pub place-fits : {place : ℕ} → place ≤ n → Fits w64 place
+  place-fits h = let s : n * suc bytes ≡ n * bytes + n = mul-suc n bytes in omega arith
+
+  pub start-fits : {start : ℕ} (entry : ℕ) → start + entry < n → Fits w64 start
+  start-fits entry h = let s : n * suc bytes ≡ n * bytes + n = mul-suc n bytes in omega arith

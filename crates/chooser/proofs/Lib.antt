@@ -1,0 +1,14 @@
+pub mod Alignment
+pub mod Cells
+pub mod Clearness
+pub mod CommonPairs
+pub mod Conclusion
+pub mod Fits
+pub mod KeptEntries
+pub mod Marks
+pub mod Places
+pub mod Recursion
+pub mod Refinement
+pub mod Relation
+pub mod SetRows
+pub mod Soundness

@@ -1,2 +1,0 @@
-pub mod Faulty
-pub mod Planned

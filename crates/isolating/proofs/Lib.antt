@@ -1,9 +1,0 @@
-pub mod Agreed
-pub mod Opened
-pub mod Matched
-pub mod Paired
-pub mod Signed
-pub mod Theorem
-pub mod Copying
-pub mod Drawn
-pub mod Rereading

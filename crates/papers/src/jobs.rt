@@ -1,0 +1,155 @@
+// The tasks of a job: its circuits' tables, its signatures, a unit located, and what a fault changes.
+ghost use Prim.Native.Nat.{_≤_};
+use crate::MAX_CIRCUITS;
+use crate::MAX_ENTRIES;
+use crate::MAX_TABLE_BYTES;
+use crate::listing;
+use crate::words;
+use choosing::Chosen;
+use choosing::Purpose;
+use choosing::Verdict;
+use job::MAX_FAULTS;
+use locating::Located;
+use tables::Counts;
+use tables::CountsAnswer;
+
+// The coefficients, and the bytes of the tables, of the most circuits.
+const WORK_PLACES: usize = MAX_CIRCUITS * MAX_ENTRIES;
+
+const ALL_TABLES_BYTES: usize = MAX_CIRCUITS * MAX_TABLE_BYTES;
+
+// Writes the answer to a line about the job; nothing where it is no task.
+pub fn answer(line: &[u8], job: &[u8]) {
+    match words::letter(line, 0) {
+        b't' => list_tables(job),
+        b'i' => list_choice(line, job, Purpose::Isolating),
+        b'd' => list_choice(line, job, Purpose::Detecting),
+        b'l' => list_location(line, job),
+        b'f' => list_fault(line, job),
+        _ => (),
+    }
+}
+
+// A circuit's row: from one place to another.
+struct Row {
+    start: usize,
+    end: usize,
+}
+
+// The row of a circuit among rows of `size` places each; none where there are fewer places.
+fn row_of(circuit: usize, size: usize, places: usize) -> Row
+    ensures { λ r. ⌜ (r .start ≤ r .end) × (r .end ≤ places) ⌝ }
+{
+    if MAX_FAULTS < circuit {
+        return Row { start: 0, end: 0 };
+    }
+    if MAX_ENTRIES < size {
+        return Row { start: 0, end: 0 };
+    }
+    let start = circuit * size;
+    let end = start + size;
+    if places < end {
+        return Row { start: 0, end: 0 };
+    }
+    Row { start, end }
+}
+
+fn list_tables(job: &[u8]) {
+    let mut packed = [0u8; ALL_TABLES_BYTES];
+    let answer = tables::tables(job, &mut packed);
+    match answer {
+        CountsAnswer::Filled(counts) => list_circuits(&packed, counts),
+        CountsAnswer::Refused(cause) => listing::refusal(cause),
+    }
+}
+
+// The line of the counts, then a line for each circuit.
+fn list_circuits(packed: &[u8], counts: Counts) {
+    let size = bits::table_bytes(counts.inputs);
+    let faults = counts.faults;
+    listing::counts(counts.inputs, counts.gates, faults);
+    list_circuit(packed, 0, size);
+    let mut c = 0;
+    while c < faults {
+        c += 1;
+        list_circuit(packed, c, size);
+    }
+}
+
+fn list_circuit(packed: &[u8], circuit: usize, size: usize) {
+    let row = row_of(circuit, size, packed.len());
+    let start = row.start;
+    let end = row.end;
+    listing::circuit(circuit, &packed[start..end]);
+}
+
+fn list_choice(line: &[u8], job: &[u8], purpose: Purpose) {
+    let polarity = words::decimal(line, 2);
+    let mut work = [0u16; WORK_PLACES];
+    let chosen = choosing::choose(job, purpose, words::kind(line), polarity, &mut work);
+    list_chosen(chosen);
+}
+
+fn list_chosen(chosen: Chosen) {
+    let verdict = chosen.verdict;
+    let signature = chosen.signature;
+    match verdict {
+        Verdict::Done(_) => listing::numbers(b"signature", &signature.entries, signature.count),
+        Verdict::Alike(a, b) => listing::pair(b"refused 15", a, b),
+        Verdict::Refused(cause) => listing::refusal(cause),
+    }
+}
+
+// Indices, a slash and readings follow the polarity.
+fn list_location(line: &[u8], job: &[u8]) {
+    let slash = words::place_of(line, 0, b'/');
+    let mut indices = [0u16; MAX_ENTRIES];
+    let mut readings = [0u16; MAX_ENTRIES];
+    let listed = words::decimals(&line[..slash], 3, &mut indices);
+    let read = words::decimals(&line[slash..], 1, &mut readings);
+    list_located(line, job, &indices[..listed], &readings[..read]);
+}
+
+fn list_located(line: &[u8], job: &[u8], indices: &[u16], readings: &[u16]) {
+    let polarity = words::decimal(line, 2);
+    let mut work = [0u16; WORK_PLACES];
+    let located = locating::locate(
+        job,
+        words::kind(line),
+        polarity,
+        indices,
+        readings,
+        &mut work,
+    );
+    match located {
+        Located::Alone(c) => listing::number(b"circuit", c),
+        Located::Several(c, count) => listing::pair(b"several", c, count),
+        Located::Nowhere => listing::name(b"none"),
+        Located::Refused(cause) => listing::refusal(cause),
+    }
+}
+
+// The indices at which a circuit is not as the good one.
+fn list_fault(line: &[u8], job: &[u8]) {
+    let polarity = words::decimal(line, 2);
+    let mut work = [0u16; WORK_PLACES];
+    let answer = spectra::job_spectra(job, words::kind(line), polarity, &mut work);
+    match answer {
+        CountsAnswer::Filled(counts) => list_unlike(
+            &work,
+            words::decimal(line, 3),
+            bits::table_size(counts.inputs),
+        ),
+        CountsAnswer::Refused(cause) => listing::refusal(cause),
+    }
+}
+
+fn list_unlike(work: &[u16], circuit: usize, size: usize) {
+    let good = row_of(0, size, work.len());
+    let faulty = row_of(circuit, size, work.len());
+    let from = good.start;
+    let to = good.end;
+    let start = faulty.start;
+    let end = faulty.end;
+    listing::unlike(&work[from..to], &work[start..end]);
+}

@@ -1,0 +1,10 @@
+pub mod Circuits
+pub mod Decimals
+pub mod Lengths
+pub mod Lines
+pub mod Pieces
+pub mod Sizes
+pub mod Texts
+pub mod Verdicts
+pub mod Whole
+pub mod Widths

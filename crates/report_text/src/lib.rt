@@ -1,0 +1,218 @@
+// The text of the report program (document 01, "The report program"): a job's jobText, or its refusal.
+ghost use Prim.Native.Nat.{_+_, _*_, _^_, _≤_, _<_};
+ghost use mathlib.Core.Path.{_≡_};
+ghost use mathlib.Core.List.{_∷_};
+ghost use lib.ListN.{length};
+ghost use Rattle.choosing.specs.Choosing.{verdictTold};
+ghost use Rattle.locating.specs.Scanning.{numbersAt};
+ghost use Rattle.report_text.specs.Putting.{Puts, Room, Within, WorkRows, Printable};
+ghost use Rattle.report_text.specs.Text.{decimal, space, numbersText, countsLine, signatureLine, circuitLine, circuitLines, refusedLine, alikeLine, jobText, answerText, listOf, reported};
+use chooser::Signature;
+use choosing::Purpose;
+use choosing::Verdict;
+use job::MAX_FAULTS;
+use spectra::Kind;
+use tables::Counts;
+
+// No text is longer: 28 characters of counts; 10 of a signature's line and 4 for each entry, which are no more than faults; a line for each circuit, of 3 and
+// again 4 for each entry.
+pub const MAX_TEXT: usize = 28 + (10 + 4 * MAX_FAULTS) + (MAX_FAULTS + 1) * (3 + 4 * MAX_FAULTS);
+
+// How many bytes the text has; or there is less room than the longest text has, and nothing is written.
+pub enum Reported {
+    Written(usize),
+    Short,
+}
+
+// Puts a text from a place on, and answers the place after it.
+fn put(out: &mut [u8], at: usize, text: &[u8]) -> usize
+    requires { ⌜ Room (now text) at (now out) ⌝ }
+    ensures { λ r. ⌜ Puts (now (text .entry)) (now (out .entry)) at r (now (out .exit)) ⌝ }
+{
+    let mut i = 0;
+    while i < text.len() {
+        out[at + i] = text[i];
+        i += 1;
+    }
+    at + i
+}
+
+// Puts a number's digits.
+fn put_decimal(out: &mut [u8], at: usize, n: usize) -> usize
+    requires { ⌜ Room (decimal n) at (now out) ⌝ }
+    ensures { λ r. ⌜ Puts (decimal n) (now (out .entry)) at r (now (out .exit)) ⌝ }
+{
+    if n < 10 {
+        out[at] = b'0' + n as u8;
+        return at + 1;
+    }
+    let last = put_decimal(out, at, n / 10);
+    out[last] = b'0' + (n % 10) as u8;
+    last + 1
+}
+
+// Puts a space and a number.
+fn put_number(out: &mut [u8], at: usize, n: usize) -> usize
+    requires { ⌜ Room (space ∷ decimal n) at (now out) ⌝ }
+    ensures { λ r. ⌜ Puts (space ∷ decimal n) (now (out .entry)) at r (now (out .exit)) ⌝ }
+{
+    out[at] = b' ';
+    put_decimal(out, at + 1, n)
+}
+
+// Puts numbers, each behind a space.
+fn put_numbers(out: &mut [u8], at: usize, numbers: &[u16]) -> usize
+    requires { ⌜ Room (numbersText (now numbers)) at (now out) ⌝ }
+    ensures { λ r. ⌜ Puts (numbersText (now (numbers .entry))) (now (out .entry)) at r (now (out .exit)) ⌝ }
+{
+    let mut end = at;
+    let mut i = 0;
+    while i < numbers.len() {
+        end = put_number(out, end, numbers[i] as usize);
+        i += 1;
+    }
+    end
+}
+
+// Puts the numbers of a row of the work at the listed indices, each behind a space.
+fn put_row(out: &mut [u8], at: usize, work: &[u16], start: usize, list: &[u16]) -> usize
+    requires { ⌜ Within start (now list) (length (now work)) × Room (numbersText (numbersAt (now work) start (now list))) at (now out) ⌝ }
+    ensures { λ r. ⌜ Puts (numbersText (numbersAt (now (work .entry)) start (now (list .entry)))) (now (out .entry)) at r (now (out .exit)) ⌝ }
+{
+    let mut end = at;
+    let mut i = 0;
+    while i < list.len() {
+        end = put_number(out, end, work[start + list[i] as usize] as usize);
+        i += 1;
+    }
+    end
+}
+
+// The line of the counts, at the start.
+fn put_counts(out: &mut [u8], counts: Counts) -> usize
+    requires { ⌜ Room (countsLine counts) 0 (now out) ⌝ }
+    ensures { λ r. ⌜ Puts (countsLine counts) (now (out .entry)) 0 r (now (out .exit)) ⌝ }
+{
+    let inputs_at = put(out, 0, b"inputs ");
+    let inputs_end = put_decimal(out, inputs_at, counts.inputs);
+    let gates_at = put(out, inputs_end, b" gates ");
+    let gates_end = put_decimal(out, gates_at, counts.gates);
+    let faults_at = put(out, gates_end, b" faults ");
+    let faults_end = put_decimal(out, faults_at, counts.faults);
+    put(out, faults_end, b"\n")
+}
+
+// The line of the signature.
+fn put_signature(out: &mut [u8], at: usize, list: &[u16]) -> usize
+    requires { ⌜ Room (signatureLine (now list)) at (now out) ⌝ }
+    ensures { λ r. ⌜ Puts (signatureLine (now (list .entry))) (now (out .entry)) at r (now (out .exit)) ⌝ }
+{
+    let entries_at = put(out, at, b"signature");
+    let end = put_numbers(out, entries_at, list);
+    put(out, end, b"\n")
+}
+
+// The line of a circuit.
+fn put_circuit(
+    out: &mut [u8],
+    at: usize,
+    work: &[u16],
+    start: usize,
+    list: &[u16],
+    c: usize,
+) -> usize
+    requires { ⌜ Within start (now list) (length (now work)) × Room (circuitLine c (numbersAt (now work) start (now list))) at (now out) ⌝ }
+    ensures { λ r. ⌜ Puts (circuitLine c (numbersAt (now (work .entry)) start (now (list .entry)))) (now (out .entry)) at r (now (out .exit)) ⌝ }
+{
+    let row_at = put_decimal(out, at, c);
+    let end = put_row(out, row_at, work, start, list);
+    put(out, end, b"\n")
+}
+
+// The lines of the circuits, whose rows of the work have `size` numbers each.
+fn put_circuits(
+    out: &mut [u8],
+    at: usize,
+    work: &[u16],
+    size: usize,
+    list: &[u16],
+    circuits: usize,
+) -> usize
+    requires { ⌜ WorkRows size circuits (now list) (length (now work)) × Room (circuitLines (λ c. numbersAt (now work) (c * size) (now list)) circuits) at (now out) ⌝ }
+    ensures { λ r. ⌜ Puts (circuitLines (λ c. numbersAt (now (work .entry)) (c * size) (now (list .entry))) circuits) (now (out .entry)) at r (now (out .exit)) ⌝ }
+{
+    let mut end = at;
+    let mut c = 0;
+    while c < circuits {
+        end = put_circuit(out, end, work, c * size, list, c);
+        c += 1;
+    }
+    end
+}
+
+// The whole jobText, at the start.
+fn put_job(out: &mut [u8], counts: Counts, work: &[u16], list: &[u16]) -> usize
+    requires { ⌜ (counts .inputs ≤ 15) × WorkRows (2 ^ (counts .inputs)) (counts .faults + 1) (now list) (length (now work)) × Room (jobText counts (now list) (now work)) 0 (now out) ⌝ }
+    ensures { λ r. ⌜ Puts (jobText counts (now (list .entry)) (now (work .entry))) (now (out .entry)) 0 r (now (out .exit)) ⌝ }
+{
+    let signature_at = put_counts(out, counts);
+    let circuits_at = put_signature(out, signature_at, list);
+    put_circuits(
+        out,
+        circuits_at,
+        work,
+        1 << counts.inputs,
+        list,
+        counts.faults + 1,
+    )
+}
+
+// The line of a refusal, at the start.
+fn put_refused(out: &mut [u8], number: usize) -> usize
+    requires { ⌜ Room (refusedLine number) 0 (now out) ⌝ }
+    ensures { λ r. ⌜ Puts (refusedLine number) (now (out .entry)) 0 r (now (out .exit)) ⌝ }
+{
+    let number_at = put(out, 0, b"refused ");
+    let end = put_decimal(out, number_at, number);
+    put(out, end, b"\n")
+}
+
+// The line of a pair that is alike, at the start.
+fn put_alike(out: &mut [u8], a: usize, b: usize) -> usize
+    requires { ⌜ Room (alikeLine a b) 0 (now out) ⌝ }
+    ensures { λ r. ⌜ Puts (alikeLine a b) (now (out .entry)) 0 r (now (out .exit)) ⌝ }
+{
+    let a_at = put(out, 0, b"refused 15 ");
+    let a_end = put_decimal(out, a_at, a);
+    let b_end = put_number(out, a_end, b);
+    put(out, b_end, b"\n")
+}
+
+// The text of a verdict, at the start.
+fn put_verdict(out: &mut [u8], verdict: Verdict, signature: Signature, work: &[u16]) -> usize
+    requires { ⌜ Printable verdict signature (length (now work)) × Room (answerText (verdictTold verdict) (listOf signature) (now work)) 0 (now out) ⌝ }
+    ensures { λ r. ⌜ Puts (answerText (verdictTold verdict) (listOf signature) (now (work .entry))) (now (out .entry)) 0 r (now (out .exit)) ⌝ }
+{
+    match verdict {
+        Verdict::Refused(cause) => put_refused(out, cause.number()),
+        Verdict::Alike(a, b) => put_alike(out, a, b),
+        Verdict::Done(counts) => {
+            let count = signature.count;
+            let entries = signature.entries;
+            put_job(out, counts, work, &entries[..count])
+        }
+    }
+}
+
+// Writes the report of the job that the bytes give, isolated by MRM at polarity 0, or its refusal, to the start of `out`.
+pub fn report(bytes: &[u8], work: &mut [u16], out: &mut [u8]) -> Reported
+    ensures { λ r. ⌜ record { answer = r; work = now (work .exit); text = now (out .exit) } ≡ reported (now (bytes .entry)) (now (work .entry)) (now (out .entry)) ⌝ }
+{
+    if out.len() < MAX_TEXT {
+        return Reported::Short;
+    }
+    let chosen = choosing::choose(bytes, Purpose::Isolating, Kind::Mrm, 0, work);
+    let verdict = chosen.verdict;
+    let end = put_verdict(out, verdict, chosen.signature, work);
+    Reported::Written(end)
+}

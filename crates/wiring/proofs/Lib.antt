@@ -1,6 +1,0 @@
-pub mod Sizes
-pub mod Noting
-pub mod Asking
-pub mod Listed
-pub mod Whole
-pub mod Applied
