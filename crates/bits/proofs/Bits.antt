@@ -14,7 +14,7 @@
 --   drop-at-byte      the string from bit o of byte i on
 --   bitsOf-drop       the bits of a number without the first are its lower bits
 --   take-window       w bits within the bits of a number are those of the number shifted
-use Prim.Native.Nat.{ℕ, zero, suc, _+_, _*_, _-_, _/_, _%_, _^_, _<_}
+use Prim.Native.Nat.{ℕ, zero, suc, _+_, _*_, _/_, _%_, _^_, _<_}
 use mathlib.Core.Path.{_≡_, refl, sym, ap, ap₂, _∙_, subst}
 use mathlib.Core.List.{List, [], _∷_, _++_, append-assoc}
 use lib.Dec.{lit<}
@@ -103,11 +103,6 @@ valueFrom-rest v (b ∷ bits) =
     ∙ ap (λ (x : ℕ). x + valueFrom 0 bits) (add-mul (v * 2) b (2 ^ length bits) ∙ ap (λ (x : ℕ). x + b * 2 ^ length bits) (mul-assoc v 2 (2 ^ length bits) ∙ ap (λ (x : ℕ). v * x) (sym (pow-succ' 2 (length bits)))))
     ∙ add-assoc (v * 2 ^ suc (length bits)) (b * 2 ^ length bits) (valueFrom 0 bits)
     ∙ ap (λ (x : ℕ). v * 2 ^ suc (length bits) + x) (sym (valueFrom-rest (0 * 2 + b) bits ∙ ap (λ (x : ℕ). x * 2 ^ length bits + valueFrom 0 bits) (zero-add b)))
-
-valueFrom-append : (v : ℕ) (bits more : List ℕ) → valueFrom v (bits ++ more) ≡ valueFrom (valueFrom v bits) more
-unfolding valueFrom
-valueFrom-append v [] more = refl
-valueFrom-append v (b ∷ bits) more = valueFrom-append (v * 2 + b) bits more
 
 valueOf-cons : (b : ℕ) (bits : List ℕ) → valueOf (b ∷ bits) ≡ b * 2 ^ length bits + valueOf bits
 unfolding valueFrom valueOf

@@ -5,13 +5,12 @@
 --   digit-above     digit k of q * 2 ^ w + r is that of r, for k below w
 --   digit-and       a digit of a & b is made of the digits of a and b
 --   digit-xor       a digit of a ^ b is made of the digits of a and b
---   digit-or        so for a | b
 use Prim.Native.Nat.{ℕ, zero, suc, _+_, _-_, _*_, _/_, _%_, _^_, _<_}
 use native.Mathlib.Nat.{mod-lt, mul-add-div-right, mul-add-mod-self-right, pow-succ', mul-assoc}
 use native.Mathlib.Omega.{arith}
 use mathlib.Core.Path.{_≡_, sym, ap, _∙_}
 use lib.Arith.{lt-one}
-use lib.Bits.{bitAnd, bitXor, and-shr, and-mod, xor-shr, xor-mod, bitOr, or-shr, or-mod}
+use lib.Bits.{bitAnd, bitXor, and-shr, and-mod, xor-shr, xor-mod}
 use lib.Pow.{pow-pos, pow-add, shr-shr, shr-lt}
 
 pub digit-lt : (a k : ℕ) → a / 2 ^ k % 2 < 2
@@ -50,6 +49,3 @@ digit-and a b k = ap (λ (x : ℕ). x % 2) (and-shr a b k) ∙ and-mod (a / 2 ^ 
 
 pub digit-xor : (a b k : ℕ) → bitXor a b / 2 ^ k % 2 ≡ bitXor (a / 2 ^ k % 2) (b / 2 ^ k % 2)
 digit-xor a b k = ap (λ (x : ℕ). x % 2) (xor-shr a b k) ∙ xor-mod (a / 2 ^ k) (b / 2 ^ k) 1
-
-pub digit-or : (a b k : ℕ) → bitOr a b / 2 ^ k % 2 ≡ bitOr (a / 2 ^ k % 2) (b / 2 ^ k % 2)
-digit-or a b k = ap (λ (x : ℕ). x % 2) (or-shr a b k) ∙ or-mod (a / 2 ^ k) (b / 2 ^ k) 1

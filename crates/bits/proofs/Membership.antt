@@ -11,14 +11,12 @@
 --   set-lowest      `lowest` is, of a set that is not empty
 --   lowest-below    and a number that a set may have
 --   low-below       so for the number found
---   lowest-none     the empty set's
 --   set-later       what a set has after its lowest
 --   later-falls, later-less   it is a smaller word
 --   joined-as       one member more, as the machine adds it
 --   joined-beyond   a larger number is no member
 --   set-joined      what a set has with one more
 --   later-word, joined-word, union-word   these are words
---   set-less        a set without some of its numbers, as a difference of words
 --   less-falls      where there are some, it is a smaller word
 use Prim.Native.Nat.{ℕ, zero, suc, _+_, _-_, _*_, _/_, _%_, _^_, _≤_, _<_, min, max}
 use native.Mathlib.Nat.{mod-lt, div-add-mod', mul-mod-left, mul-div-cancel, one-mul, pow-suc, le-of-suc-le-suc, not-suc-le-zero, lt-of-le-of-lt}
@@ -29,7 +27,7 @@ use mathlib.Core.Logic.{⊎-elim}
 use borrow.Author.Tests.{lt-ltb, le-ltb}
 use lib.Arith.{digits-div, digits-mod, lt-one}
 use lib.Bits.{bitAnd, bitOr, bitXor, differ, and-step, or-step, xor-step, and-self, and-block, and-le-l, and-le-r, or-lt, xor-add-and}
-use lib.Count.{trailingZeros, trailing-of-zero, under}
+use lib.Count.{trailingZeros, under}
 use lib.Dec.{eqb, eqb·zero-suc, eqb·suc-zero, eqb·suc-suc, lit<}
 use lib.Pow.{shr-lt, shl-exact, pow-lt}
 use Rattle.bits.specs.Sets.{maxMembers, has, lowest, later, joined}
@@ -161,10 +159,6 @@ lowest-below set h p = has-below 64 set (lowest set) h (set-lowest set h p .memb
 pub low-below : {set low : ℕ} → set < 2 ^ 64 → (set ≡ 0 → ⊥) → low ≡ lowest set → low < maxMembers
 low-below {set} h some is = subst (λ (n : ℕ). n < maxMembers) (sym is) (lowest-below set h (set-some some))
 
-pub lowest-none : lowest 0 ≡ maxMembers
-unfolding lowest maxMembers
-lowest-none = trailing-of-zero 64
-
 -- ---- without the lowest member
 
 module _ (q : ℕ) {d : ℕ} (h : d < 2) where
@@ -292,9 +286,6 @@ module _ (w : ℕ) {a b : ℕ} (ha : a < 2 ^ w) (hb : b < 2 ^ w) (within : (k : 
       each : (s t : Bool) → (t ≡ true → s ≡ true) → s && t ≡ t
       each s true f = ap (λ (x : Bool). x && true) (f refl)
       each s false f = and-false s
-
-  pub set-less : bitXor a b ≡ a - b
-  set-less = let s : bitXor a b + bitAnd a b * 2 ≡ a + b = xor-add-and a b in omega (arith, common)
 
   pub less-falls : 0 < b → bitXor a b < a
   less-falls h = let s : bitXor a b + bitAnd a b * 2 ≡ a + b = xor-add-and a b in omega (arith, common)

@@ -8,6 +8,7 @@
 --   length-tabulate    the number of entries
 --   tabulate-at        the entries of a list of entries
 --   tabulate-past      past its end stands 0
+--   tabulate-list      a list is the list of its elements
 --   tabulate-ext       lists of equal entries are equal
 --   length-packed      the number of a packed table's bytes
 --   packed-ext         packed tables of equal entries are equal
@@ -156,6 +157,11 @@ tabulate-at (suc n) f m h =
     (λ e. rw e (ap (λ (i : ℕ). getD (tabulate n f ++ (f n ∷ [])) i 0) (sym (length-tabulate n f)) ∙ getD-append-seam (tabulate n f) (f n) [] 0))
     (λ l. List·getD-append (tabulate n f) (f n ∷ []) 0 m (rw length-tabulate l) ∙ tabulate-at n f m l)
     (eq-or-lt-of-le (le-of-suc-le-suc h))
+
+pub tabulate-list : (l : List ℕ) → tabulate (length l) (λ i. getD l i 0) ≡ l
+tabulate-list l =
+    let len : length (tabulate (length l) (λ i. getD l i 0)) ≡ length l = length-tabulate (length l) (λ i. getD l i 0) in
+    ext-getD 0 (tabulate (length l) (λ i. getD l i 0)) l len (λ i h. tabulate-at (length l) (λ i. getD l i 0) i (omega arith))
 
 pub tabulate-past : (n : ℕ) (f : ℕ → ℕ) (m : ℕ) → n ≤ m → getD (tabulate n f) m 0 ≡ 0
 tabulate-past n f m h = past (tabulate n f) n m (length-tabulate n f) h

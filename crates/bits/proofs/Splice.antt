@@ -1,6 +1,8 @@
 -- Laws of new bytes in the place of old ones (specs/Slices.antt).
 --
 --   length-splice     the bytes are as many as before
+--   splice-start      new bytes at the start, then the rest as it was
+--   splice-whole      new bytes in the place of all
 --   splice-before     the bytes before the new ones are as they were
 --   Written           what a loop has done that writes `count` bytes from a place on, one a turn
 --   written-none      it has written nothing yet
@@ -8,12 +10,13 @@
 --   written-length    the bytes are as many as before
 --   written-before    the bytes before the place are as they were
 --   written-all       all are written
-use Prim.Native.Nat.{ℕ, suc, _+_, _-_, _≤_, _<_, zero-le}
+--   filled-more, filled-all   the same from the start of a list on
+use Prim.Native.Nat.{ℕ, suc, _+_, _≤_, _<_, zero-le}
 use native.Mathlib.Omega.{arith}
-use native.Mathlib.Nat.{add-zero, le-antisymm}
-use mathlib.Core.Path.{_≡_, sym, ap, _∙_}
+use native.Mathlib.Nat.{add-zero, zero-add, le-antisymm}
+use mathlib.Core.Path.{_≡_, sym, ap, subst, _∙_}
 use mathlib.Core.List.{List, [], _∷_, _++_, append-assoc, append-nil}
-use lib.ListN.{length, getD, take, drop, set, length-append, length-take, length-drop, take-append-drop, List·getD-append}
+use lib.ListN.{length, getD, take, drop, set, length-append, length-take, length-drop, take-append-drop, drop-of-length-le, List·getD-append}
 use lib.Seq.{drop-cons, set-at, getD-take, append-snoc}
 use Rattle.bits.specs.Packed.{tabulate}
 use Rattle.bits.proofs.Packed.{length-tabulate, tabulate-more}
@@ -52,6 +55,13 @@ splice-more rows to f i h =
     ap (λ (n : ℕ). set (splice rows to (tabulate i f)) (to + n) (f i)) (sym (length-tabulate i f))
     ∙ splice-snoc rows to (tabulate i f) (f i) (rw length-tabulate h) ∙ ap (splice rows to) (sym (tabulate-more i f))
 
+pub splice-start : (out new : List ℕ) → splice out 0 new ≡ new ++ drop (length new) out
+splice-start out new = ap (λ (k : ℕ). new ++ drop k out) (zero-add (length new))
+
+pub splice-whole : (start new : List ℕ) → length new ≡ length start → splice start 0 new ≡ new
+splice-whole start new e =
+    splice-start start new ∙ ap (λ (l : List ℕ). new ++ l) (drop-of-length-le start {i = length new} (omega arith)) ∙ append-nil new
+
 pub record Written (start : List ℕ) (to count : ℕ) (f : ℕ → ℕ) (rows : List ℕ) (i : ℕ) : Type 0 where
   pub room : to + count ≤ length start
   pub within : i ≤ count
@@ -78,3 +88,12 @@ module _ {start : List ℕ} {to count : ℕ} {f : ℕ → ℕ} where
 
     pub written-all : count ≤ i → rows ≡ splice start to (tabulate count f)
     written-all h = w .so-far ∙ ap (λ (n : ℕ). splice start to (tabulate n f)) (le-antisymm (w .within) h)
+
+-- ---- from the start of a list on
+
+module _ {start : List ℕ} {count : ℕ} {f : ℕ → ℕ} {rows : List ℕ} {i : ℕ} (w : Written start 0 count f rows i) where
+  pub filled-more : (v : ℕ) → i < count → v ≡ f i → Written start 0 count f (set rows i v) (i + 1)
+  filled-more v h e = subst (λ (j : ℕ). Written start 0 count f (set rows j v) (i + 1)) (zero-add i) (written-more w v h e)
+
+  pub filled-all : length start ≡ count → count ≤ i → rows ≡ tabulate count f
+  filled-all e h = written-all w h ∙ splice-whole start (tabulate count f) (length-tabulate count f ∙ sym e)

@@ -1,7 +1,6 @@
 -- Believed: numbers that pass a test, in order.
 --
---   passing    those below a bound
---   filtered   those of a list
+--   passing   those below a bound
 use Prim.Native.Nat.{ℕ, zero, suc}
 use mathlib.Core.Bool.{Bool, cond}
 use mathlib.Core.List.{List, [], _∷_, _++_}
@@ -9,7 +8,3 @@ use mathlib.Core.List.{List, [], _∷_, _++_}
 unfoldable pub passing : (ℕ → Bool) → ℕ → List ℕ
 passing test zero = []
 passing test (suc n) = passing test n ++ cond (test n) (n ∷ []) []
-
-unfoldable pub filtered : (ℕ → Bool) → List ℕ → List ℕ
-filtered test [] = []
-filtered test (c ∷ more) = cond (test c) (c ∷ []) [] ++ filtered test more

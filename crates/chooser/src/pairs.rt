@@ -105,7 +105,13 @@ fn is_clear(work: &[u16], width: usize, entry: usize, pairs: &[u64; MAX_ROWS], r
 }
 
 // The place of the first entry, from a place on, that tells a pair apart.
-pub(crate) fn next(work: &[u16], width: usize, scan: &[u16], from: usize, pairs: &[u64; MAX_ROWS]) -> usize
+pub(crate) fn next(
+    work: &[u16],
+    width: usize,
+    scan: &[u16],
+    from: usize,
+    pairs: &[u64; MAX_ROWS],
+) -> usize
     requires { ⌜ Sound (now pairs) × There (length (now work)) width (now pairs) × (allBelow width (now scan) ≡ true) × (from ≤ length (now scan)) ⌝ }
     ensures { λ r. ⌜ r ≡ seek (clear (cell (now (work .entry)) width) (pairOf (now (pairs .entry)))) (drop from (now (scan .entry))) from ⌝ }
 {

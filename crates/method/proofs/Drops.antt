@@ -13,17 +13,14 @@
 --   without-place      a list with an entry between two parts: without the entry
 --   drops-goes         an entry goes when the rest tells all needed pairs apart
 --   drops-stays        else it stays
---   drops-start, drops-end   the start and the end of dropping, with those kept so far behind the entries still to be looked at
---   drops-at-goes, drops-at-stays   the next entry goes or stays
 use Prim.Native.Nat.{ℕ, zero, suc, _≤_, _<_}
 use native.Mathlib.Nat.{not-suc-le-zero, eq-or-lt-of-le, le-of-suc-le-suc}
 use native.Mathlib.Omega.{arith}
-use mathlib.Core.Path.{_≡_, refl, sym, ap, ap₂, _∙_}
+use mathlib.Core.Path.{_≡_, refl, ap, _∙_}
 use mathlib.Core.Bool.{Bool, true, false, cond}
 use mathlib.Core.Logic.{⊎-elim}
-use mathlib.Core.List.{List, [], _∷_, _++_, append-nil, List·Memᴰ, List·Memᴰ·head, List·Memᴰ·tail, List·Memᴰ·cases-cons}
-use lib.ListN.{length, take, getD}
-use lib.Seq.{length-take-le, take-all, take-suc, append-snoc}
+use mathlib.Core.List.{List, [], _∷_, _++_, List·Memᴰ, List·Memᴰ·head, List·Memᴰ·tail, List·Memᴰ·cases-cons}
+use lib.ListN.{length}
 use Rattle.bits.proofs.Tests.{clash}
 use Rattle.method.specs.Method.{without, agree, full, drops}
 use Rattle.method.proofs.Pairs.{by-test, by-cond, full-all}
@@ -157,39 +154,3 @@ module _ {E : Type 0} (coef : ℕ → E → ℕ) (rows : ℕ) (needed : ℕ → 
     unfolding drops
     drops-stays f =
         ap (λ (t : Bool). drops coef rows needed (length l) (cond t (without (length l) (l ++ (e ∷ kept))) (l ++ (e ∷ kept)))) (looked ∙ f)
-
-  -- dropping from the last entry of a list to the first, with those kept so far behind the entries still to be looked at
-  pub drops-start : (taken kept : List E) {level : ℕ} → level ≡ length taken → kept ≡ []
-      → drops coef rows needed (length taken) taken ≡ drops coef rows needed level (take level taken ++ kept)
-  drops-start taken kept {level} l none =
-      ap₂ (drops coef rows needed) (sym l) (sym (ap₂ (λ (x y : List E). x ++ y) (take-all level taken (omega arith)) none ∙ append-nil taken))
-
-  pub drops-end : (taken kept : List E) {level : ℕ} → level ≤ 0 → drops coef rows needed level (take level taken ++ kept) ≡ kept
-  unfolding drops
-  drops-end taken kept {level} h =
-      let none : level ≡ 0 = omega arith in
-      ap (λ (n : ℕ). drops coef rows needed n (take n taken ++ kept)) none
-
-  module _ (taken kept : List E) (level : ℕ) (d : E) {e : E} (inside : level < length taken) (at : getD taken level d ≡ e) where
-    before-length : length (take level taken) ≡ level
-    before-length = length-take-le level taken (omega arith)
-
-    as-parts : drops coef rows needed (suc level) (take (suc level) taken ++ kept)
-        ≡ drops coef rows needed (suc (length (take level taken))) (take level taken ++ (e ∷ kept))
-    as-parts =
-        ap₂ (drops coef rows needed) (ap suc (sym before-length))
-        (ap (λ (l : List E). l ++ kept) (take-suc taken level d inside)
-        ∙ append-snoc (take level taken) (getD taken level d) kept
-        ∙ ap (λ (x : E). take level taken ++ (x ∷ kept)) at)
-
-    pub drops-at-goes : full coef rows needed (take level taken ++ kept) ≡ true
-        → drops coef rows needed (suc level) (take (suc level) taken ++ kept) ≡ drops coef rows needed level (take level taken ++ kept)
-    drops-at-goes f =
-        as-parts ∙ drops-goes (take level taken) e kept f
-        ∙ ap (λ (n : ℕ). drops coef rows needed n (take level taken ++ kept)) before-length
-
-    pub drops-at-stays : full coef rows needed (take level taken ++ kept) ≡ false
-        → drops coef rows needed (suc level) (take (suc level) taken ++ kept) ≡ drops coef rows needed level (take level taken ++ (e ∷ kept))
-    drops-at-stays f =
-        as-parts ∙ drops-stays (take level taken) e kept f
-        ∙ ap (λ (n : ℕ). drops coef rows needed n (take level taken ++ (e ∷ kept))) before-length

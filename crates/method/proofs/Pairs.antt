@@ -4,9 +4,7 @@
 --   by-cond            the same of what a test chooses
 --   or-cases           one side of a disjunction that holds
 --   someBelow-some     a test that holds below a bound holds of some number there
---   someBelow-none     one that fails below the bound fails of each number there
 --   some-someBelow     it holds below the bound if it holds of one number there
---   none-someBelow     it fails below the bound if it fails of each number there
 --   somePair-some      a test that holds of some pair holds of a needed pair a < b < rows
 --   somePair-none      one that fails of all pairs fails of each needed pair
 --   some-somePair      it holds of some pair if it holds of one needed pair
@@ -14,7 +12,6 @@
 --   full-all           a full list tells every needed pair apart
 --   all-full           a list that tells every needed pair apart is full
 --   full-some          of a list that isn't full, some needed pair agrees on it
---   some-full          a list on which a needed pair agrees isn't full
 use Prim.Native.Nat.{ℕ, zero, suc, _<_}
 use native.Mathlib.Nat.{not-suc-le-zero, eq-or-lt-of-le, le-of-suc-le-suc}
 use native.Mathlib.Omega.{arith}
@@ -54,15 +51,6 @@ module _ (test : ℕ → Bool) where
   some-someBelow (suc n) k h t =
       by-test (someBelow n test) (λ p. ap (λ (x : Bool). x || test n) p) (λ p. ap (λ (x : Bool). x || test n) p ∙
       ⊎-elim (λ e. rw e at t) (λ l. absurd (clash (some-someBelow n k l t) p)) (eq-or-lt-of-le (le-of-suc-le-suc h)))
-
-  pub someBelow-none : (n : ℕ) → someBelow n test ≡ false → (k : ℕ) → k < n → test k ≡ false
-  someBelow-none n e k h = by-test (test k) (λ t. absurd (clash (some-someBelow n k h t) e)) (λ f. f)
-
-  pub none-someBelow : (n : ℕ) → ((k : ℕ) → k < n → test k ≡ false) → someBelow n test ≡ false
-  none-someBelow n all =
-      by-test (someBelow n test)
-      (λ t. let r : (k : ℕ) × (k < n) × (test k ≡ true) = someBelow-some n t in absurd (clash (r .2) (all (r .0) (r .1))))
-      (λ f. f)
 
 module _ {E : Type 0} (coef : ℕ → E → ℕ) (rows : ℕ) (needed : ℕ → ℕ → Bool) where
   module _ (test : ℕ → ℕ → Bool) where
@@ -105,7 +93,3 @@ module _ {E : Type 0} (coef : ℕ → E → ℕ) (rows : ℕ) (needed : ℕ → 
         → (a : ℕ) × (b : ℕ) × (a < b) × (b < rows) × (needed a b ≡ true) × (agree coef l a b ≡ true)
     unfolding full
     full-some e = somePair-some (agree coef l) (not-false (somePair coef rows needed (agree coef l)) e)
-
-    pub some-full : (a b : ℕ) → a < b → b < rows → needed a b ≡ true → agree coef l a b ≡ true → full coef rows needed l ≡ false
-    unfolding full
-    some-full a b h k n t = ap not (some-somePair (agree coef l) a b h k n t)

@@ -1,44 +1,28 @@
 -- What taking takes, over any scan.
 --
---   takes-keeps    what was taken stays, in its order, in front
 --   takes-tell     a needed pair that agrees on what is taken in the end agrees on what was taken before, and on the whole scan
---   takes-told     so what is taken tells apart every needed pair that the scan tells apart
 --   takes-full     if the whole scan is full, so is what is taken
 --   takes-useful   a useful entry is taken
 --   takes-idle     another is passed over
---   takes-stop     once what is taken is full, nothing more is taken
 --   takes-from     every entry taken was taken before, or is in the scan
 --   takes-agree    rows that agree on what was taken and on the scan agree on what is taken in the end
---   taken-agree    so of a needed pair what is taken tells what the scan tells
---   taken-pair     so they have the same first pair
 use Prim.Native.Nat.{ℕ, _<_}
-use mathlib.Core.Path.{_≡_, refl, sym, ap, _∙_}
+use mathlib.Core.Path.{_≡_, refl, ap}
 use mathlib.Core.Bool.{Bool, true, false, not, cond, _&&_}
 use mathlib.Core.Logic.{_⊎_, inl, inr, ⊎-elim}
-use mathlib.Core.List.{List, [], _∷_, _++_, append-assoc, append-nil, List·Memᴰ, List·Memᴰ·head, List·Memᴰ·tail, List·Memᴰ·append-cases, List·Memᴰ·eq-of-singleton}
+use mathlib.Core.List.{List, [], _∷_, _++_, List·Memᴰ, List·Memᴰ·head, List·Memᴰ·tail, List·Memᴰ·append-cases, List·Memᴰ·eq-of-singleton}
 use borrow.Author.Tests.{not-false}
 use lib.Dec.{eqb}
 use Rattle.bits.proofs.Tests.{and-l, and-r, and-i, clash}
-use Rattle.method.specs.Method.{agree, useful, full, takes, firstPair}
-use Rattle.method.proofs.Pairs.{by-test, by-cond, somePair-none, none-somePair, full-all}
+use Rattle.method.specs.Method.{agree, useful, full, takes}
+use Rattle.method.proofs.Pairs.{by-cond, somePair-none}
 use Rattle.method.proofs.Agreement.{agree-first, agree-at, agree-both, full-more}
-use Rattle.method.proofs.Firsts.{firstPair-same}
 
 and-false : (a b : Bool) → a ≡ true → a && b ≡ false → b ≡ false
 and-false true b p q = q
 and-false false b p q = absurd (clash p refl)
 
 module _ {E : Type 0} (coef : ℕ → E → ℕ) (rows : ℕ) (needed : ℕ → ℕ → Bool) where
-  pub takes-keeps : (taken scan : List E) → (tail : List E) × (takes coef rows needed taken scan ≡ taken ++ tail)
-  unfolding takes
-  takes-keeps taken [] = ([], sym (append-nil taken))
-  takes-keeps taken (e ∷ scan) =
-      by-cond (λ m. (tail : List E) × (takes coef rows needed m scan ≡ taken ++ tail)) (useful coef rows needed taken e) (taken ++ (e ∷ [])) taken
-      (λ u.
-      let r : (tail : List E) × (takes coef rows needed (taken ++ (e ∷ [])) scan ≡ taken ++ (e ∷ []) ++ tail) = takes-keeps (taken ++ (e ∷ [])) scan in
-      (e ∷ r .0, r .1 ∙ append-assoc taken (e ∷ []) (r .0)))
-      (λ u. takes-keeps taken scan)
-
   -- at an entry that isn't useful, a needed pair that agrees on what is taken agrees
   idle-agree : (taken : List E) (e : E) (a b : ℕ) → useful coef rows needed taken e ≡ false → a < b → b < rows → needed a b ≡ true
       → agree coef taken a b ≡ true → eqb (coef a e) (coef b e) ≡ true
@@ -63,13 +47,6 @@ module _ {E : Type 0} (coef : ℕ → E → ℕ) (rows : ℕ) (needed : ℕ → 
       (r .0, and-i (idle-agree taken e a b u h k n (r .0)) (r .1)))
       t
 
-  pub takes-told : (taken scan : List E) (a b : ℕ) → a < b → b < rows → needed a b ≡ true → agree coef scan a b ≡ false
-      → agree coef (takes coef rows needed taken scan) a b ≡ false
-  takes-told taken scan a b h k n f =
-      by-test (agree coef (takes coef rows needed taken scan) a b)
-      (λ t. absurd (clash (takes-tell taken scan a b h k n t .1) f))
-      (λ g. g)
-
   pub takes-full : (taken scan : List E) → full coef rows needed scan ≡ true → full coef rows needed (takes coef rows needed taken scan) ≡ true
   takes-full taken scan f =
       full-more coef rows needed scan (takes coef rows needed taken scan) (λ a b h k n t. takes-tell taken scan a b h k n t .1) f
@@ -83,17 +60,6 @@ module _ {E : Type 0} (coef : ℕ → E → ℕ) (rows : ℕ) (needed : ℕ → 
       → takes coef rows needed taken (e ∷ scan) ≡ takes coef rows needed taken scan
   unfolding takes
   takes-idle taken e scan u = ap (λ (t : Bool). takes coef rows needed (cond t (taken ++ (e ∷ [])) taken) scan) u
-
-  full-idle : (taken : List E) (e : E) → full coef rows needed taken ≡ true → useful coef rows needed taken e ≡ false
-  unfolding useful
-  full-idle taken e f =
-      none-somePair coef rows needed (λ a b. agree coef taken a b && not (eqb (coef a e) (coef b e)))
-      (λ a b h k n. ap (λ (t : Bool). t && not (eqb (coef a e) (coef b e))) (full-all coef rows needed taken f a b h k n))
-
-  pub takes-stop : (taken scan : List E) → full coef rows needed taken ≡ true → takes coef rows needed taken scan ≡ taken
-  unfolding takes
-  takes-stop taken [] f = refl
-  takes-stop taken (e ∷ scan) f = takes-idle taken e scan (full-idle taken e f) ∙ takes-stop taken scan f
 
   one-more : (taken : List E) (e : E) (scan : List E) {x : E} → List·Memᴰ x taken ⊎ List·Memᴰ x (e ∷ []) → List·Memᴰ x taken ⊎ List·Memᴰ x (e ∷ scan)
   one-more taken e scan (inl p) = inl p
@@ -119,20 +85,3 @@ module _ {E : Type 0} (coef : ℕ → E → ℕ) (rows : ℕ) (needed : ℕ → 
       (agree-both coef taken (e ∷ []) a b h (and-i (and-l (eqb (coef a e) (coef b e)) (agree coef scan a b) k) refl))
       (and-r (eqb (coef a e) (coef b e)) (agree coef scan a b) k))
       (λ u. takes-agree taken scan a b h (and-r (eqb (coef a e) (coef b e)) (agree coef scan a b) k))
-
-  module _ (scan : List E) where
-    pub taken-agree : (a b : ℕ) → a < b → b < rows → needed a b ≡ true → agree coef (takes coef rows needed [] scan) a b ≡ agree coef scan a b
-    unfolding agree
-    taken-agree a b h k n =
-        by-test (agree coef scan a b) (λ t. takes-agree [] scan a b refl t ∙ sym t)
-        (λ f. by-test (agree coef (takes coef rows needed [] scan) a b)
-        (λ t. t ∙ sym (takes-tell [] scan a b h k n t .1))
-        (λ g. g ∙ sym f))
-
-    pub taken-pair : firstPair rows (λ a b. needed a b && agree coef (takes coef rows needed [] scan) a b)
-        ≡ firstPair rows (λ a b. needed a b && agree coef scan a b)
-    taken-pair =
-        firstPair-same rows (λ a b. needed a b && agree coef (takes coef rows needed [] scan) a b) (λ a b. needed a b && agree coef scan a b)
-        (λ a b h k. by-test (needed a b)
-        (λ t. ap (λ (x : Bool). needed a b && x) (taken-agree a b h k t))
-        (λ f. ap (λ (x : Bool). x && agree coef (takes coef rows needed [] scan) a b) f ∙ sym (ap (λ (x : Bool). x && agree coef scan a b) f)))

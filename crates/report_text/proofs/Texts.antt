@@ -8,16 +8,18 @@
 --   room-first     where two texts fit, the first does
 --   room-next      and the second does, once the first is put
 --   place-inside   a byte that fits stands at a place of the bytes
---   Pasting, pasting-none, pasting-more, pasting-length, pasting-inside, pasting-all   a text put byte by byte
-use Prim.Native.Nat.{ℕ, suc, _+_, _≤_, _<_, zero-le}
+--   copied-puts    a text copied to where there is room
+use Prim.Native.Nat.{ℕ, suc, _+_, _≤_, _<_}
 use native.Mathlib.Omega.{arith}
-use native.Mathlib.Nat.{add-zero, le-antisymm}
+use native.Mathlib.Nat.{add-zero}
 use native.Mathlib.Numerals.{add-one}
 use mathlib.Core.Path.{_≡_, refl, sym, ap, ap₂, subst, _∙_}
+use mathlib.Core.Bool.{cond}
 use mathlib.Core.List.{List, [], _∷_, _++_, append-assoc, append-nil}
-use lib.ListN.{length, getD, take, drop, set, length-append, length-take, take-append-drop}
-use lib.Seq.{append-snoc, set-split, take-at, drop-append-add, drop-drop, paste, paste-zero, paste-suc, length-paste, take-all}
-use Rattle.bits.specs.Slices.{splice}
+use lib.ListN.{length, take, drop, set, length-append, length-take, take-append-drop}
+use lib.Seq.{append-snoc, set-split, take-at, drop-append-add, drop-drop, take-all}
+use Rattle.bits.specs.Slices.{slice, splice, copyFits}
+use Rattle.bits.proofs.Room.{fitted, copy-fits}
 use Rattle.bits.proofs.Splice.{length-splice}
 use Rattle.report_text.specs.Putting.{Puts, Room}
 
@@ -76,40 +78,15 @@ puts-then {x} {y} {o} {o'} {o''} {at} {r} {e} h p q =
 pub place-inside : (v : ℕ) (x : List ℕ) (at : ℕ) (o : List ℕ) → Room (v ∷ x) at o → at < length o
 place-inside v x at o h = omega arith
 
--- ---- a text put byte by byte
+-- ---- a text copied
 
-pub record Pasting (text before : List ℕ) (at : ℕ) (after : List ℕ) (i : ℕ) : Type 0 where
-  pub room : Room text at before
-  pub within : i ≤ length text
-  pub so-far : after ≡ paste before at text i
-
-pub pasting-none : (text before : List ℕ) (at : ℕ) → Room text at before → Pasting text before at before 0
-pasting-none text before at h = record { room = h; within = zero-le; so-far = paste-zero before at text }
-
-module _ {text before : List ℕ} {at : ℕ} {after : List ℕ} {i : ℕ} (w : Pasting text before at after i) where
-  pub pasting-length : length after ≡ length before
-  pasting-length = ap length (w .so-far) ∙ length-paste before at text i (omega (arith, w .room, w .within)) (w .within)
-
-  pub pasting-inside : i < length text → at + i < length after
-  pasting-inside h = let e : length after ≡ length before = pasting-length in omega (arith, w .room)
-
-  pub pasting-more : i < length text → Pasting text before at (set after (at + i) (getD text i 0)) (i + 1)
-  pasting-more h =
-      record {
-        room = w .room;
-        within = omega arith;
-        so-far =
-            ap (λ (l : List ℕ). set l (at + i) (getD text i 0)) (w .so-far)
-            ∙ paste-suc before at text i 0 (omega (arith, w .room)) h
-            ∙ ap (paste before at text) (sym (add-one i));
-      }
-
-  pub pasting-all : length text ≤ i → Puts text before at (at + i) after
-  pasting-all h =
-      let e : i ≡ length text = le-antisymm (w .within) h in
-      record {
-        ends = ap (λ (n : ℕ). at + n) e;
-        stands =
-            w .so-far
-            ∙ ap₂ (λ (l : List ℕ) (n : ℕ). take at before ++ l ++ drop (at + n) before) (take-all i text h) e;
-      }
+pub copied-puts : (text before : List ℕ) (at : ℕ) {after : List ℕ} → Room text at before
+    → after ≡ cond (copyFits at 0 (length text) (length before) (length text)) (splice before at (slice 0 (length text) text)) before
+    → Puts text before at (at + length text) after
+copied-puts text before at {after} h e =
+    record {
+      ends = refl;
+      stands =
+          fitted (splice before at (slice 0 (length text) text)) before (copy-fits at 0 (length text) (length before) (length text) h (omega arith)) e
+          ∙ ap (splice before at) (take-all (length text) text (omega arith));
+    }

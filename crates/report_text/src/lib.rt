@@ -29,12 +29,9 @@ fn put(out: &mut [u8], at: usize, text: &[u8]) -> usize
     requires { ⌜ Room (now text) at (now out) ⌝ }
     ensures { λ r. ⌜ Puts (now (text .entry)) (now (out .entry)) at r (now (out .exit)) ⌝ }
 {
-    let mut i = 0;
-    while i < text.len() {
-        out[at + i] = text[i];
-        i += 1;
-    }
-    at + i
+    let count = text.len();
+    bits::copy(out, at, text, 0, count);
+    at + count
 }
 
 // Puts a number's digits.

@@ -27,9 +27,9 @@ use mir.Val.{Fits}
 use Rattle.bits.specs.Packed.{entry, tabulate}
 use Rattle.bits.proofs.Below.{equal-below}
 use Rattle.bits.proofs.Digits.{digit-lt}
-use Rattle.bits.proofs.Packed.{tabulate-at, tabulate-ext}
+use Rattle.bits.proofs.Packed.{tabulate-at, tabulate-ext, tabulate-list}
 use Rattle.bits.specs.Slices.{splice}
-use Rattle.bits.proofs.Splice.{Written, written-all}
+use Rattle.bits.proofs.Splice.{Written, written-all, splice-whole}
 use Rattle.spectra.specs.Recursion.{byteEntry, sumsOf, byteSums, halfByte, halfRows, halfSums, eightFrom, sumAt, eightSums, SumsFit, Asks, LeafAsks, entriesFrom}
 use Rattle.spectra.specs.Operations.{at}
 use Rattle.spectra.specs.Spectrum.{inside, sumTo, subsetSum, coefficient, spectrum}
@@ -37,7 +37,6 @@ use Rattle.spectra.specs.declared.Kind.the-variants.{Mrm}
 use Rattle.spectra.proofs.Bounds.{coefficient-le, subset-ext}
 use Rattle.spectra.proofs.Sums.{sumTo-ext, sumTo-plus, term}
 use Rattle.spectra.proofs.WorkPlaces.{length-joined, joined-at}
-use Rattle.spectra.proofs.Writes.{splice-whole, tabulate-list}
 
 -- ---- a byte and its halves
 

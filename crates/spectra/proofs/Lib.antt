@@ -18,4 +18,3 @@ pub mod Sums
 pub mod TableTests
 pub mod Uniqueness
 pub mod WorkPlaces
-pub mod Writes

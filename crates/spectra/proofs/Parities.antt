@@ -29,13 +29,12 @@ use mir.Val.{Fits}
 use Rattle.bits.specs.Bits.{valueFrom}
 use Rattle.bits.specs.Packed.{tabulate, packed}
 use Rattle.bits.proofs.Below.{lt-or-ge}
-use Rattle.bits.proofs.Packed.{tabulate-more, tabulate-at, tabulate-past, length-packed, packed-at}
+use Rattle.bits.proofs.Packed.{tabulate-more, tabulate-at, tabulate-past, length-packed, packed-at, tabulate-list}
 use lib.Seq.{take-all}
 use Rattle.bits.specs.Slices.{slice, splice, copyFits}
 use Rattle.bits.proofs.Room.{copy-fits}
-use Rattle.bits.proofs.Splice.{Written, written-none, written-length, written-all}
+use Rattle.bits.proofs.Splice.{Written, written-none, written-length, written-all, splice-whole, filled-more}
 use Rattle.spectra.specs.Operations.{at}
-use Rattle.spectra.proofs.Writes.{tabulate-list, splice-whole, filled-more}
 use Rattle.spectra.specs.Parities.{parityAt, Packs}
 
 pub parity-bit : (numbers : List ℕ) (k m : ℕ) {r : ℕ} → r ≡ at (tabulate (length numbers) (parityAt numbers k)) m → r < 2

@@ -15,14 +15,13 @@ use mathlib.Core.List.{List}
 use lib.ListN.{length, getD, set}
 use Rattle.bits.specs.Packed.{tabulate}
 use Rattle.bits.proofs.Packed.{tabulate-ext}
-use Rattle.bits.proofs.Splice.{Written, written-none, written-length}
+use Rattle.bits.proofs.Splice.{Written, written-none, written-length, filled-more, filled-all}
 use Rattle.spectra.specs.Spectrum.{reduce, coefficient, spectrum}
 use Rattle.spectra.specs.Recursion.{allReduced}
 use Rattle.spectra.specs.declared.Kind.{Kind}
 use Rattle.spectra.specs.declared.Kind.the-variants.{Rm, Mrm}
 use Rattle.spectra.proofs.Bounds.{length-spectrum, spectrum-at}
 use Rattle.spectra.proofs.Combination.{written-after}
-use Rattle.spectra.proofs.Writes.{filled-more, filled-all}
 
 abbrev pub Reducing : Kind → List ℕ → List ℕ → ℕ → Type 0
 Reducing kind start out j = Written start 0 (length start) (λ i. reduce kind (getD start i 0)) out j

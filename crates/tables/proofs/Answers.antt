@@ -16,7 +16,7 @@ use Rattle.bits.specs.Sizes.{tableBytes}
 use Rattle.bits.specs.Slices.{splice}
 use Rattle.tables.specs.Circuit.{circuitTable}
 use Rattle.tables.specs.Operations.{tableOf, tablesOf, tablesTo, countsOf}
-use Rattle.tables.proofs.Delivery.{splice-start}
+use Rattle.bits.proofs.Splice.{splice-start}
 
 -- a refusal leaves the memory as it was
 pub kept : {A : Type 0} (a : Answer (Fills A)) (k : ℕ) (out : List ℕ) → a ≡ refused k → record { answer = refused k; memory = out } ≡ leaves a out

@@ -6,7 +6,6 @@
 --   table-count-fits    the bytes of all tables of a valid job fit a usize
 --   side-good           a batch leaves the good circuit's rows, whether it is the good circuit or stands behind it
 --   side-output         the block of the output is the tables of the batch
---   splice-start        new bytes at the start, then the rest as it was
 --   tables-all          the good circuit's table, and then those of the faulty circuits
 --   tables-more         the tables of a batch behind those of the batches before
 --   table-single        a batch of one circuit
@@ -18,7 +17,7 @@ use mathlib.Core.List.{List, _++_}
 use mathlib.Core.Logic.{⊎-elim}
 use mir.Syntax.{w64}
 use mir.Val.{Fits}
-use lib.ListN.{length, drop, length-append}
+use lib.ListN.{length, length-append}
 use Rattle.bits.proofs.Below.{lt-or-ge}
 use Rattle.bits.proofs.Packed.{length-packed}
 use Rattle.job.specs.Check.{Valid}
@@ -105,9 +104,6 @@ side-output {j} {shape} {b} {rows} sound side =
     slice-block rows (rowOf b (j .output)) (tableBytes (j .inputs)) (b .count) (block-inside sound (sound .valid .output))
     ∙ block-ext (b .count) (λ i. rowAt j (rowOf b (j .output) + i) rows) (λ i. circuitTable j (b .first + i))
     (λ i h. side .line (j .output) i (sound .valid .output) h ∙ output-table j (b .first + i))
-
-pub splice-start : (out new : List ℕ) → splice out 0 new ≡ new ++ drop (length new) out
-splice-start out new = ap (λ (k : ℕ). new ++ drop k out) (zero-add (length new))
 
 tables-block : (j : Job) (c : ℕ) → tablesTo j c ≡ block c (circuitTable j)
 unfolding tablesTo block

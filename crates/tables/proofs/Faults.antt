@@ -8,7 +8,7 @@
 --   given           what a fault gives the lines that it fixes
 --   fixed-value     a fixed line has its level, or the bridge's value, whatever it would have by itself
 --   fixed-table     the table of a fixed line, from the good circuit's rows
-use Prim.Native.Nat.{ℕ, zero, suc, _-_, _^_, _<_}
+use Prim.Native.Nat.{ℕ, zero, suc, _^_, _<_}
 use native.Mathlib.Omega.{arith}
 use mathlib.Core.Path.{_≡_, refl, sym, ap, _∙_}
 use mathlib.Core.Bool.{Bool, true, false, cond, _||_, true≢false}

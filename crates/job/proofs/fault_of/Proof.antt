@@ -1,5 +1,4 @@
 -- `job::fault_of` meets its contract.
-use Prim.Native.Nat.{_≤_}
 use mathlib.Core.Path.{sym}
 use borrow.Author.Needs.{zero≤}
 use Rattle.job.proofs.Record.{above, faultOf-rest}
