@@ -1,63 +1,54 @@
--- The entries kept are moved to the front of a signature (specs/Matrix.antt, `signatureOf`).
+-- The entries kept are moved to the front of a signature (specs/Matrix.antt, `signatureOf`): a loop writes them from its start on (`Written`, bits/proofs/Splice).
 --
---   Aligning         what a loop knows that has moved i entries
---   aligning-none, aligning-next, aligning-all   its start, its step and its end
+--   Aligning         what the loop has written
+--   aligning-none    it starts with zeros
 --   aligning-from    the place of the next entry
 --   aligning-to      the place that it is moved to
-use Prim.Native.Nat.{ℕ, suc, _+_, _-_, _≤_, _<_}
-use native.Mathlib.Numerals.{add-one}
+--   aligning-all     all are moved
+use Prim.Native.Nat.{ℕ, zero, suc, _+_, _-_, _≤_, _<_}
 use native.Mathlib.Omega.{arith}
-use mathlib.Core.Path.{_≡_, sym, ap, ap₂, _∙_}
-use mathlib.Core.List.{List, _∷_, _++_}
-use lib.ListN.{length, take, drop, getD, set, length-drop}
-use lib.Seq.{length-take-le, take-suc, take-all, append-snoc, set-at, getD-drop}
+use mathlib.Core.Path.{_≡_, refl, sym, ap, _∙_}
+use mathlib.Core.List.{List, _++_}
+use lib.ListN.{length, drop, getD, length-drop}
+use lib.Seq.{take-all}
+use Rattle.bits.specs.Packed.{tabulate}
+use Rattle.bits.proofs.Slices.{tabulate-slice}
+use Rattle.bits.proofs.Splice.{Written, written-none, written-all, splice-start}
 use Rattle.chooser.specs.Matrix.{maxSignature, zeros, signatureOf}
 use Rattle.chooser.specs.declared.Signature.{Signature}
 
--- the last of the first entries stands before the others
-front-place : (i : ℕ) (l others : List ℕ) (d : ℕ) → i < length l → take (suc i) l ++ others ≡ take i l ++ (getD l i d ∷ others)
-front-place i l others d h = ap (λ (r : List ℕ). r ++ others) (take-suc l i d h) ∙ append-snoc (take i l) (getD l i d) others
-
-pub record Aligning (start : ℕ) (kept entries : List ℕ) (i : ℕ) : Type 0 where
-  pub within : i ≤ length kept - start
-  pub so-far : entries ≡ take i (drop start kept) ++ zeros (maxSignature - i)
-
-pub aligning-none : (start : ℕ) (kept : List ℕ) → Aligning start kept (zeros maxSignature) 0
-aligning-none start kept =
-    record { within = omega arith; so-far = let e : maxSignature ≡ maxSignature - 0 = omega arith in ap zeros e }
-
-zeros-next : {i : ℕ} → i < maxSignature → zeros (maxSignature - i) ≡ 0 ∷ zeros (maxSignature - suc i)
+length-zeros : (n : ℕ) → length (zeros n) ≡ n
 unfolding zeros
-zeros-next {i} h = let e : maxSignature - i ≡ suc (maxSignature - suc i) = omega arith in ap zeros e
+length-zeros zero = refl
+length-zeros (suc n) = ap suc (length-zeros n)
 
-module _ {start : ℕ} {kept entries : List ℕ} {i : ℕ} (w : Aligning start kept entries i) (first : start ≤ maxSignature) (size : length kept ≡ maxSignature) where
-  pub aligning-from : i < length kept - start → start + i < length kept
+drop-zeros : (k n : ℕ) → drop k (zeros n) ≡ zeros (n - k)
+unfolding zeros
+drop-zeros zero n = let e : n ≡ n - 0 = omega arith in ap zeros e
+drop-zeros (suc k) zero = let e : 0 ≡ 0 - suc k = omega arith in ap zeros e
+drop-zeros (suc k) (suc n) = let e : n - k ≡ suc n - suc k = omega arith in drop-zeros k n ∙ ap zeros e
+
+abbrev pub Aligning : ℕ → List ℕ → List ℕ → ℕ → Type 0
+Aligning start kept entries i = Written (zeros maxSignature) 0 (length kept - start) (λ n. getD kept (start + n) 0) entries i
+
+module _ (start : ℕ) (kept : List ℕ) (first : start ≤ maxSignature) (size : length kept ≡ maxSignature) where
+  pub aligning-none : Aligning start kept (zeros maxSignature) 0
+  aligning-none = written-none (omega (arith, length-zeros maxSignature))
+
+  pub aligning-from : {i : ℕ} → i < length kept - start → start + i < length kept
   aligning-from h = omega arith
 
-  pub aligning-to : i < length kept - start → i < maxSignature
+  pub aligning-to : {i : ℕ} → i < length kept - start → i < maxSignature
   aligning-to h = omega arith
 
-  pub aligning-next : i < length kept - start → Aligning start kept (set entries i (getD kept (start + i) 0)) (i + 1)
-  aligning-next h =
-      let long : length (drop start kept) ≡ length kept - start = length-drop start kept in
-      let inside : i < length (drop start kept) = omega arith in
-      let part : i ≤ length (drop start kept) = omega arith in
-      let room : i < maxSignature = omega arith in
-      record {
-        within = omega arith;
-        so-far =
-            ap (λ (l : List ℕ). set l i (getD kept (start + i) 0)) (w .so-far ∙ ap (λ (l : List ℕ). take i (drop start kept) ++ l) (zeros-next room))
-            ∙ set-at (take i (drop start kept)) 0 (zeros (maxSignature - suc i)) (getD kept (start + i) 0) i (length-take-le i (drop start kept) part)
-            ∙ ap (λ (x : ℕ). take i (drop start kept) ++ (x ∷ zeros (maxSignature - suc i))) (sym (getD-drop start kept i 0))
-            ∙ sym (front-place i (drop start kept) (zeros (maxSignature - suc i)) 0 inside)
-            ∙ ap (λ (n : ℕ). take n (drop start kept) ++ zeros (maxSignature - n)) (sym (add-one i));
-      }
-
-  pub aligning-all : length kept - start ≤ i → _≡_ {A = Signature} (record { count = length kept - start; entries = entries }) (signatureOf (drop start kept))
-  aligning-all h =
+  pub aligning-all : {entries : List ℕ} {i : ℕ} → Aligning start kept entries i → length kept - start ≤ i
+      → _≡_ {A = Signature} (record { count = length kept - start; entries = entries }) (signatureOf (drop start kept))
+  aligning-all {entries} w h =
       let long : length kept - start ≡ length (drop start kept) = sym (length-drop start kept) in
-      let full : length (drop start kept) ≤ i = omega arith in
-      let same : i ≡ length (drop start kept) = omega (arith, w .within) in
+      let all : tabulate (length kept - start) (λ n. getD kept (start + n) 0) ≡ drop start kept =
+      tabulate-slice kept start (length kept - start) (omega arith) ∙ take-all (length kept - start) (drop start kept) (omega arith) in
       let moved : entries ≡ drop start kept ++ zeros (maxSignature - length (drop start kept)) =
-      w .so-far ∙ ap₂ (λ (l : List ℕ) (n : ℕ). l ++ zeros (maxSignature - n)) (take-all i (drop start kept) full) same in
+      written-all w h ∙ splice-start (zeros maxSignature) (tabulate (length kept - start) (λ n. getD kept (start + n) 0))
+      ∙ ap (λ (l : List ℕ). l ++ drop (length l) (zeros maxSignature)) all
+      ∙ ap (λ (l : List ℕ). drop start kept ++ l) (drop-zeros (length (drop start kept)) maxSignature) in
       λ j. record { count = long j; entries = moved j }

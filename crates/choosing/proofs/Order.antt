@@ -13,7 +13,7 @@
 --   Placing                    what a loop has done after e turns: the indices below e stand at their places
 --   placing-none, placing-inside, placing-next, placing-all     its start, its room, its step and its end
 --   placed-listed              indices that stand at their places are listed in the order of looking
---   shifted-few, shifted-firsts              the number of indices as the code works it out
+--   size-few, size-firsts      the number of indices as the code works it out
 --   listed-length, listed-within             a list that stands in an array is no longer than the array
 use Prim.Native.Nat.{ℕ, zero, suc, _+_, _-_, _*_, _%_, _^_, _≤_, _<_, min}
 use native.Mathlib.Nat.{not-suc-le-zero, eq-or-lt-of-le, le-of-suc-le-suc, le-refl}
@@ -32,8 +32,9 @@ use lib.ListN.{length, take, getD, set, replicate, length-append, length-set, le
 use lib.Pow.{pow-mono}
 use lib.Seq.{take-suc, getD-set-same, getD-set-other}
 use Rattle.job.specs.Layout.{maxInputs}
-use Rattle.job.proofs.Sizes.{most-inputs}
-use Rattle.bits.proofs.Fields.{shift-exact}
+use Rattle.job.proofs.Sizes.{inputs-few}
+use Rattle.bits.specs.Sizes.{tableSizeOf}
+use Rattle.bits.proofs.TableSizes.{table-size-exact}
 use Rattle.bits.proofs.Below.{lt-or-ge}
 use Rattle.bits.specs.Passing.{passing}
 use Rattle.method.proofs.Pairs.{by-test}
@@ -318,32 +319,29 @@ module _ (size : ℕ) (places : List ℕ) (long : size ≤ length places) (place
   scan-starts zero = refl
   scan-starts (suc order) = upTo-starts order size (le-refl size) (scan-starts order)
 
--- the number of indices as the machine works it out
-abbrev shifted : ℕ → ℕ
-shifted n = 1 * 2 ^ n % 2 ^ 64
+-- the number of indices as the code works it out
+module _ {n size : ℕ} (few : n ≤ maxInputs) (answered : size ≡ tableSizeOf n) where
+  sized : size ≡ 2 ^ n
+  sized = table-size-exact (inputs-few few) answered
 
-module _ {n : ℕ} (few : n ≤ maxInputs) where
-  shifted-is : shifted n ≡ 2 ^ n
-  shifted-is = shift-exact n (omega (arith, most-inputs))
-
-  pub shifted-few : shifted n ≤ maxPlaces
+  pub size-few : size ≤ maxPlaces
   unfolding maxPlaces
-  shifted-few = rw shifted-is (pow-mono {i = n} {j = maxInputs} few)
+  size-few = rw sized (pow-mono {i = n} {j = maxInputs} few)
 
-  pub shifted-firsts : (l : List ℕ) → Tabulates maxOrders (λ order. length (scanTo (2 ^ n) order)) l
-      → Tabulates maxOrders (λ order. length (scanTo (shifted n) order)) l
-  shifted-firsts l h order b = h order b ∙ ap (λ (x : ℕ). length (scanTo x order)) (sym shifted-is)
+  pub size-firsts : (l : List ℕ) → Tabulates maxOrders (λ order. length (scanTo (2 ^ n) order)) l
+      → Tabulates maxOrders (λ order. length (scanTo size order)) l
+  size-firsts l h order b = h order b ∙ ap (λ (x : ℕ). length (scanTo x order)) (sym sized)
 
-  pub placed-listed : {count : ℕ} {places : List ℕ} → length places ≡ maxPlaces → (count ≡ shifted n) × Placed (shifted n) places
+  pub placed-listed : {count : ℕ} {places : List ℕ} → length places ≡ maxPlaces → (count ≡ size) × Placed size places
       → Listed (scanOrder n) count places
   placed-listed {count} {places} e p =
       let all : length (scanOrder n) ≡ 2 ^ n = length-all (2 ^ n) (n + 1) (λ i h. omega (arith, ones-le n i h)) in
-      let counted : count ≡ length (scanOrder n) = p .0 ∙ shifted-is ∙ sym all in
-      let room : 2 ^ n ≤ length places = omega (arith, shifted-few, shifted-is, e) in
+      let counted : count ≡ length (scanOrder n) = p .0 ∙ sized ∙ sym all in
+      let room : 2 ^ n ≤ length places = omega (arith, size-few, sized, e) in
       record {
         counted = counted;
         done = ap (λ (x : ℕ). take x places) counted
-            ∙ scan-starts (2 ^ n) places room (subst (λ (x : ℕ). Placed x places) shifted-is (p .1)) (n + 1);
+            ∙ scan-starts (2 ^ n) places room (subst (λ (x : ℕ). Placed x places) sized (p .1)) (n + 1);
       }
 
 pub listed-length : {list places : List ℕ} {count : ℕ} → Listed list count places → count ≡ length (take count places)

@@ -158,7 +158,7 @@ fn scan_order(n: usize) -> Scan
     requires { ⌜ n ≤ maxInputs ⌝ }
     ensures { λ r. ⌜ Listed (scanOrder n) (r .count) (r .of) ⌝ }
 {
-    let size = 1 << n;
+    let size = bits::table_size(n);
     let orders = orders_below(size);
     let firsts = first_places(n);
     put_indices(&orders.of, firsts, size)
@@ -206,7 +206,7 @@ fn choose_filled(work: &[u16], counts: Counts, purpose: Purpose) -> Chosen
     let scan = scan_order(counts.inputs);
     let count = scan.count;
     let indices = scan.of;
-    let size = 1 << counts.inputs;
+    let size = bits::table_size(counts.inputs);
     let choice = chooser::choose(work, size, counts.faults + 1, &marks.of, &indices[..count]);
     let untold = choice.untold;
     concluded(counts, untold, choice.signature)

@@ -1,4 +1,4 @@
-// The text of the report program (document 01, "The report program"): a job's jobText, or its refusal.
+// The text of the report program (document 01, "The report program"): a job's text, or its refusal.
 ghost use Prim.Native.Nat.{_+_, _*_, _^_, _≤_, _<_};
 ghost use mathlib.Core.Path.{_≡_};
 ghost use mathlib.Core.List.{_∷_};
@@ -147,21 +147,15 @@ fn put_circuits(
     end
 }
 
-// The whole jobText, at the start.
+// The whole text of a job, at the start.
 fn put_job(out: &mut [u8], counts: Counts, work: &[u16], list: &[u16]) -> usize
     requires { ⌜ (counts .inputs ≤ 15) × WorkRows (2 ^ (counts .inputs)) (counts .faults + 1) (now list) (length (now work)) × Room (jobText counts (now list) (now work)) 0 (now out) ⌝ }
     ensures { λ r. ⌜ Puts (jobText counts (now (list .entry)) (now (work .entry))) (now (out .entry)) 0 r (now (out .exit)) ⌝ }
 {
     let signature_at = put_counts(out, counts);
     let circuits_at = put_signature(out, signature_at, list);
-    put_circuits(
-        out,
-        circuits_at,
-        work,
-        1 << counts.inputs,
-        list,
-        counts.faults + 1,
-    )
+    let size = bits::table_size(counts.inputs);
+    put_circuits(out, circuits_at, work, size, list, counts.faults + 1)
 }
 
 // The line of a refusal, at the start.

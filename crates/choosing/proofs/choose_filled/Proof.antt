@@ -3,7 +3,8 @@ use native.Mathlib.Omega.{arith}
 use mathlib.Core.Path.{_∙_}
 use denote.Ref.{now}
 use Rattle.job.specs.Layout.{maxInputs, maxFaults}
-use Rattle.bits.proofs.Fields.{shift-exact}
+use Rattle.bits.proofs.TableSizes.{table-size-exact}
+use Rattle.job.proofs.Sizes.{inputs-few}
 use Rattle.chooser.specs.Matrix.{maxRows}
 use Rattle.choosing.proofs.Decision.{filled-answer}
 use Rattle.choosing.proofs.Order.{listed-within, listed-length}
@@ -16,9 +17,8 @@ marks-of-requires c κs = tt
 scan-order-requires : tie.Need-scan-order-requires
 scan-order-requires c κs = c .before .before .pre .inputs-few
 
-shl-size : tie.Need-shl-size
-unfolding maxInputs
-shl-size c = omega (arith, c .before .before .before .before .before .pre .inputs-few)
+table-size-requires : tie.Need-table-size-requires
+table-size-requires c κs = tt
 
 add-choose : tie.Need-add-choose
 unfolding maxFaults
@@ -42,7 +42,7 @@ returns c =
     let a = c .before .before .before .before .before .before .before .before .before .before .before .before .args in
     c .concluded .ensures
     ∙ filled-answer (a .counts) (now (a .work)) (c .before .before .before .before .before .before .before .before .before .before .before .before .pre) (a .purpose) (c .before .choose .result) (c .before .before .before .before .before .before .before .before .before .before .marks-of .result .of) _ _ (c .before .before .before .choose-arg2 .given .0) (c .before .before .before .before .before .before .before .before .before .before .marks-of .ensures)
-    (shift-exact (a .counts .inputs) (omega (arith, c .before .before .before .before .before .before .before .before .before .before .before .before .pre .inputs-few))) (c .before .before .before .before .before .before .before .before .before .scan-order .ensures .done) (c .before .choose .ensures)
+    (table-size-exact (inputs-few (c .before .before .before .before .before .before .before .before .before .before .before .before .pre .inputs-few)) (c .before .before .before .before .before .before .before .table-size .ensures)) (c .before .before .before .before .before .before .before .before .before .scan-order .ensures .done) (c .before .choose .ensures)
 
 pub choose-filled-spec : {M : Type 1} → statement M
 choose-filled-spec =
@@ -50,7 +50,7 @@ choose-filled-spec =
     (tie.spec
     marks-of-requires
     scan-order-requires
-    shl-size
+    table-size-requires
     add-choose
     array-share-prefix-indices
     slice-aggregate-choose

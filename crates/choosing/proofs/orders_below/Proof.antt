@@ -6,20 +6,22 @@ use mathlib.Core.Path.{refl}
 use lib.Count.{ones}
 use borrow.Author.Count.{falls}
 use Rattle.job.specs.Layout.{maxInputs}
-use Rattle.bits.proofs.Tabulation.{Filling, filling-start, filling-next, filling-all}
+use Rattle.bits.proofs.Splice.{Written, written-none, filled-more}
+use Rattle.bits.proofs.Tabulation.{tabulates-all}
 use Rattle.choosing.specs.Looking.{maxPlaces}
 use Rattle.choosing.proofs.Arrays.{order-fits}
 use Rattle.choosing.proofs.orders_below.Statement.{statement}
 use Rattle.choosing.proofs.orders_below.Tie as tie
 
 abbrev Inv-loop : tie.InvT-loop
-Inv-loop size of₀ e₀ of e = Filling 256 size ones of e
+Inv-loop size of₀ e₀ of e = Written of₀ 0 size ones of e
 
 abbrev μ-loop : tie.MeasureT-loop
 μ-loop size of₀ e₀ of e = size - e
 
 loop-holds : tie.Need-loop-holds Inv-loop μ-loop
-loop-holds c = filling-start (c .args .size) ones _ refl
+unfolding maxPlaces maxInputs
+loop-holds c = written-none (omega (arith, c .pre))
 
 cast-index : tie.Need-cast-index Inv-loop μ-loop
 unfolding maxPlaces maxInputs
@@ -42,11 +44,11 @@ loop-less c = falls _ _ (c .loop-test .taken)
 
 loop-again : tie.Need-loop-again Inv-loop μ-loop
 unfolding maxPlaces maxInputs
-loop-again c = filling-next (c .before .loop .inv) (c .before .before .pre) (c .loop-test .taken) refl
+loop-again c = filled-more (c .before .loop .inv) _ (c .loop-test .taken) refl
 
 returns : tie.Need-returns Inv-loop μ-loop
 unfolding maxPlaces maxInputs
-returns c = filling-all (c .before .loop .inv) (c .loop-test .left)
+returns c = tabulates-all (c .before .loop .inv) (c .loop-test .left)
 
 pub orders-below-spec : {M : Type 1} → statement M
 orders-below-spec =
