@@ -43,7 +43,8 @@ fn locate_chosen(
     if counts.faults < circuit {
         return Located::Refused(Refusal::Circuit);
     }
-    let start = circuit * (1 << counts.inputs);
+    let size = bits::table_size(counts.inputs);
+    let start = circuit * size;
     let count = signature.count;
     let entries = signature.entries;
     let mut readings = [0u16; chooser::MAX_SIGNATURE];

@@ -3,7 +3,10 @@ use native.Mathlib.Omega.{arith}
 use Prim.Native.Nat.{_-_}
 use lib.ListN.{length}
 use borrow.Author.Count.{falls}
-use Rattle.demand.proofs.Copies.{Copying, copying-none, copying-next, copying-all, copying-length}
+use mathlib.Core.Path.{refl}
+use denote.Ref.{now}
+use Rattle.bits.proofs.Splice.{written-none, written-length, filled-more}
+use Rattle.demand.proofs.Copies.{Copying, copying-all}
 use Rattle.demand.proofs.readings_at.Statement.{statement}
 use Rattle.demand.proofs.readings_at.Tie as tie
 
@@ -14,7 +17,7 @@ abbrev μ-loop : tie.MeasureT-loop
 μ-loop work start list readings₀ i₀ readings i = length list - i
 
 loop-holds : tie.Need-loop-holds Inv-loop μ-loop
-loop-holds c = copying-none (c .pre .1)
+loop-holds c = written-none (omega (arith, c .pre .1))
 
 mul-readings : tie.Need-mul-readings Inv-loop μ-loop
 mul-readings c = omega arith
@@ -38,7 +41,7 @@ mul-readings-3 : tie.Need-mul-readings-3 Inv-loop μ-loop
 mul-readings-3 c = omega arith
 
 slice-write-readings : tie.Need-slice-write-readings Inv-loop μ-loop
-slice-write-readings c = omega (arith, copying-length (c .before .before .before .loop .inv), c .before .before .loop-test .taken, c .before .before .before .before .pre .1)
+slice-write-readings c = omega (arith, written-length (c .before .before .before .loop .inv), c .before .before .loop-test .taken, c .before .before .before .before .pre .1)
 
 add-i : tie.Need-add-i Inv-loop μ-loop
 add-i c = omega arith
@@ -47,13 +50,13 @@ loop-less : tie.Need-loop-less Inv-loop μ-loop
 loop-less c = falls _ _ (c .before .before .loop-test .taken)
 
 loop-again : tie.Need-loop-again Inv-loop μ-loop
-loop-again c = copying-next (c .before .before .before .loop .inv) (c .before .before .loop-test .taken)
+loop-again c = filled-more (c .before .before .before .loop .inv) _ (c .before .before .loop-test .taken) refl
 
 same-length : tie.Need-same-length Inv-loop μ-loop
-same-length c = copying-length (c .before .loop .inv)
+same-length c = written-length (c .before .loop .inv)
 
 returns : tie.Need-returns Inv-loop μ-loop
-returns c = copying-all (c .before .loop .inv) (c .loop-test .left)
+returns c = let a = c .before .before .args in copying-all (now (a .work)) (a .start) (now (a .list)) (c .before .loop .inv) (c .loop-test .left)
 
 pub readings-at-spec : {M : Type 1} → statement M
 readings-at-spec =
