@@ -2,9 +2,13 @@
 --
 --   gives-same      equal answers give equal values
 --   never-gives     a refusal gives nothing
+--   refused-same    equal refusals have equal numbers
 --   unless-gives    a test that did not refuse held
 --   unless-true     a test that holds refuses nothing
+--   unless-false    one that does not, refuses
 --   onward-gives    both parts of `onward` gave
+--   unless-onward   what goes on from a test goes on behind it
+--   onward-onward   going on twice
 --   andThen-gives   both parts of `andThen` gave
 --   check-then      a check that did not refuse held, and took nothing
 --   Taken           what a field took off the front of a string of bits
@@ -33,6 +37,9 @@ gives-same e = cc
 pub never-gives : {A : Type 0} {k : ℕ} {a : A} → refused k ≡ gives a → ⊥
 never-gives e = let z : _≡_ {A = ℕ} 0 1 = cc in omega arith
 
+pub refused-same : {A : Type 0} {a b : ℕ} → _≡_ {A = Answer A} (refused a) (refused b) → a ≡ b
+refused-same e = cc
+
 pub unless-gives : {A : Type 0} {a : A} (t : Bool) (k : ℕ) (r : Answer A) → unless t k r ≡ gives a → (t ≡ true) × (r ≡ gives a)
 unless-gives true k r e = (refl, e)
 unless-gives false k r e = absurd (never-gives e)
@@ -40,9 +47,20 @@ unless-gives false k r e = absurd (never-gives e)
 pub unless-true : {A : Type 0} {t : Bool} (k : ℕ) (r : Answer A) → t ≡ true → unless t k r ≡ r
 unless-true k r e = ap (λ (t : Bool). unless t k r) e
 
+pub unless-false : {A : Type 0} {t : Bool} (k : ℕ) (r : Answer A) → t ≡ false → unless t k r ≡ refused k
+unless-false k r e = ap (λ (t : Bool). unless t k r) e
+
 pub onward-gives : {A B : Type 0} {b : B} (r : Answer A) (f : A → Answer B) → onward r f ≡ gives b → (a : A) × (r ≡ gives a) × (f a ≡ gives b)
 onward-gives (gives a) f e = (a, refl, e)
 onward-gives (refused k) f e = absurd (never-gives e)
+
+pub unless-onward : {A B : Type 0} (t : Bool) (k : ℕ) (r : Answer A) (f : A → Answer B) → onward (unless t k r) f ≡ unless t k (onward r f)
+unless-onward true k r f = refl
+unless-onward false k r f = refl
+
+pub onward-onward : {A B C : Type 0} (r : Answer A) (f : A → Answer B) (g : B → Answer C) → onward (onward r f) g ≡ onward r (λ a. onward (f a) g)
+onward-onward (gives a) f g = refl
+onward-onward (refused k) f g = refl
 
 pub andThen-gives : {A B : Type 0} {q : Parsed B} (r : Answer (Parsed A)) (f : A → Parser B) → andThen r f ≡ gives q
     → (p : Parsed A) × (r ≡ gives p) × (f (p .value) (p .rest) ≡ gives q)

@@ -1,5 +1,6 @@
 pub mod Answer
 pub mod Bits
+pub mod Blocks
 pub mod Field
 pub mod Packed
 pub mod Parser

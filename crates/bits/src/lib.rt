@@ -1,5 +1,11 @@
-// The ground floor: the refusals of every operation, fields of a string of bits (most significant bit first in each byte and field), the sizes of packed
-// tables, and bytes that are filled or copied. Each function makes sure of its places by itself.
+// The ground floor: the refusals of every operation, fields of a string of bits (most significant bit first in each
+// byte and field), the sizes of packed tables, and bytes that are filled or copied. Each function makes sure of its
+// places by itself, and leaves bytes as they are where a place lies wrong.
+//
+// A place in a string of bits is a number of bits (`Cursor`). A field of at most a byte lies within two bytes: where
+// the byte that it begins in has one more behind it, that is the only test; in the last byte and past it the tests come
+// one by one (`late_field`), with the same answer. The number of a slice's bits may not fit a word, so a field from a
+// place past 2 to the power 62 on is answered as cut, and the place behind a field is always a number.
 ghost use mathlib.Core.Bool.{cond};
 ghost use mathlib.Core.Path.{_≡_};
 ghost use lib.Dec.{ltb};

@@ -4,7 +4,6 @@
 --   cell-inside     so for a row that is there
 --   count-within    a count no greater than a size is within what has that size
 --   place-fits      a place within lent memory fits a machine word
---   start-fits      and so does the start of the row that it lies in
 use Prim.Native.Nat.{ℕ, suc, _+_, _*_, _^_, _≤_, _<_}
 use native.Mathlib.Nat.{mul-le-mul-right, mul-suc, suc-mul, le-trans}
 use native.Mathlib.Omega.{arith}
@@ -25,6 +24,3 @@ count-within e h = omega arith
 module _ {n : ℕ} (bytes : ℕ) (room : n * suc bytes < 2 ^ 63) where
   pub place-fits : {place : ℕ} → place ≤ n → Fits w64 place
   place-fits h = let s : n * suc bytes ≡ n * bytes + n = mul-suc n bytes in omega arith
-
-  pub start-fits : {start : ℕ} (entry : ℕ) → start + entry < n → Fits w64 start
-  start-fits entry h = let s : n * suc bytes ≡ n * bytes + n = mul-suc n bytes in omega arith

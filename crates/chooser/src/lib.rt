@@ -1,6 +1,12 @@
-// The method of choosing (document 01, "Choosing"): the few entries of a matrix of numbers that tell its rows apart. The matrix stands row after row in lent
-// memory; each row has a mark, and two rows are to be told apart where their marks differ. The state of the method is the pairs of rows that are not told
-// apart yet: a set of rows for each row (pairs.rt).
+// The method of choosing (document 01, "Choosing"): the few entries of a matrix of numbers that tell its rows apart.
+// The matrix stands row after row in lent memory; each row has a mark, and two rows are to be told apart where their
+// marks differ.
+//
+// The state is the method's own: the pairs of rows that are not told apart yet (pairs.rt). One recursion looks at the
+// entries in order. On the way down an entry is taken if it tells a pair apart, and narrows the pairs. On the way up it
+// is dropped if the pairs left by those before it and the pairs left by those kept behind it have none in common. So no
+// list of entries taken is kept, and the signature is put together from its end. It has fewer entries than there are
+// rows, which is why there is always room for one more.
 ghost use Prim.Native.Nat.{_≤_, _<_};
 ghost use mathlib.Core.Path.{_≡_};
 ghost use mathlib.Core.Bool.{true};

@@ -1,4 +1,9 @@
-// The pairs of rows that are not told apart yet: for each row the set of the rows that it is paired with.
+// The pairs of rows that are not told apart yet: for each row the set of the rows that it is paired with, as the bits
+// of a word.
+//
+// An entry tells nothing apart where every row has the number of its lowest partner (`is_clear`), so that one
+// comparison a row decides. An entry that is taken groups the rows by their numbers, and the rows of a group stay
+// paired with each other only (`refine`).
 ghost use Prim.Native.Nat.{suc, _*_, _≤_, _<_};
 ghost use mathlib.Core.Path.{_≡_};
 ghost use mathlib.Core.Bool.{true, not, cond};

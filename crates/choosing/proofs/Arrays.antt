@@ -11,7 +11,7 @@ use mir.Syntax.{w8}
 use mir.Val.{Fits}
 use lib.Count.{ones, ones-le}
 use Rattle.chooser.specs.Matrix.{maxRows}
-use Rattle.choosing.specs.Choosing.{mark}
+use Rattle.choosing.specs.Looking.{mark}
 use Rattle.choosing.specs.declared.Purpose.{Purpose}
 use Rattle.choosing.specs.declared.Purpose.the-variants.{Isolating, Detecting}
 use Rattle.choosing.proofs.Sizes.{rows-fit}

@@ -8,7 +8,6 @@
 --   length-all                   and as many, once no index has a higher order
 --   length-one                   with no input there is one index, of order 0
 --   pascal                       Pascal's rule: with one input more, an index has its bit and one order more, or has it not
---   agree-scan, scan-agree       rows agree on all indices when their coefficients are the same
 use Prim.Native.Nat.{ℕ, zero, suc, _+_, _^_, _≤_, _<_}
 use native.Mathlib.Nat.{not-suc-le-zero, eq-or-lt-of-le, le-of-suc-le-suc, le-refl, add-zero, add-suc, one-mul}
 use native.Mathlib.Numerals.{add-one}
@@ -16,16 +15,15 @@ use native.Mathlib.Omega.{arith}
 use mathlib.Core.Path.{_≡_, refl, sym, ap, _∙_}
 use mathlib.Core.Bool.{Bool, true, false, cond}
 use mathlib.Core.Logic.{⊎-elim}
-use mathlib.Core.List.{List, [], _∷_, List·Memᴰ, List·Memᴰ·head, List·Memᴰ·tail, List·Memᴰ·not-nil, List·Memᴰ·cases-cons, List·Memᴰ·append-cases, List·Memᴰ·eq-of-singleton, Memᴰ·append-left, Memᴰ·append-right}
-use borrow.Author.Tests.{eq-eqb, ne-eqb, eqb-true, lt-ltb, le-ltb}
+use mathlib.Core.List.{[], _∷_, List·Memᴰ, List·Memᴰ·head, List·Memᴰ·not-nil, List·Memᴰ·append-cases, List·Memᴰ·eq-of-singleton, Memᴰ·append-left, Memᴰ·append-right}
+use borrow.Author.Tests.{eq-eqb, ne-eqb, lt-ltb, le-ltb}
 use lib.Count.{ones, onesIn, ones-le, ones-cat}
 use lib.Dec.{eqb, ltb, leb·suc-suc}
 use lib.ListN.{length, length-append}
 use Rattle.bits.proofs.Below.{lt-or-ge}
-use Rattle.bits.proofs.Tests.{and-l, and-r, and-i, clash}
+use Rattle.bits.proofs.Tests.{clash}
 use Rattle.bits.specs.Passing.{passing}
 use Rattle.bits.proofs.Passing.{at-most}
-use Rattle.method.specs.Method.{agree}
 use Rattle.choosing.specs.Choosing.{scanTo, scanOrder}
 
 -- ---- the numbers that pass
@@ -157,26 +155,3 @@ pub pascal : (m order : ℕ) → length (scanTo (2 ^ (m + 1)) (suc order)) ≡ l
 pascal m order =
     let double : 2 ^ (m + 1) ≡ 2 ^ m + 2 ^ m = ap (λ (x : ℕ). 2 ^ x) (add-one m) ∙ omega arith in
     ap (λ (x : ℕ). length (scanTo x (suc order))) double ∙ length-more m (2 ^ m) order (le-refl (2 ^ m))
-
--- ---- rows that agree on them
-
-agree-has : (coef : ℕ → ℕ → ℕ) (l : List ℕ) (a b : ℕ) → agree coef l a b ≡ true → {e : ℕ} → List·Memᴰ e l → coef a e ≡ coef b e
-unfolding agree
-agree-has coef [] a b t m = absurd (List·Memᴰ·not-nil m)
-agree-has coef (x ∷ l) a b t {e} m =
-    ⊎-elim
-    (λ p. ap (coef a) p ∙ eqb-true (coef a x) (coef b x) (and-l (eqb (coef a x) (coef b x)) (agree coef l a b) t) ∙ ap (coef b) (sym p))
-    (λ p. agree-has coef l a b (and-r (eqb (coef a x) (coef b x)) (agree coef l a b) t) p)
-    (List·Memᴰ·cases-cons m)
-
-has-agree : (coef : ℕ → ℕ → ℕ) (l : List ℕ) (a b : ℕ) → ((e : ℕ) → List·Memᴰ e l → coef a e ≡ coef b e) → agree coef l a b ≡ true
-unfolding agree
-has-agree coef [] a b h = refl
-has-agree coef (x ∷ l) a b h =
-    and-i (eq-eqb (coef a x) (coef b x) (h x (List·Memᴰ·head refl))) (has-agree coef l a b (λ e m. h e (List·Memᴰ·tail m)))
-
-pub agree-scan : (coef : ℕ → ℕ → ℕ) (n a b : ℕ) → agree coef (scanOrder n) a b ≡ true → (e : ℕ) → e < 2 ^ n → coef a e ≡ coef b e
-agree-scan coef n a b t e h = agree-has coef (scanOrder n) a b t (scan-has n e h)
-
-pub scan-agree : (coef : ℕ → ℕ → ℕ) (n a b : ℕ) → ((e : ℕ) → e < 2 ^ n → coef a e ≡ coef b e) → agree coef (scanOrder n) a b ≡ true
-scan-agree coef n a b h = has-agree coef (scanOrder n) a b (λ e m. h e (scan-below n m))

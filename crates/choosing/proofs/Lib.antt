@@ -1,7 +1,8 @@
 pub mod Arrays
 pub mod Bound
-pub mod Decision
+pub mod Entries
 pub mod Equality
+pub mod Findings
 pub mod Indices
 pub mod Order
 pub mod Sizes

@@ -1,47 +1,43 @@
--- Believed: choosing a signature for a job (document 01, "Choosing" and "Refusal by operation").
+-- Believed: choosing a signature for listed circuits, and for a job (document 01, "Choosing" and "Refusal by operation").
 --
---   needed        "Isolating needs this of every two circuits 0 to f; detecting, of circuit 0 and each fault."
+--   needed        which pairs of circuits a purpose needs told apart
 --   scanOrder     "The order of an index is its number of ones. Indices are looked at by order, then by value."
---   coefOf        coefficient e of circuit c
---   signatureIn   the signature of the method, for a job
---   alikePair     15: the first needed pair with equal tables
---   decision        the signature with the job's counts, or the pair
---   chosenOf      what choosing answers and fills, given the length of the lent work
---   atExit         the answer, the signature beside it, and the work at exit
-use Prim.Native.Nat.{ℕ, zero, suc, _+_, _*_, _^_}
-use mathlib.Core.Bool.{Bool, not, _&&_}
-use mathlib.Core.List.{List, [], _++_}
+--   scanEntries   the entries in the order of looking
+--   signatureIn   the signature of the method
+--   alikePair     the first needed pair with equal tables
+--   finding       the signature, or the pair
+--   chosenFrom    what choosing finds and fills for listed circuits, given the length of the lent work
+--   chosenOf      the same for a job
+--   atExit        what a call answers and leaves
+use Prim.Native.Nat.{ℕ, zero, suc, _+_, _^_}
+use mathlib.Core.Bool.{Bool, true, _&&_}
+use mathlib.Core.List.{List, [], _∷_, _++_, map}
 use lib.Count.{ones}
 use lib.Dec.{leb, eqb}
-use lib.ListN.{length}
 use Rattle.bits.specs.Answer.{Answer, Fills, leaves, number, unless, onward}
 use Rattle.bits.specs.Answer.Answer.{gives, refused}
+use Rattle.bits.specs.Passing.{passing}
 use Rattle.job.specs.declared.Job.{Job}
 use Rattle.reading.specs.Reading.{reading}
-use Rattle.tables.specs.Circuit.{circuitEntry, circuitTable}
-use Rattle.tables.specs.Operations.{countsOf}
+use Rattle.tables.specs.Family.{Family, familyOf, sameTables}
+use Rattle.tables.specs.Operations.{countsOf, noCounts}
 use Rattle.tables.specs.declared.Counts.{Counts}
-use Rattle.spectra.specs.Operations.{polarityOk, circuitSpectra, sameNumbers}
-use Rattle.spectra.specs.Spectrum.{coefficient}
+use Rattle.spectra.specs.Listed.{Entry, coefOf, familySpectra, places}
+use Rattle.spectra.specs.Operations.{polarityOk}
 use Rattle.spectra.specs.declared.Kind.{Kind}
-use Rattle.bits.specs.Passing.{passing}
-use Rattle.chooser.specs.Matrix.{signatureOf}
 use Rattle.method.specs.Method.{signature, firstPair, Pair}
 use Rattle.method.specs.Method.Pair.{nobody, pair}
+use Rattle.chooser.specs.Matrix.{signatureOf}
 use Rattle.chooser.specs.declared.Signature.{Signature}
 use Rattle.choosing.specs.declared.Purpose.{Purpose}
 use Rattle.choosing.specs.declared.Purpose.the-variants.{Isolating, Detecting}
 use Rattle.choosing.specs.declared.Verdict.{Verdict}
 use Rattle.choosing.specs.declared.Verdict.the-variants.{Done, Alike, Refused}
 
--- circuits are to be told apart where their marks differ
-abbrev pub mark : Purpose → ℕ → ℕ
-mark Isolating c = c
-mark Detecting zero = 0
-mark Detecting (suc c) = 1
-
+-- of circuits a below b: "Isolating needs this of every two circuits 0 to f; detecting, of circuit 0 and each fault."
 abbrev pub needed : Purpose → ℕ → ℕ → Bool
-needed purpose a b = not (eqb (mark purpose a) (mark purpose b))
+needed Isolating a b = true
+needed Detecting a b = eqb a 0
 
 -- the indices below `size` whose order is below `order`, by order, then by value
 unfoldable pub scanTo : ℕ → ℕ → List ℕ
@@ -51,61 +47,78 @@ scanTo size (suc order) = scanTo size order ++ passing (λ e. eqb (ones e) order
 abbrev pub scanOrder : ℕ → List ℕ
 scanOrder n = scanTo (2 ^ n) (n + 1)
 
-abbrev pub coefOf : Kind → ℕ → Job → ℕ → ℕ → ℕ
-coefOf kind k j c e = coefficient kind (j .inputs) k (circuitEntry j c) e
+-- the first outputs at an index
+unfoldable pub outputsAt : ℕ → ℕ → List Entry
+outputsAt i zero = []
+outputsAt i (suc o) = outputsAt i o ++ (record { index = i; output = o } ∷ [])
 
-abbrev pub signatureIn : Purpose → Kind → ℕ → Job → List ℕ
-signatureIn purpose kind k j = signature (coefOf kind k j) (j .«fault_count» + 1) (needed purpose) (scanOrder (j .inputs))
+-- so many outputs at each of the indices
+unfoldable pub entriesOf : ℕ → List ℕ → List Entry
+entriesOf outputs [] = []
+entriesOf outputs (i ∷ indices) = outputsAt i outputs ++ entriesOf outputs indices
 
-abbrev pub sameTables : Job → ℕ → ℕ → Bool
-sameTables j a b = sameNumbers (circuitTable j a) (circuitTable j b)
+abbrev pub scanEntries : Family → List Entry
+scanEntries F = entriesOf (F .outputs) (scanOrder (F .inputs))
 
--- "15, a needed pair has equal tables. With 15 comes the first such pair, by lower number, then by higher"
-abbrev pub alikePair : Purpose → Job → Pair
-alikePair purpose j = firstPair (j .«fault_count» + 1) (λ a b. needed purpose a b && sameTables j a b)
+abbrev pub signatureIn : Purpose → Kind → ℕ → Family → List Entry
+signatureIn purpose kind k F = signature (coefOf kind k F) (F .circuits) (needed purpose) (scanEntries F)
 
-pub data Result : Type 0 where
-  chosen : Counts → Result
-  alike : ℕ → ℕ → Result
+-- "the first such pair, by lower number, then by higher"
+abbrev pub alikePair : Purpose → Family → Pair
+alikePair purpose F = firstPair (F .circuits) (λ a b. needed purpose a b && sameTables F a b)
 
-pub record Decision : Type 0 where
-  pub result : Result
-  pub entries : List ℕ
+pub data Finding : Type 0 where
+  chosen : List Entry → Finding
+  alike : ℕ → ℕ → Finding
 
-abbrev pub decisionBy : Pair → Counts → List ℕ → Decision
-decisionBy nobody counts l = record { result = chosen counts; entries = l }
-decisionBy (pair a b) counts l = record { result = alike a b; entries = [] }
+abbrev pub findingBy : Pair → List Entry → Finding
+findingBy nobody list = chosen list
+findingBy (pair a b) list = alike a b
 
-abbrev pub decision : Purpose → Kind → ℕ → Job → Decision
-decision purpose kind k j = decisionBy (alikePair purpose j) (countsOf j) (signatureIn purpose kind k j)
+abbrev pub finding : Purpose → Kind → ℕ → Family → Finding
+finding purpose kind k F = findingBy (alikePair purpose F) (signatureIn purpose kind k F)
 
--- "Choosing: reading's; 13; 10, fewer than (f+1) × N places; 15 .. and the work holds all spectra."
-unfoldable pub chosenOf : Purpose → List ℕ → Kind → ℕ → ℕ → Answer (Fills Decision)
-chosenOf purpose s kind k room =
-    onward (reading s) (λ j.
-    unless (polarityOk (j .inputs) k) 13
-    (unless (leb ((j .«fault_count» + 1) * 2 ^ (j .inputs)) room) 10
-    (gives (record { value = decision purpose kind k j; filled = circuitSpectra kind k j (j .«fault_count» + 1) }))))
+-- "13; 10, fewer than (f+1) × N places"; 15 is found, for under it too "the work holds all spectra"
+unfoldable pub chosenFrom : Purpose → Family → Kind → ℕ → ℕ → Answer (Fills Finding)
+chosenFrom purpose F kind k room =
+    unless (polarityOk (F .inputs) k) 13
+    (unless (leb (places F) room) 10
+    (gives (record { value = finding purpose kind k F; filled = familySpectra kind k F })))
 
+-- "Choosing: reading's; 13; 10 ..; 15"
+abbrev pub chosenOf : Purpose → List ℕ → Kind → ℕ → ℕ → Answer (Fills Finding)
+chosenOf purpose s kind k room = onward (reading s) (λ j. chosenFrom purpose (familyOf j) kind k room)
+
+-- what a call answers and leaves: a refusal's number, 0 for success; the pair that comes with 15; the counts; the signature; the work
 pub record AtExit : Type 0 where
-  pub answer : Answer Result
+  pub number : ℕ
+  pub pair : Pair
+  pub counts : Counts
   pub signature : Signature
   pub memory : List ℕ
 
--- the signature comes back beside the answer, and is empty beside a pair or a refusal
-abbrev pub atExit : Answer (Fills Decision) → List ℕ → AtExit
-atExit (gives w) memory =
-    record { answer = gives (w .value .result); signature = signatureOf (w .value .entries); memory = leaves (gives w) memory .memory }
-atExit (refused i) memory = record { answer = refused i; signature = signatureOf []; memory = memory }
+-- "15, a needed pair has equal tables. With 15 comes the first such pair"; counts are 0, and the signature is empty, beside every refusal
+abbrev pub found : Counts → Finding → List ℕ → AtExit
+found counts (chosen list) memory =
+    record { number = 0; pair = nobody; counts = counts; signature = signatureOf (map (λ (e : Entry). e .index) list); memory = memory }
+found counts (alike a b) memory = record { number = 15; pair = pair a b; counts = noCounts; signature = signatureOf []; memory = memory }
 
--- what an answer stands for; `Alike` is 15 with its pair
-abbrev pub verdictTold : Verdict → Answer Result
-verdictTold (Done counts) = gives (chosen counts)
-verdictTold (Alike a b) = gives (alike a b)
-verdictTold (Refused e) = refused (number e)
+abbrev pub atExit : Counts → Answer (Fills Finding) → List ℕ → AtExit
+atExit counts (gives w) memory = found counts (w .value) (leaves (gives w) memory .memory)
+atExit counts (refused i) memory = record { number = i; pair = nobody; counts = noCounts; signature = signatureOf []; memory = memory }
 
--- the document's number of each answer, 0 for success
-abbrev pub verdictNumber : Answer Result → ℕ
-verdictNumber (gives (chosen counts)) = 0
-verdictNumber (gives (alike a b)) = 15
-verdictNumber (refused i) = i
+-- the counts of the job that the bytes give
+abbrev pub countsIn : Answer Job → Counts
+countsIn (gives j) = countsOf j
+countsIn (refused i) = noCounts
+
+-- the document's number and values of each verdict
+abbrev pub verdictNumber : Verdict → ℕ
+verdictNumber Done = 0
+verdictNumber (Alike a b) = 15
+verdictNumber (Refused e) = number e
+
+abbrev pub verdictPair : Verdict → Pair
+verdictPair Done = nobody
+verdictPair (Alike a b) = pair a b
+verdictPair (Refused e) = nobody

@@ -9,27 +9,32 @@
 --   Placed      the indices stand at their places
 --   Listed      a list stands at the start of an array, and so many places are taken
 --   Filled      the counts are a job's, and its spectra lie within the work
---   decisionIn    the decision over any coefficients of the counted circuits
---   answerOf    the answer that stands for a decision
+--   mark        a circuit's mark: its own number, or whether it is a faulty one
+--   chosenBy    the answer that the method's choice gives
+--   chosenIn    the answer over any coefficients of the counted circuits, by index
 use Prim.Native.Nat.{ℕ, zero, suc, _+_, _*_, _^_, _≤_, _<_}
 use mathlib.Core.Path.{_≡_}
 use mathlib.Core.Bool.{_&&_}
-use mathlib.Core.List.{List}
+use mathlib.Core.List.{List, []}
 use lib.Count.{ones}
 use lib.Dec.{eqb}
 use lib.ListN.{length, take, getD}
 use Rattle.bits.specs.Passing.{passing}
 use Rattle.job.specs.Layout.{maxInputs, maxFaults}
+use Rattle.tables.specs.Operations.{noCounts}
 use Rattle.tables.specs.declared.Counts.{Counts}
 use Rattle.bits.specs.declared.Refusal.the-variants.{Memory}
-use Rattle.chooser.specs.Matrix.{signatureOf}
+use Rattle.method.specs.Method as method
 use Rattle.method.specs.Method.{agree, signature, firstPair}
+use Rattle.method.specs.Method.Pair.{nobody, pair}
+use Rattle.chooser.specs.Matrix.{signatureOf}
+use Rattle.chooser.specs.declared.Signature.{Signature}
 use Rattle.chooser.specs.declared.Untold.{Untold}
 use Rattle.chooser.specs.declared.Untold.the-variants.{Nobody, Pair, NoMatrix}
-use Rattle.choosing.specs.Choosing.{Decision, Result, decisionBy, needed, scanTo, scanOrder}
-use Rattle.choosing.specs.Choosing.Result.{chosen, alike}
+use Rattle.choosing.specs.Choosing.{needed, scanTo, scanOrder}
 use Rattle.choosing.specs.declared.Chosen.{Chosen}
 use Rattle.choosing.specs.declared.Purpose.{Purpose}
+use Rattle.choosing.specs.declared.Purpose.the-variants.{Isolating, Detecting}
 use Rattle.choosing.specs.declared.Verdict.{Verdict}
 use Rattle.choosing.specs.declared.Verdict.the-variants.{Done, Alike, Refused}
 
@@ -68,20 +73,27 @@ pub record Filled (counts : Counts) (room : ℕ) : Type 0 where
   pub faults-few : counts .faults ≤ maxFaults
   pub enough : (counts .faults + 1) * 2 ^ (counts .inputs) ≤ room
 
-abbrev pub decisionIn : Purpose → Counts → (ℕ → ℕ → ℕ) → Decision
-decisionIn purpose counts coef =
-    decisionBy (firstPair (counts .faults + 1) (λ a b. needed purpose a b && agree coef (scanOrder (counts .inputs)) a b)) counts
-    (signature coef (counts .faults + 1) (needed purpose) (scanOrder (counts .inputs)))
+-- circuits are to be told apart where their marks differ
+abbrev pub mark : Purpose → ℕ → ℕ
+mark Isolating c = c
+mark Detecting zero = 0
+mark Detecting (suc c) = 1
+
+abbrev pub unchosen : Verdict → Chosen
+unchosen verdict = record { verdict = verdict; counts = noCounts; signature = signatureOf [] }
 
 -- the matrix always fits
-abbrev pub verdictOf : Counts → Untold → Verdict
-verdictOf counts Nobody = Done counts
-verdictOf counts (Pair a b) = Alike a b
-verdictOf counts NoMatrix = Refused Memory
+abbrev pub chosenBy : Counts → Untold → Signature → Chosen
+chosenBy counts Nobody s = record { verdict = Done; counts = counts; signature = s }
+chosenBy counts (Pair a b) s = unchosen (Alike a b)
+chosenBy counts NoMatrix s = unchosen (Refused Memory)
 
-abbrev pub verdictFor : Result → Verdict
-verdictFor (chosen counts) = Done counts
-verdictFor (alike a b) = Alike a b
+-- a pair that nothing tells apart, or else a signature
+abbrev pub chosenFor : method.Pair → Counts → List ℕ → Chosen
+chosenFor nobody counts l = record { verdict = Done; counts = counts; signature = signatureOf l }
+chosenFor (pair a b) counts l = unchosen (Alike a b)
 
-abbrev pub answerOf : Decision → Chosen
-answerOf c = record { verdict = verdictFor (c .result); signature = signatureOf (c .entries) }
+abbrev pub chosenIn : Purpose → Counts → (ℕ → ℕ → ℕ) → Chosen
+chosenIn purpose counts coef =
+    chosenFor (firstPair (counts .faults + 1) (λ a b. needed purpose a b && agree coef (scanOrder (counts .inputs)) a b)) counts
+    (signature coef (counts .faults + 1) (needed purpose) (scanOrder (counts .inputs)))

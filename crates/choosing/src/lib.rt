@@ -1,4 +1,11 @@
-// Signatures: the few coefficients that tell the circuits of a job apart (document 01, "Choosing").
+// Signatures: the few coefficients that tell the listed circuits apart (document 01, "Choosing").
+//
+// The tables are transformed into the lent work, which is the chooser's matrix: a row a circuit, an entry an index. The
+// marks say which pairs are needed: a circuit's own number for isolating; 0 for the good circuit and 1 for the others
+// for detecting.
+//
+// The order of looking, by number of ones, then by value, is made without sorting: each index goes to the next place of
+// its order. The first place of an order is the number of indices of lower order, by Pascal's rule.
 ghost use Prim.Native.Nat.{_+_, _^_, _≤_, _<_};
 ghost use mathlib.Core.Path.{_≡_};
 ghost use mathlib.Core.List.{[]};
@@ -7,15 +14,18 @@ ghost use lib.ListN.{length};
 ghost use Rattle.job.specs.Layout.{maxInputs};
 ghost use Rattle.bits.specs.Tabulation.{Tabulates};
 ghost use Rattle.chooser.specs.Matrix.{cell, maxRows, signatureOf};
-ghost use Rattle.choosing.specs.Choosing.{mark, scanTo, scanOrder, chosenOf, atExit, verdictTold};
-ghost use Rattle.choosing.specs.declared.Verdict.the-variants.{Refused};
-ghost use Rattle.choosing.specs.Looking.{maxPlaces, maxOrders, Few, summed, Placed, Listed, Filled, decisionIn, verdictOf, answerOf};
+ghost use Rattle.reading.specs.Reading.{reading};
+ghost use Rattle.tables.specs.Operations.{noCounts};
+ghost use Rattle.spectra.specs.Operations.{fromTables};
+ghost use Rattle.choosing.specs.Choosing.{scanTo, scanOrder, chosenFrom, chosenOf, countsIn, atExit, verdictNumber, verdictPair};
+ghost use Rattle.choosing.specs.Looking.{maxPlaces, maxOrders, mark, Few, summed, Placed, Listed, Filled, chosenBy, chosenIn};
+use bits::Outcome;
 use bits::Refusal;
 use chooser::Signature;
 use chooser::Untold;
 use spectra::Kind;
+use tables::ALL_TABLES_BYTES;
 use tables::Counts;
-use tables::CountsAnswer;
 
 // To tell every two circuits apart, or the good one from each fault.
 pub enum Purpose {
@@ -23,16 +33,17 @@ pub enum Purpose {
     Detecting,
 }
 
-// The counts of the job whose signature is chosen; the first needed pair of circuits that are alike; or the refusal.
+// A signature is chosen; the first needed pair of circuits that are alike; or another refusal.
 pub enum Verdict {
-    Done(Counts),
+    Done,
     Alike(usize, usize),
     Refused(Refusal),
 }
 
-// The signature is empty beside a pair or a refusal.
+// Beside a pair or a refusal the counts are 0, and the signature is empty.
 pub struct Chosen {
     pub verdict: Verdict,
+    pub counts: Counts,
     pub signature: Signature,
 }
 
@@ -164,12 +175,17 @@ fn scan_order(n: usize) -> Scan
     put_indices(&orders.of, firsts, size)
 }
 
-// Beside a refusal the signature is empty.
-fn refused(cause: Refusal) -> Chosen
-    ensures { λ r. ⌜ r ≡ record { verdict = Refused cause; signature = signatureOf [] } ⌝ }
+// What stands beside a pair or a refusal.
+fn unchosen(verdict: Verdict) -> Chosen
+    ensures { λ r. ⌜ r ≡ record { verdict = verdict; counts = noCounts; signature = signatureOf [] } ⌝ }
 {
     Chosen {
-        verdict: Verdict::Refused(cause),
+        verdict,
+        counts: Counts {
+            inputs: 0,
+            gates: 0,
+            faults: 0,
+        },
         signature: Signature {
             count: 0,
             entries: [0u16; chooser::MAX_SIGNATURE],
@@ -177,30 +193,25 @@ fn refused(cause: Refusal) -> Chosen
     }
 }
 
-// The verdict that the method's choice gives. The matrix always fits, so that `NoMatrix` stands for no answer of `choose`.
+// The verdict that the method's choice gives. The matrix always fits, so that `NoMatrix` stands for no answer of `choose_tables`.
 fn concluded(counts: Counts, untold: Untold, signature: Signature) -> Chosen
-    ensures { λ r. ⌜ r ≡ record { verdict = verdictOf counts untold; signature = signature } ⌝ }
+    ensures { λ r. ⌜ r ≡ chosenBy counts untold signature ⌝ }
 {
     match untold {
         Untold::Nobody => Chosen {
-            verdict: Verdict::Done(counts),
+            verdict: Verdict::Done,
+            counts,
             signature,
         },
-        Untold::Pair(a, b) => Chosen {
-            verdict: Verdict::Alike(a, b),
-            signature,
-        },
-        Untold::NoMatrix => Chosen {
-            verdict: Verdict::Refused(Refusal::Memory),
-            signature,
-        },
+        Untold::Pair(a, b) => unchosen(Verdict::Alike(a, b)),
+        Untold::NoMatrix => unchosen(Verdict::Refused(Refusal::Memory)),
     }
 }
 
 // What the method chooses from the spectra in the work.
 fn choose_filled(work: &[u16], counts: Counts, purpose: Purpose) -> Chosen
     requires { ⌜ Filled counts (length (now work)) ⌝ }
-    ensures { λ r. ⌜ r ≡ answerOf (decisionIn purpose counts (cell (now (work .entry)) (2 ^ (counts .inputs)))) ⌝ }
+    ensures { λ r. ⌜ r ≡ chosenIn purpose counts (cell (now (work .entry)) (2 ^ (counts .inputs))) ⌝ }
 {
     let marks = marks_of(purpose);
     let scan = scan_order(counts.inputs);
@@ -212,6 +223,25 @@ fn choose_filled(work: &[u16], counts: Counts, purpose: Purpose) -> Chosen
     concluded(counts, untold, choice.signature)
 }
 
+// The signature that tells the counted circuits apart, from their tables, one after the other: 2; 12; 13; 10; 15 with the first needed pair that is alike.
+pub fn choose_tables(
+    counts: Counts,
+    tables: &[u8],
+    purpose: Purpose,
+    kind: Kind,
+    polarity: usize,
+    work: &mut [u16],
+) -> Chosen
+    ensures { λ r. ⌜ record { number = verdictNumber (r .verdict); pair = verdictPair (r .verdict); counts = r .counts; signature = r .signature; memory = now (work .exit) } ≡ atExit counts (fromTables (counts .inputs) (counts .faults + 1) (now (tables .entry)) (λ F. chosenFrom purpose F kind polarity (length (now (work .entry))))) (now (work .entry)) ⌝ }
+{
+    let circuits = tables::circuits_of(counts);
+    let outcome = spectra::fill(counts.inputs, circuits, tables, kind, polarity, work);
+    match outcome {
+        Outcome::Refused(cause) => unchosen(Verdict::Refused(cause)),
+        Outcome::Done => choose_filled(work, counts, purpose),
+    }
+}
+
 // The signature that tells the circuits of a job apart: reading's refusals; 13; 10; 15 with the first needed pair that is alike.
 pub fn choose(
     bytes: &[u8],
@@ -220,11 +250,23 @@ pub fn choose(
     polarity: usize,
     work: &mut [u16],
 ) -> Chosen
-    ensures { λ r. ⌜ record { answer = verdictTold (r .verdict); signature = r .signature; memory = now (work .exit) } ≡ atExit (chosenOf purpose (now (bytes .entry)) kind polarity (length (now (work .entry)))) (now (work .entry)) ⌝ }
+    ensures { λ r. ⌜ record { number = verdictNumber (r .verdict); pair = verdictPair (r .verdict); counts = r .counts; signature = r .signature; memory = now (work .exit) } ≡ atExit (countsIn (reading (now (bytes .entry)))) (chosenOf purpose (now (bytes .entry)) kind polarity (length (now (work .entry)))) (now (work .entry)) ⌝ }
 {
-    let answer = spectra::job_spectra(bytes, kind, polarity, work);
-    match answer {
-        CountsAnswer::Refused(cause) => refused(cause),
-        CountsAnswer::Filled(counts) => choose_filled(work, counts, purpose),
+    let mut packed = [0u8; ALL_TABLES_BYTES];
+    let delivery = tables::tables(bytes, &mut packed);
+    let outcome = delivery.outcome;
+    match outcome {
+        Outcome::Refused(cause) => unchosen(Verdict::Refused(cause)),
+        Outcome::Done => {
+            let end = delivery.bytes;
+            choose_tables(
+                delivery.counts,
+                &packed[..end],
+                purpose,
+                kind,
+                polarity,
+                work,
+            )
+        }
     }
 }

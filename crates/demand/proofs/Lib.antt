@@ -1,9 +1,6 @@
 pub mod Answers
-pub mod Copies
 pub mod FirstPairs
 pub mod Locations
 pub mod Matches
-pub mod Readings
-pub mod Relocation
 pub mod Signatures
 pub mod Theorem

@@ -1,8 +1,8 @@
 -- What the numbers that pass a test tell of a location (Rattle.locating, specs/Locating.antt).
 --
---   agreeing-none     where none passes, none agrees
---   agreeing-some     where one passes, some do
---   agreeing-alone    where exactly one passes, it is alone
+--   passing-none      where none passes, none is listed
+--   passing-some      where one passes, some do
+--   passing-alone     where exactly one passes, it is alone
 --   location-none     where none passes, the location is nowhere
 --   nowhere-none      it is nowhere only where none passes
 --   location-alone    where exactly one passes, the location is that one alone
@@ -16,7 +16,7 @@ use mathlib.Core.List.{List, [], _∷_, _++_}
 use lib.ListN.{length, length-append}
 use Rattle.bits.specs.Passing.{passing}
 use Rattle.method.proofs.Pairs.{by-test}
-use Rattle.locating.specs.Locating.{Location, agreeing, location}
+use Rattle.locating.specs.Locating.{Location, location}
 use Rattle.locating.specs.Locating.Location.{alone, several, nowhere}
 
 isNowhere : Location → Bool
@@ -32,50 +32,50 @@ nowhere-empty (c ∷ d ∷ more) e = absurd (true≢false (sym (ap isNowhere e))
 
 module _ (p : ℕ → Bool) where
   -- the numbers below one more
-  agreeing-next : (n : ℕ) {l : List ℕ} {t : Bool} → agreeing p n ≡ l → p n ≡ t → agreeing p (suc n) ≡ l ++ cond t (n ∷ []) []
+  passing-next : (n : ℕ) {l : List ℕ} {t : Bool} → passing p n ≡ l → p n ≡ t → passing p (suc n) ≡ l ++ cond t (n ∷ []) []
   unfolding passing
-  agreeing-next n e f = ap₂ (λ (l : List ℕ) (t : Bool). l ++ cond t (n ∷ []) []) e f
+  passing-next n e f = ap₂ (λ (l : List ℕ) (t : Bool). l ++ cond t (n ∷ []) []) e f
 
-  pub agreeing-none : (n : ℕ) → ((c : ℕ) → c < n → p c ≡ false) → agreeing p n ≡ []
+  pub passing-none : (n : ℕ) → ((c : ℕ) → c < n → p c ≡ false) → passing p n ≡ []
   unfolding passing
-  agreeing-none zero h = refl
-  agreeing-none (suc n) h = agreeing-next n (agreeing-none n (λ c b. h c (omega arith))) (h n (omega arith))
+  passing-none zero h = refl
+  passing-none (suc n) h = passing-next n (passing-none n (λ c b. h c (omega arith))) (h n (omega arith))
 
-  pub agreeing-some : (n c : ℕ) → c < n → p c ≡ true → 1 ≤ length (agreeing p n)
+  pub passing-some : (n c : ℕ) → c < n → p c ≡ true → 1 ≤ length (passing p n)
   unfolding passing
-  agreeing-some zero c h t = absurd (not-suc-le-zero h)
-  agreeing-some (suc n) c h t =
-      let long : length (agreeing p (suc n)) ≡ length (agreeing p n) + length (cond (p n) (n ∷ []) []) =
-      length-append (agreeing p n) (cond (p n) (n ∷ []) []) in
+  passing-some zero c h t = absurd (not-suc-le-zero h)
+  passing-some (suc n) c h t =
+      let long : length (passing p (suc n)) ≡ length (passing p n) + length (cond (p n) (n ∷ []) []) =
+      length-append (passing p n) (cond (p n) (n ∷ []) []) in
       ⊎-elim
       (λ (e : c ≡ n). let one : length (cond (p n) (n ∷ []) []) ≡ 1 = rw (sym (ap p e) ∙ t) in omega arith)
-      (λ b. let some = agreeing-some n c b t in omega arith)
+      (λ b. let some = passing-some n c b t in omega arith)
       (eq-or-lt-of-le (le-of-suc-le-suc h))
 
-  pub agreeing-alone : (n c : ℕ) → c < n → p c ≡ true → ((d : ℕ) → d < n → p d ≡ true → d ≡ c) → agreeing p n ≡ c ∷ []
-  agreeing-alone zero c h t only = absurd (not-suc-le-zero h)
-  agreeing-alone (suc n) c h t only =
+  pub passing-alone : (n c : ℕ) → c < n → p c ≡ true → ((d : ℕ) → d < n → p d ≡ true → d ≡ c) → passing p n ≡ c ∷ []
+  passing-alone zero c h t only = absurd (not-suc-le-zero h)
+  passing-alone (suc n) c h t only =
       ⊎-elim
       (λ (e : c ≡ n).
-      agreeing-next n
-      (agreeing-none n (λ d b. by-test (p d) (λ u. absurd (let same = only d (omega arith) u in omega arith)) (λ f. f)))
+      passing-next n
+      (passing-none n (λ d b. by-test (p d) (λ u. absurd (let same = only d (omega arith) u in omega arith)) (λ f. f)))
       (sym (ap p e) ∙ t) ∙ ap (λ (x : ℕ). x ∷ []) (sym e))
       (λ b.
-      agreeing-next n (agreeing-alone n c b t (λ d l. only d (omega arith)))
+      passing-next n (passing-alone n c b t (λ d l. only d (omega arith)))
       (by-test (p n) (λ u. absurd (let same = only n (omega arith) u in omega arith)) (λ f. f)))
       (eq-or-lt-of-le (le-of-suc-le-suc h))
 
-  pub location-none : (n : ℕ) → ((c : ℕ) → c < n → p c ≡ false) → location (agreeing p n) ≡ nowhere
-  location-none n h = ap location (agreeing-none n h)
+  pub location-none : (n : ℕ) → ((c : ℕ) → c < n → p c ≡ false) → location (passing p n) ≡ nowhere
+  location-none n h = ap location (passing-none n h)
 
-  pub nowhere-none : (n : ℕ) → location (agreeing p n) ≡ nowhere → (c : ℕ) → c < n → p c ≡ false
+  pub nowhere-none : (n : ℕ) → location (passing p n) ≡ nowhere → (c : ℕ) → c < n → p c ≡ false
   nowhere-none n e c h =
       by-test (p c)
       (λ t.
-      let some = agreeing-some n c h t in
-      let empty : length (agreeing p n) ≡ 0 = ap length (nowhere-empty (agreeing p n) e) in
+      let some = passing-some n c h t in
+      let empty : length (passing p n) ≡ 0 = ap length (nowhere-empty (passing p n) e) in
       absurd (omega arith))
       (λ f. f)
 
-  pub location-alone : (n c : ℕ) → c < n → p c ≡ true → ((d : ℕ) → d < n → p d ≡ true → d ≡ c) → location (agreeing p n) ≡ alone c
-  location-alone n c h t only = ap location (agreeing-alone n c h t only)
+  pub location-alone : (n c : ℕ) → c < n → p c ≡ true → ((d : ℕ) → d < n → p d ≡ true → d ≡ c) → location (passing p n) ≡ alone c
+  location-alone n c h t only = ap location (passing-alone n c h t only)

@@ -1,133 +1,150 @@
 -- Demand 3 holds (specs/Demand.antt).
 --
---   found-told        a pair that choosing tells is the pair that was found
---   refused-alike     where two circuits give equal outputs, an isolating signature is refused as alike
---   refused-first     its pair is the first such pair
 --   located-as        what locating says of readings at a valid list
 --   located-alone     of the readings of a circuit at a list on which no other has them, it names that circuit alone
---   signed-told       where no two circuits give equal outputs, choosing tells the job's counts
---   signed-back       and the signature comes back
---   isolated          with all that is asked of it
+--   alike-number      where a pair is found, and there alone, the number is 15, with that pair
+--   isolated          the signature that comes back, with all that is asked of it
+--   demand-family     demand 3 of listed circuits
 --   demand-3          demand 3
-use Prim.Native.Nat.{ℕ, _+_, _≤_, _<_}
+use Prim.Native.Nat.{ℕ, _<_}
 use native.Mathlib.Omega.{arith}
-use mathlib.Core.Path.{_≡_, sym, ap, subst, _∙_}
+use mathlib.Core.Path.{_≡_, refl, sym, ap, subst, _∙_}
 use mathlib.Core.Bool.{Bool}
-use mathlib.Core.List.{List}
-use lib.ListN.{length, length-map}
+use mathlib.Core.List.{List, _++_, map}
+use lib.ListN.{length, drop, length-map}
+use Rattle.bits.specs.Answer.{Answer, Fills, leaves, onward}
 use Rattle.bits.specs.Answer.Answer.{gives}
 use Rattle.bits.proofs.Answers.{gives-same}
 use Rattle.bits.proofs.Tests.{clash}
-use Rattle.job.specs.Check.{Valid}
 use Rattle.job.specs.declared.Job.{Job}
 use Rattle.reading.proofs.Validity.{reading-valid}
-use Rattle.tables.specs.Operations.{countsOf}
+use Rattle.tables.specs.Family.{Family, familyOf}
 use Rattle.tables.specs.declared.Counts.{Counts}
+use Rattle.tables.proofs.Families.{ValidFamily, family-valid}
+use Rattle.spectra.specs.Listed.{Entry, coefOf, familySpectra, entriesAt}
 use Rattle.spectra.specs.Operations.{sameNumbers}
 use Rattle.spectra.specs.declared.Kind.{Kind}
 use Rattle.spectra.proofs.Acceptance.{sameNumbers-refl, sameNumbers-true}
 use Rattle.method.specs.Method.{Pair}
 use Rattle.method.specs.Method.Pair.{nobody, pair}
-use Rattle.choosing.specs.Choosing.{decisionBy, alikePair, coefOf, signatureIn}
-use Rattle.choosing.specs.Choosing.Result.{chosen, alike}
+use Rattle.choosing.specs.Choosing.{Finding, findingBy, alikePair, signatureIn, chosenFrom, AtExit, found, atExit, countsIn}
 use Rattle.choosing.specs.declared.Purpose.the-variants.{Isolating}
 use Rattle.choosing.proofs.Bound.{signature-short, signature-below}
-use Rattle.locating.specs.Locating.{agreeing, location}
-use Rattle.demand.specs.Demand.{ValidJob, ValidPolarity, ValidList, Enough, ListedCircuit, SomeAlike, FirstAlike, readings, rest, isolating, returned, RefusedAlike, locating, Alone, Isolated, Located, Demand}
-use Rattle.demand.proofs.Locations.{location-none, nowhere-none, location-alone}
-use Rattle.demand.proofs.Answers.{indices-ok, chose-answer, chose-taken, located-answer}
-use Rattle.demand.proofs.Matches.{sameNumbers-eq, sameNumbers-ne}
+use Rattle.locating.specs.Locating.{Location, agreeing, location, locatedFrom}
+use Rattle.locating.specs.Locating.Location.{alone}
+use Rattle.demand.specs.Demand.{returned, ValidPolarity, ValidList, Enough, ListedCircuit, SomeAlike, FirstAlike, readings, Isolated, Located, Demand3, Demand}
+use Rattle.demand.proofs.Answers.{signature-taken, entries-back, indices-ok, chosen-opened, located-opened}
 use Rattle.demand.proofs.FirstPairs.{pair-first, some-paired, none-paired}
+use Rattle.demand.proofs.Locations.{location-none, nowhere-none, location-alone}
+use Rattle.demand.proofs.Matches.{sameNumbers-eq, sameNumbers-ne}
 use Rattle.demand.proofs.Signatures.{signed-each, signed-same}
 
-pub found-told : (found : Pair) (counts : Counts) (l : List ℕ) (a b : ℕ) → decisionBy found counts l .result ≡ alike a b → found ≡ pair a b
-found-told nobody counts l a b e = cc
-found-told (pair x y) counts l a b e = cc
+-- ---- locating
 
-module _ (s : List ℕ) (kind : Kind) (k : ℕ) (work : List ℕ) (j : Job) (read : ValidJob s j) (below : ValidPolarity j k) (enough : Enough j work) where
-  valid-job : Valid j
-  valid-job = reading-valid s j read
+module _ (F : Family) (kind : Kind) (k : ℕ) (work : List ℕ) (below : ValidPolarity F k) (enough : Enough F work) where
+  abbrev locate : List Entry → List ℕ → Answer Location
+  locate list numbers = leaves (locatedFrom F kind k list numbers (length work)) work .answer
 
-  abbrev signed : List ℕ
-  signed = signatureIn Isolating kind k j
-
-  told : isolating s kind k work .answer ≡ gives (decisionBy (alikePair Isolating j) (countsOf j) signed .result)
-  told = chose-answer s j kind k work read below enough Isolating
-
-  pub refused-alike : SomeAlike j → (a : ℕ) × (b : ℕ) × RefusedAlike s kind k work a b
-  refused-alike some =
-      let r = some-paired j valid-job some in
-      (r .0, r .1, told ∙ ap (λ (found : Pair). gives (decisionBy found (countsOf j) signed .result)) (r .2))
-
-  pub refused-first : (a b : ℕ) → RefusedAlike s kind k work a b → FirstAlike j a b
-  refused-first a b e = pair-first j valid-job a b (found-told (alikePair Isolating j) (countsOf j) signed a b (gives-same (sym told ∙ e)))
-
-  module _ (list numbers : List ℕ) where
+  module _ (list : List Entry) (numbers : List ℕ) where
     abbrev same : ℕ → Bool
-    same c = sameNumbers (readings kind k j list c) numbers
+    same c = sameNumbers (readings F kind k list c) numbers
 
-    located-result : ValidList j list → length list ≡ length numbers
-        → locating s kind k list numbers work ≡ gives (location (agreeing same (j .«fault_count» + 1)))
-    located-result valid paired = located-answer s j kind k work read below enough list numbers (indices-ok (j .inputs) list valid) paired
+    located-result : ValidList F list → length list ≡ length numbers → locate list numbers ≡ gives (location (agreeing kind k F list numbers))
+    located-result valid paired =
+        ap (λ (x : Answer (Fills Location)). leaves x work .answer)
+        (located-opened F kind k (length work) below enough list numbers (indices-ok (F .inputs) list (λ e m. valid e m .0)) paired)
 
-    pub located-as : ValidList j list → length list ≡ length numbers → Located s kind k work j list numbers
+    pub located-as : ValidList F list → length list ≡ length numbers → Located F kind k list numbers (locate list numbers)
     located-as valid paired =
         let answer = located-result valid paired in
         record {
           none-if = λ none.
-              answer
-              ∙ ap gives
-              (location-none same (j .«fault_count» + 1) (λ c h. sameNumbers-ne (readings kind k j list c) numbers (none c (omega arith))));
+              answer ∙ ap gives (location-none same (F .circuits) (λ c h. sameNumbers-ne (readings F kind k list c) numbers (none c h)));
           none-only = λ e c h g.
-              clash (sameNumbers-eq (readings kind k j list c) numbers g)
-              (nowhere-none same (j .«fault_count» + 1) (gives-same (sym answer ∙ e)) c (omega arith));
+              clash (sameNumbers-eq (readings F kind k list c) numbers g) (nowhere-none same (F .circuits) (gives-same (sym answer ∙ e)) c h);
           result = answer;
         }
 
-  pub located-alone : (list : List ℕ) → ValidList j list
-      → (c : ℕ) → ListedCircuit j c → ((d : ℕ) → ListedCircuit j d → readings kind k j list d ≡ readings kind k j list c → d ≡ c)
-      → Alone (locating s kind k list (readings kind k j list c) work) c
+  pub located-alone : (list : List Entry) → ValidList F list
+      → (c : ℕ) → ListedCircuit F c → ((d : ℕ) → ListedCircuit F d → readings F kind k list d ≡ readings F kind k list c → d ≡ c)
+      → locate list (readings F kind k list c) ≡ gives (alone c)
   located-alone list valid c h only =
-      let numbers = readings kind k j list c in
-      located-result list numbers valid (sym (length-map list (coefOf kind k j c)))
+      let numbers = readings F kind k list c in
+      located-result list numbers valid (sym (length-map list (coefOf kind k F c)))
       ∙ ap gives
-      (location-alone (same list numbers) (j .«fault_count» + 1) c (omega arith) (sameNumbers-refl numbers)
-      (λ d l t. only d (omega arith) (sameNumbers-true (readings kind k j list d) numbers t)))
+      (location-alone (same list numbers) (F .circuits) c h (sameNumbers-refl numbers)
+      (λ d l t. only d l (sameNumbers-true (readings F kind k list d) numbers t)))
 
-  module _ (none : SomeAlike j → ⊥) where
-    pub signed-told : isolating s kind k work .answer ≡ gives (chosen (countsOf j))
-    signed-told = told ∙ ap (λ (found : Pair). gives (decisionBy found (countsOf j) signed .result)) (none-paired j valid-job none)
+-- ---- choosing
 
-    pub signed-back : returned s kind k work ≡ signed
-    signed-back =
-        chose-taken s j kind k work read below enough Isolating
-        ∙ ap (λ (found : Pair). decisionBy found (countsOf j) signed .entries) (none-paired j valid-job none)
+-- a number is 15 where a pair is found, and else 0
+pub alike-number : (counts : Counts) (p : Pair) (list : List Entry) (memory : List ℕ) → found counts (findingBy p list) memory .number ≡ 15
+    → (a : ℕ) × (b : ℕ) × (p ≡ pair a b) × (found counts (findingBy p list) memory .pair ≡ pair a b)
+alike-number counts nobody list memory e = absurd (omega (arith, e))
+alike-number counts (pair a b) list memory e = (a, b, refl, refl)
 
-pub isolated : (s : List ℕ) (kind : Kind) (k : ℕ) (work other : List ℕ) (j : Job) → ValidJob s j → ValidPolarity j k → Enough j work → Enough j other
-    → (SomeAlike j → ⊥) → Isolated s kind k work other j
-isolated s kind k work other j read below enough enough-other none =
-    let back = signed-back s kind k work j read below enough none in
-    record {
-      comes-back = signed-told s kind k work j read below enough none;
-      by-method = back;
-      short = subst (λ (l : List ℕ). length l ≤ j .«fault_count») (sym back) (signature-short Isolating kind k j);
-      valid = subst (ValidList j) (sym back) (signature-below Isolating kind k j);
-      each-counts =
-          subst
-          (λ (l : List ℕ). (i : ℕ) → i < length l
-          → (a : ℕ) × (b : ℕ) × (a < b) × ListedCircuit j b × (readings kind k j (rest i l) a ≡ readings kind k j (rest i l) b))
-          (sym back) (signed-each kind k j);
-      named-alone =
-          subst (λ (l : List ℕ). (c : ℕ) → ListedCircuit j c → Alone (locating s kind k l (readings kind k j l c) other) c) (sym back)
-          (λ c h. located-alone s kind k other j read below enough-other (signatureIn Isolating kind k j) (signature-below Isolating kind k j) c h
-          (λ d l e. signed-same kind k j (reading-valid s j read) below none d c l h e));
-    }
+module _ (F : Family) (counts : Counts) (kind : Kind) (k : ℕ) (work other : List ℕ) (v : ValidFamily F) (one : F .outputs ≡ 1)
+    (below : ValidPolarity F k) (enough : Enough F work) (enough-other : Enough F other) where
+  abbrev isolate : AtExit
+  isolate = atExit counts (chosenFrom Isolating F kind k (length work)) work
+
+  abbrev signed : List Entry
+  signed = signatureIn Isolating kind k F
+
+  -- the work at exit
+  abbrev left : List ℕ
+  left = familySpectra kind k F ++ drop (length (familySpectra kind k F)) work
+
+  told : isolate ≡ found counts (findingBy (alikePair Isolating F) signed) left
+  told = ap (λ (x : Answer (Fills Finding)). atExit counts x work) (chosen-opened F kind k (length work) below enough Isolating)
+
+  refused-alike : SomeAlike F → isolate .number ≡ 15
+  refused-alike some =
+      let r = some-paired F some in
+      ap (λ (x : AtExit). x .number) told ∙ ap (λ (p : Pair). found counts (findingBy p signed) left .number) (r .2)
+
+  refused-first : isolate .number ≡ 15 → (a : ℕ) × (b : ℕ) × (isolate .pair ≡ pair a b) × FirstAlike F a b
+  refused-first e =
+      let r = alike-number counts (alikePair Isolating F) signed left (sym (ap (λ (x : AtExit). x .number) told) ∙ e) in
+      (r .0, r .1, ap (λ (x : AtExit). x .pair) told ∙ r .3, pair-first F (r .0) (r .1) (r .2))
+
+  valid-signature : ValidList F signed
+  valid-signature = signature-below Isolating kind k F
+
+  pub isolated : (SomeAlike F → ⊥) → Isolated F kind k isolate (locate F kind k other below enough-other) signed
+  isolated none =
+      let so : isolate ≡ found counts (findingBy nobody signed) left = told ∙ ap (λ (p : Pair). found counts (findingBy p signed) left) (none-paired F none) in
+      record {
+        comes-back = (
+          ap (λ (x : AtExit). x .number) so,
+          ap (λ (x : AtExit). returned (x .signature)) so
+              ∙ ap entriesAt (signature-taken (map (λ (e : Entry). e .index) signed))
+              ∙ entries-back signed (λ e m. subst (λ (x : ℕ). e .output < x) one (valid-signature e m .1)),
+        );
+        by-method = refl;
+        short = omega (arith, signature-short Isolating kind k F (v .good));
+        valid = valid-signature;
+        each-counts = signed-each F kind k;
+        named-alone = λ c h.
+            located-alone F kind k other below enough-other signed valid-signature c h (λ d l e. signed-same F kind k v below none d c l h e);
+      }
+
+  pub demand-family : Demand3 F kind k isolate (locate F kind k other below enough-other)
+  demand-family =
+      record {
+        alike-if = refused-alike;
+        alike-only = refused-first;
+        otherwise = λ none. (signed, isolated none);
+        located = located-as F kind k other below enough-other;
+      }
+
+-- ---- a job
 
 pub demand-3 : Demand
 demand-3 s kind k work other j read below enough enough-other =
-    record {
-      alike-if = refused-alike s kind k work j read below enough;
-      alike-only = refused-first s kind k work j read below enough;
-      otherwise = isolated s kind k work other j read below enough enough-other;
-      located = located-as s kind k other j read below enough-other;
-    }
+    subst
+    (λ (x : Answer Job).
+    Demand3 (familyOf j) kind k (atExit (countsIn x) (onward x (λ i. chosenFrom Isolating (familyOf i) kind k (length work))) work)
+    (λ list numbers. leaves (onward x (λ i. locatedFrom (familyOf i) kind k list numbers (length other))) other .answer))
+    (sym read)
+    (demand-family (familyOf j) (countsIn (gives j)) kind k work other (family-valid j (reading-valid s j read)) refl below enough enough-other)

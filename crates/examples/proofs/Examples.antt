@@ -2,20 +2,22 @@
 use mathlib.Core.Path.{_≡_, refl}
 use mathlib.Core.Bool.{true}
 use Rattle.bits.specs.Bits.{bitsOf, valueFrom, valueOf, stringOf, bytesTo, bytesOf}
+use Rattle.bits.specs.Blocks.{block}
 use Rattle.bits.specs.Field.{spareOnly}
 use Rattle.bits.specs.Parser.{field}
 use Rattle.job.specs.Layout.{maxInputs, maxGates, maxFaults, inputCountBits, gateCountBits, gateKindBits, lineBits, faultCountBits, faultKindBits}
 use Rattle.job.specs.Record.{noGates, noFaults, emptyJob}
 use Rattle.reading.specs.Reading.{entryFields, gate, fault, entriesFrom, spare, fromEnd, fromFaults, fromFaultCount, fromOutput, fromGates, wholeJob, reading}
 use Rattle.bits.specs.Packed.{tabulate, packed, entry}
-use Rattle.spectra.specs.Operations.{zeroFrom, tableOk, spectrumOf, sameNumbers, isSpectrum, undoneOf, circuitSpectra}
+use Rattle.spectra.specs.Operations.{zeroFrom, tableOk, spectrumOf, sameNumbers, isSpectrum, undoneOf}
 use Rattle.spectra.specs.Spectrum.{inside, sumTo, subsetSum, coefficient, spectrum, recovered}
 use Rattle.gates.specs.Answers.{answers, answer}
 use Rattle.gates.specs.Values.{inputValue, bridged}
-use Rattle.tables.specs.Circuit.{gateValue, ownValue, valuesTo, fixedBy, fixingOf, circuitEntry, circuitTable}
+use Rattle.tables.specs.Circuit.{gateValue, ownValue, valuesTo, fixedBy, fixingOf, circuitEntry}
+use Rattle.tables.specs.Family.{eachBelow}
 use Rattle.bits.specs.Passing.{passing}
 use Rattle.method.specs.Method.{without, someBelow, agree, somePair, useful, full, takes, drops, signature, pairWith, pairFrom}
-use Rattle.choosing.specs.Choosing.{scanTo, chosenOf}
+use Rattle.choosing.specs.Choosing.{scanTo, outputsAt, entriesOf, chosenFrom}
 use lib.Count.{onesIn, ones}
 use Rattle.chooser.specs.Matrix.{maxSignature, zeros}
 use Rattle.report_text.specs.Text.{inputsWord, gatesWord, faultsWord, signatureWord, digits, decimal, numbersText, circuitLines}
@@ -57,8 +59,8 @@ unfolding
     fromOutput
     fromGates
     wholeJob
-    circuitSpectra maxSignature zeros inputsWord gatesWord faultsWord signatureWord digits decimal numbersText circuitLines
-    answers answer inputValue gateValue ownValue valuesTo bridged fixedBy fixingOf circuitEntry circuitTable
-    passing without someBelow agree somePair useful full takes drops signature pairWith pairFrom scanTo chosenOf onesIn ones
+    block eachBelow outputsAt entriesOf maxSignature zeros inputsWord gatesWord faultsWord signatureWord digits decimal numbersText circuitLines
+    answers answer inputValue gateValue ownValue valuesTo bridged fixedBy fixingOf circuitEntry
+    passing without someBelow agree somePair useful full takes drops signature pairWith pairFrom scanTo chosenFrom onesIn ones
     reading bytesTo bytesOf tabulate packed entry zeroFrom tableOk spectrumOf sameNumbers isSpectrum undoneOf inside sumTo subsetSum coefficient spectrum recovered
 examples-pass = refl

@@ -8,6 +8,7 @@ use Prim.Native.Nat.{ℕ, _^_}
 use mathlib.Core.Bool.{Bool, true, false, _&&_}
 use mathlib.Core.List.{List, [], _∷_}
 use lib.Dec.{eqb}
+use lib.ListN.{take}
 use Rattle.bits.specs.Answer.{Answer, Fills}
 use Rattle.bits.specs.Answer.Answer.{gives, refused}
 use Rattle.job.specs.declared.Job.{Job}
@@ -15,8 +16,9 @@ use Rattle.reading.specs.Reading.{reading}
 use Rattle.spectra.specs.Operations.{spectrumOf, undoneOf, sameNumbers}
 use Rattle.spectra.specs.declared.Kind.{Kind}
 use Rattle.spectra.specs.declared.Kind.the-variants.{Rm, Mrm}
-use Rattle.choosing.specs.Choosing.{Result, Decision, chosenOf}
-use Rattle.choosing.specs.Choosing.Result.{chosen, alike}
+use Rattle.method.specs.Method.{Pair}
+use Rattle.method.specs.Method.Pair.{nobody, pair}
+use Rattle.choosing.specs.Choosing.{AtExit, chosenOf, countsIn, atExit}
 use Rattle.choosing.specs.declared.Purpose.{Purpose}
 use Rattle.choosing.specs.declared.Purpose.the-variants.{Isolating, Detecting}
 use Rattle.chooser.specs.Matrix.{zeros}
@@ -35,8 +37,8 @@ pub data Example : Type 0 where
   undoes-not : ℕ → List ℕ → Kind → ℕ → ℕ → Example
   -- the signature chosen for the job that the bytes give, for a purpose and of a kind, in polarity 0
   chooses : Purpose → List ℕ → Kind → List ℕ → Example
-  -- or the pair of circuits that are alike
-  chooses-not : Purpose → List ℕ → Kind → ℕ → ℕ → Example
+  -- or the refusal's number, with the pair of circuits that are alike
+  chooses-not : Purpose → List ℕ → Kind → ℕ → ℕ → ℕ → Example
   -- the report program prints this text for the bytes
   prints : List ℕ → List ℕ → Example
 
@@ -52,17 +54,19 @@ abbrev pub fillsWith : Answer (Fills (Unit {0})) → List ℕ → Bool
 fillsWith (gives w) numbers = sameNumbers (w .filled) numbers
 fillsWith (refused e) numbers = false
 
-abbrev pub isSignature : Result → List ℕ → List ℕ → Bool
-isSignature (chosen e) entries numbers = sameNumbers entries numbers
-isSignature (alike a b) entries numbers = false
+-- what choosing answers and leaves, in polarity 0, with 16 places of work
+abbrev pub chosenAt : Purpose → List ℕ → Kind → AtExit
+chosenAt purpose s kind = atExit (countsIn (reading s)) (chosenOf purpose s kind 0 16) (zeros 16)
 
-abbrev pub isPair : Result → ℕ → ℕ → Bool
-isPair (chosen e) a b = false
-isPair (alike c d) a b = eqb c a && eqb d b
+abbrev pub isSignature : AtExit → List ℕ → Bool
+isSignature x numbers = eqb (x .number) 0 && sameNumbers (take (x .signature .count) (x .signature .entries)) numbers
 
-abbrev pub choosesSo : Answer (Fills Decision) → (Decision → Bool) → Bool
-choosesSo (gives w) test = test (w .value)
-choosesSo (refused e) test = false
+abbrev pub isPair : Pair → ℕ → ℕ → Bool
+isPair nobody a b = false
+isPair (pair c d) a b = eqb c a && eqb d b
+
+abbrev pub isAlike : AtExit → ℕ → ℕ → ℕ → Bool
+isAlike x e a b = eqb (x .number) e && isPair (x .pair) a b
 
 -- the lent memory has just the room that is needed, 2 ^ n places or bytes being enough
 unfoldable pub passes : Example → Bool
@@ -71,9 +75,9 @@ passes (counts s n g f) = hasCounts (reading s) n g f
 passes (transforms n s kind k numbers) = fillsWith (spectrumOf n s kind k (2 ^ n)) numbers
 passes (undoes n numbers kind k s) = fillsWith (undoneOf n numbers kind k (2 ^ n)) s
 passes (undoes-not n numbers kind k e) = isRefused (undoneOf n numbers kind k (2 ^ n)) e
-passes (chooses purpose s kind numbers) = choosesSo (chosenOf purpose s kind 0 16) (λ c. isSignature (c .result) (c .entries) numbers)
-passes (chooses-not purpose s kind a b) = choosesSo (chosenOf purpose s kind 0 16) (λ c. isPair (c .result) a b)
-passes (prints s text) = sameNumbers (reportText s (zeros 16)) text
+passes (chooses purpose s kind numbers) = isSignature (chosenAt purpose s kind) numbers
+passes (chooses-not purpose s kind e a b) = isAlike (chosenAt purpose s kind) e a b
+passes (prints s text) = sameNumbers (reportText s 16) text
 
 unfoldable pub allPass : List Example → Bool
 allPass [] = true
@@ -123,7 +127,7 @@ examples =
     -- P9
     ∷ chooses Detecting jobA Rm (3 ∷ [])
     -- P10
-    ∷ chooses-not Isolating (0x20 ∷ 0x20 ∷ 0x00 ∷ 0x10 ∷ 0x40 ∷ 0xc0 ∷ 0x00 ∷ 0x80 ∷ []) Mrm 0 1
+    ∷ chooses-not Isolating (0x20 ∷ 0x20 ∷ 0x00 ∷ 0x10 ∷ 0x40 ∷ 0xc0 ∷ 0x00 ∷ 0x80 ∷ []) Mrm 15 0 1
     -- the report program on job A
     ∷ prints jobA textA
     ∷ []

@@ -1,5 +1,10 @@
-// The table of answers, and the gate step over packed tables. Each function makes sure by itself that what it reads and writes lies where it should, and else
-// does nothing.
+// The table of answers, and the gate step over packed tables. Each function makes sure by itself that what it reads and
+// writes lies where it should, and else does nothing.
+//
+// A row of four answers becomes a polynomial over bytes, constant ^ (first & x) ^ (second & y) ^ (both & x & y), once
+// for each kind of gate: reading the constant table in the loop over bytes would write it to the stack each time. The
+// loop is one for all kinds (`combine_bytes`), and the only place that a faster gate step would change. The polynomial
+// is cut to the bits that are entries, so that spare bits come out 0 whatever the operands hold.
 ghost use mathlib.Core.Path.{_≡_};
 ghost use mathlib.Core.Bool.{cond};
 ghost use Prim.Native.Nat.{_+_, _≤_, _<_};

@@ -1,12 +1,14 @@
 -- What the operations below promise, in the numbers of the exports (specs/Exports.antt).
 --
---   kind-mrm, purpose-detecting            a number other than 0
---   numbered-by, numbered-kind             the number of success or of a refusal, beside the memory; the same of an operation with a kind
---   counts-told                            the counts of a job that `read` tells
---   length-bytes, length-refused           the length that `write` tells, and its refusal
---   rewritten-unread, rewritten-onward     a job rewritten: reading's refusals; what writing answers and leaves
---   found-refused, chosen-by               a refusal of choosing; what choosing answers and leaves
---   location-refused, located-by           a refusal of locating; what locating answers and leaves
+--   kind-mrm, purpose-detecting                    a number other than 0
+--   numbered-by, numbered-kind                     the number of success or of a refusal, beside the memory; the same of an operation with a kind
+--   counts-told                                    the counts of a job that `read` tells
+--   length-bytes, length-refused                   the length that `write` tells, and its refusal
+--   rewritten-unread, rewritten-onward             a job rewritten: reading's refusals; what writing answers and leaves
+--   toldBy, choiceBy                               what a verdict of choosing tells, and the answer with it
+--   verdict-done, verdict-alike, verdict-refused   each verdict
+--   chosen-by                                      what choosing answers and leaves
+--   location-refused, located-by                   a refusal of locating; what locating answers and leaves
 use Prim.Native.Nat.{ℕ, zero, suc}
 use mathlib.Core.Path.{_≡_, refl, sym, ap, ap₂, _∙_}
 use mathlib.Core.List.{List}
@@ -25,10 +27,11 @@ use Rattle.writing.specs.Writing.{written, writtenTold}
 use Rattle.writing.specs.declared.Written.{Written}
 use Rattle.writing.specs.declared.Written.the-variants as writing
 use Rattle.tables.proofs.Answers.{kept}
+use Rattle.tables.specs.declared.Counts.{Counts}
 use Rattle.spectra.specs.declared.Kind.{Kind}
 use Rattle.spectra.specs.declared.Kind.the-variants.{Mrm}
 use Rattle.chooser.specs.declared.Signature.{Signature}
-use Rattle.choosing.specs.Choosing.{AtExit, verdictTold}
+use Rattle.choosing.specs.Choosing.{AtExit, verdictNumber, verdictPair}
 use Rattle.choosing.specs.declared.Purpose.{Purpose}
 use Rattle.choosing.specs.declared.Purpose.the-variants.{Detecting}
 use Rattle.choosing.specs.declared.Verdict.{Verdict}
@@ -36,7 +39,8 @@ use Rattle.choosing.specs.declared.Verdict.the-variants as choosing
 use Rattle.locating.specs.Locating.{Location, locatedTold}
 use Rattle.locating.specs.declared.Located.{Located}
 use Rattle.locating.specs.declared.Located.the-variants as locating
-use Rattle.horncurlew.specs.Exports.{kindOf, purposeOf, numberOf, numbered, jobOf, lengthOf, rewrittenOf, foundOf, choiceOf, locationOf}
+use Rattle.horncurlew.specs.Exports.{kindOf, purposeOf, numberOf, numbered, jobOf, lengthOf, rewrittenOf, firstOf, secondOf, choiceOf, locationOf}
+use Rattle.horncurlew.specs.declared.Told as verdicts
 use Rattle.horncurlew.specs.declared.JobAnswer.{JobAnswer}
 use Rattle.horncurlew.specs.declared.LengthAnswer.{LengthAnswer}
 use Rattle.horncurlew.specs.declared.ChoiceAnswer.{ChoiceAnswer}
@@ -104,18 +108,45 @@ module _ (s out : List ℕ) where
       → (r ≡ lengthOf (leaves (rewrittenOf s (length out)) out .answer)) × (after ≡ leaves (rewrittenOf s (length out)) out .memory)
   rewritten-onward j w p e h = lengths (writtenTold w) (leaves (rewrittenOf s (length out)) out) (e ∙ rw p) h
 
-pub found-refused : {n : ℕ} {cause : Refusal} (v : Verdict) (s : Signature) → v ≡ choosing.Refused cause → n ≡ number cause
-    → record { number = n; first = 0; second = 0; inputs = 0; gates = 0; faults = 0; count = s .count; entries = s .entries } ≡ foundOf (verdictTold v) s
-found-refused v s e h =
-    ap (λ (m : ℕ). record { number = m; first = 0; second = 0; inputs = 0; gates = 0; faults = 0; count = s .count; entries = s .entries }) h
-    ∙ ap (λ (x : Verdict). foundOf (verdictTold x) s) (sym e)
+-- what a verdict tells
+abbrev pub toldBy : Verdict → verdicts.Told
+toldBy v = record { number = verdictNumber v; first = firstOf (verdictPair v); second = secondOf (verdictPair v) }
 
-pub chosen-by : {after : List ℕ} {signature : Signature} {purpose : Purpose} {kind : Kind} {r : ChoiceAnswer} (f : Purpose → Kind → AtExit) (p k : ℕ) (v : Verdict)
-    → purpose ≡ purposeOf p → kind ≡ kindOf k → record { answer = verdictTold v; signature = signature; memory = after } ≡ f purpose kind
-    → r ≡ foundOf (verdictTold v) signature → (r ≡ choiceOf (f (purposeOf p) (kindOf k))) × (after ≡ f (purposeOf p) (kindOf k) .memory)
-chosen-by f p k v hp hk e h =
-    let q = e ∙ ap₂ f hp hk in
-    (h ∙ ap (λ (x : AtExit). choiceOf x) q, ap (λ (x : AtExit). x .memory) q)
+-- the answer that it gives, with the counts and the signature beside it
+abbrev pub choiceBy : verdicts.Told → Counts → Signature → ChoiceAnswer
+choiceBy t counts signature =
+    record {
+      number = t .number;
+      first = t .first;
+      second = t .second;
+      inputs = counts .inputs;
+      gates = counts .gates;
+      faults = counts .faults;
+      count = signature .count;
+      entries = signature .entries;
+    }
+
+pub verdict-done : (v : Verdict) → v ≡ choosing.Done → record { number = 0; first = 0; second = 0 } ≡ toldBy v
+verdict-done v e = ap (λ (x : Verdict). toldBy x) (sym e)
+
+pub verdict-alike : {n a b : ℕ} (v : Verdict) → v ≡ choosing.Alike a b → n ≡ 15 → record { number = n; first = a; second = b } ≡ toldBy v
+verdict-alike {a = a} {b = b} v e h =
+    ap (λ (m : ℕ). record { number = m; first = a; second = b }) h ∙ ap (λ (x : Verdict). toldBy x) (sym e)
+
+pub verdict-refused : {n : ℕ} {cause : Refusal} (v : Verdict) → v ≡ choosing.Refused cause → n ≡ number cause
+    → record { number = n; first = 0; second = 0 } ≡ toldBy v
+verdict-refused v e h =
+    ap (λ (m : ℕ). record { number = m; first = 0; second = 0 }) h ∙ ap (λ (x : Verdict). toldBy x) (sym e)
+
+pub chosen-by : {after : List ℕ} {counts : Counts} {signature : Signature} {purpose : Purpose} {kind : Kind} {r : ChoiceAnswer} (f : Purpose → Kind → AtExit) (p k : ℕ)
+    (v : Verdict) {t : verdicts.Told} → purpose ≡ purposeOf p → kind ≡ kindOf k
+    → record { number = verdictNumber v; pair = verdictPair v; counts = counts; signature = signature; memory = after } ≡ f purpose kind
+    → t ≡ toldBy v → r ≡ choiceBy t counts signature → (r ≡ choiceOf (f (purposeOf p) (kindOf k))) × (after ≡ f (purposeOf p) (kindOf k) .memory)
+chosen-by {counts = counts} {signature = signature} f p k v hp hk e ht h =
+    let q = e ∙ ap₂ f hp hk in (
+      h ∙ ap (λ (x : verdicts.Told). choiceBy x counts signature) ht ∙ ap (λ (x : AtExit). choiceOf x) q,
+      ap (λ (x : AtExit). x .memory) q,
+    )
 
 pub location-refused : {n : ℕ} {cause : Refusal} (v : Located) → v ≡ locating.Refused cause → n ≡ number cause
     → record { number = n; agreeing = 0; circuit = 0 } ≡ locationOf (locatedTold v)

@@ -1,11 +1,13 @@
 -- Believed: what the exported operations answer: the document's number, 0 for success, and its values; unused places are 0.
 --
+--   version                the version of the exported functions, structs and numbers
 --   kindOf, purposeOf      0 is RM and isolating, any other number MRM and detecting
 --   numberOf               the number of an answer
 --   Numbered, numbered     the number, and the lent memory at exit
 --   jobOf                  a job's counts
 --   rewrittenOf            a job read, and written again
---   lengthOf, foundOf, choiceOf, locationOf, reportOf   the answers of the operations that give values
+--   chosenAt               what choosing answers and leaves for a job
+--   lengthOf, choiceOf, locationOf, reportOf   the answers of the operations that give values
 use Prim.Native.Nat.{ℕ, zero, suc}
 use mathlib.Core.List.{List}
 use lib.ListN.{length}
@@ -16,9 +18,9 @@ use Rattle.reading.specs.Reading.{reading}
 use Rattle.writing.specs.Writing.{written}
 use Rattle.spectra.specs.declared.Kind.{Kind}
 use Rattle.spectra.specs.declared.Kind.the-variants.{Rm, Mrm}
-use Rattle.chooser.specs.declared.Signature.{Signature}
-use Rattle.choosing.specs.Choosing.{Result, AtExit}
-use Rattle.choosing.specs.Choosing.Result.{chosen, alike}
+use Rattle.method.specs.Method.{Pair}
+use Rattle.method.specs.Method.Pair.{nobody, pair}
+use Rattle.choosing.specs.Choosing.{AtExit, chosenOf, countsIn, atExit}
 use Rattle.choosing.specs.declared.Purpose.{Purpose}
 use Rattle.choosing.specs.declared.Purpose.the-variants.{Isolating, Detecting}
 use Rattle.locating.specs.Locating.{Location}
@@ -30,6 +32,9 @@ use Rattle.horncurlew.specs.declared.JobAnswer.{JobAnswer}
 use Rattle.horncurlew.specs.declared.LengthAnswer.{LengthAnswer}
 use Rattle.horncurlew.specs.declared.ChoiceAnswer.{ChoiceAnswer}
 use Rattle.horncurlew.specs.declared.LocationAnswer.{LocationAnswer}
+
+abbrev pub version : ℕ
+version = 1
 
 abbrev pub kindOf : ℕ → Kind
 kindOf zero = Rm
@@ -62,25 +67,31 @@ lengthOf (refused k) = record { number = k; length = 0 }
 abbrev pub rewrittenOf : List ℕ → ℕ → Answer (Fills ℕ)
 rewrittenOf s room = onward (reading s) (λ j. written j room)
 
-abbrev pub foundOf : Answer Result → Signature → ChoiceAnswer
-foundOf (gives (chosen c)) s =
-    record {
-      number = 0;
-      first = 0;
-      second = 0;
-      inputs = c .inputs;
-      gates = c .gates;
-      faults = c .faults;
-      count = s .count;
-      entries = s .entries;
-    }
-foundOf (gives (alike a b)) s =
-    record { number = 15; first = a; second = b; inputs = 0; gates = 0; faults = 0; count = s .count; entries = s .entries }
-foundOf (refused k) s =
-    record { number = k; first = 0; second = 0; inputs = 0; gates = 0; faults = 0; count = s .count; entries = s .entries }
+-- the circuits of a pair, 0 where there is none
+abbrev pub firstOf : Pair → ℕ
+firstOf nobody = 0
+firstOf (pair a b) = a
+
+abbrev pub secondOf : Pair → ℕ
+secondOf nobody = 0
+secondOf (pair a b) = b
+
+-- what choosing answers and leaves for a job
+abbrev pub chosenAt : Purpose → List ℕ → Kind → ℕ → List ℕ → AtExit
+chosenAt purpose s kind k work = atExit (countsIn (reading s)) (chosenOf purpose s kind k (length work)) work
 
 abbrev pub choiceOf : AtExit → ChoiceAnswer
-choiceOf c = foundOf (c .answer) (c .signature)
+choiceOf c =
+    record {
+      number = c .number;
+      first = firstOf (c .pair);
+      second = secondOf (c .pair);
+      inputs = c .counts .inputs;
+      gates = c .counts .gates;
+      faults = c .counts .faults;
+      count = c .signature .count;
+      entries = c .signature .entries;
+    }
 
 -- the number of agreeing circuits, and the lowest of them
 abbrev pub locationOf : Answer Location → LocationAnswer

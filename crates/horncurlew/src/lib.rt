@@ -1,24 +1,29 @@
-// The operations for programs in C and Rust: include/horncurlew.h declares them. Answers are numbers: document 01's number of a refusal, 0
-// for success, then the values, unused places 0. A kind is 0 for RM and any other number for MRM; a purpose 0 for isolating and any other
-// number for detecting.
+// The operations for programs in C and Rust: include/horncurlew.h declares them. Answers are numbers: document 01's
+// number of a refusal, 0 for success, then the values, unused places 0. A kind is 0 for RM and any other number for
+// MRM; a purpose 0 for isolating and any other number for detecting.
 ghost use mathlib.Core.Path.{_≡_};
 ghost use lib.ListN.{length};
 ghost use Rattle.bits.specs.Answer.{leaves, outcome};
 ghost use Rattle.reading.specs.Reading.{reading};
 ghost use Rattle.tables.specs.Operations.{tableOf};
 ghost use Rattle.spectra.specs.Operations.{spectrumOf, undoneOf};
-ghost use Rattle.choosing.specs.Choosing.{chosenOf, atExit, verdictTold};
+ghost use Rattle.choosing.specs.Choosing.{verdictNumber, verdictPair};
 ghost use Rattle.locating.specs.Locating.{locatedOf, locatedTold};
 ghost use Rattle.report_text.specs.Text.{reported};
-ghost use Rattle.horncurlew.specs.Exports.{reportOf, kindOf, purposeOf, numberOf, numbered, jobOf, lengthOf, rewrittenOf, foundOf, choiceOf, locationOf};
+ghost use Rattle.horncurlew.specs.Exports.{reportOf, kindOf, purposeOf, numberOf, numbered, jobOf, lengthOf, rewrittenOf, chosenAt, firstOf, secondOf, choiceOf, locationOf, version};
 use bits::Outcome;
+use bits::Refusal;
 use chooser::Signature;
 use choosing::Purpose;
 use choosing::Verdict;
 use locating::Located;
 use report_text::Reported;
 use spectra::Kind;
+use tables::Counts;
 use writing::Written;
+
+// Raised with every change of an exported function, struct or number; HORNCURLEW_VERSION in include/horncurlew.h is the same number.
+const VERSION: usize = 1;
 
 // The counts of a job.
 #[repr(C)]
@@ -89,6 +94,14 @@ fn number_of(answer: Outcome) -> usize
         Outcome::Done => 0,
         Outcome::Refused(cause) => cause.number(),
     }
+}
+
+// The version of what is exported here.
+#[no_mangle]
+pub extern "C" fn horncurlew_version() -> usize
+    ensures { λ r. ⌜ r ≡ version ⌝ }
+{
+    VERSION
 }
 
 // Whether the bytes are a job, and its counts.
@@ -169,42 +182,49 @@ pub extern "C" fn horncurlew_undo(
     number_of(outcome)
 }
 
-fn choice_of(verdict: Verdict, signature: Signature) -> ChoiceAnswer
-    ensures { λ r. ⌜ r ≡ foundOf (verdictTold verdict) signature ⌝ }
+// A number and two circuits, 0 where there is no pair.
+struct Told {
+    number: usize,
+    first: usize,
+    second: usize,
+}
+
+fn told_of(verdict: Verdict) -> Told
+    ensures { λ r. ⌜ r ≡ record { number = verdictNumber verdict; first = firstOf (verdictPair verdict); second = secondOf (verdictPair verdict) } ⌝ }
 {
-    let count = signature.count;
-    let entries = signature.entries;
     match verdict {
-        Verdict::Done(counts) => ChoiceAnswer {
+        Verdict::Done => Told {
             number: 0,
             first: 0,
             second: 0,
-            inputs: counts.inputs,
-            gates: counts.gates,
-            faults: counts.faults,
-            count,
-            entries,
         },
-        Verdict::Alike(first, second) => ChoiceAnswer {
-            number: 15,
+        Verdict::Alike(first, second) => Told {
+            number: Refusal::Alike.number(),
             first,
             second,
-            inputs: 0,
-            gates: 0,
-            faults: 0,
-            count,
-            entries,
         },
-        Verdict::Refused(cause) => ChoiceAnswer {
+        Verdict::Refused(cause) => Told {
             number: cause.number(),
             first: 0,
             second: 0,
-            inputs: 0,
-            gates: 0,
-            faults: 0,
-            count,
-            entries,
         },
+    }
+}
+
+fn choice_of(told: Told, counts: Counts, signature: Signature) -> ChoiceAnswer
+    ensures { λ r. ⌜ r ≡ record { number = told .number; first = told .first; second = told .second; inputs = counts .inputs; gates = counts .gates; faults = counts .faults; count = signature .count; entries = signature .entries } ⌝ }
+{
+    let count = signature.count;
+    let entries = signature.entries;
+    ChoiceAnswer {
+        number: told.number,
+        first: told.first,
+        second: told.second,
+        inputs: counts.inputs,
+        gates: counts.gates,
+        faults: counts.faults,
+        count,
+        entries,
     }
 }
 
@@ -217,11 +237,11 @@ pub extern "C" fn horncurlew_choose(
     polarity: usize,
     work: &mut [u16],
 ) -> ChoiceAnswer
-    ensures { λ r. ⌜ (r ≡ choiceOf (atExit (chosenOf (purposeOf purpose) (now (bytes .entry)) (kindOf kind) polarity (length (now (work .entry)))) (now (work .entry)))) × (now (work .exit) ≡ atExit (chosenOf (purposeOf purpose) (now (bytes .entry)) (kindOf kind) polarity (length (now (work .entry)))) (now (work .entry)) .memory) ⌝ }
+    ensures { λ r. ⌜ (r ≡ choiceOf (chosenAt (purposeOf purpose) (now (bytes .entry)) (kindOf kind) polarity (now (work .entry)))) × (now (work .exit) ≡ chosenAt (purposeOf purpose) (now (bytes .entry)) (kindOf kind) polarity (now (work .entry)) .memory) ⌝ }
 {
     let chosen = choosing::choose(bytes, purpose_of(purpose), kind_of(kind), polarity, work);
     let verdict = chosen.verdict;
-    choice_of(verdict, chosen.signature)
+    choice_of(told_of(verdict), chosen.counts, chosen.signature)
 }
 
 fn location_of(located: Located) -> LocationAnswer

@@ -1,4 +1,8 @@
 // A job as a record: a circuit and its list of single faults (document 01, "Job layout").
+//
+// Lines and counts are bytes, so that the record, which goes by value from stage to stage, is half a kilobyte. A
+// one-line gate has one line, and a stuck fault too. The first case of each enum is the unused entry's, which is the
+// value that a list gives past its end.
 ghost use mathlib.Core.Path.{_≡_};
 ghost use Rattle.job.specs.Check.{faultLineOk};
 ghost use Rattle.job.specs.Record.{gateKind, gateA, gateB, gateOf, faultKind, faultA, faultB, faultOf, emptyJob};
@@ -23,6 +27,20 @@ pub const LINE_BITS: usize = 7;
 pub const FAULT_COUNT_BITS: usize = 6;
 
 pub const FAULT_KIND_BITS: usize = 2;
+
+const COUNT_BITS: usize = INPUT_COUNT_BITS + GATE_COUNT_BITS + FAULT_COUNT_BITS;
+
+const GATE_BITS: usize = GATE_KIND_BITS + 2 * LINE_BITS;
+
+const FAULT_BITS: usize = FAULT_KIND_BITS + 2 * LINE_BITS;
+
+// The bytes of the longest job: counts, gates, output line and faults.
+pub const MAX_JOB_BYTES: usize = (COUNT_BITS
+    + MAX_GATES * GATE_BITS
+    + LINE_BITS
+    + MAX_FAULTS * FAULT_BITS
+    + 7)
+    / 8;
 
 // The six kinds of gate that read two lines.
 pub enum BinaryKind {

@@ -1,5 +1,6 @@
 pub mod Answers
 pub mod Comparison
+pub mod Families
 pub mod Indices
-pub mod JobTables
+pub mod Preparation
 pub mod Scans

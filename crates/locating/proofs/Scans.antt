@@ -23,15 +23,15 @@ use Rattle.bits.specs.Passing.{passing}
 use Rattle.bits.proofs.Passing.{at-most}
 use Rattle.bits.specs.Answer.Answer.{gives}
 use Rattle.spectra.specs.Operations.{sameNumbers}
-use Rattle.locating.specs.Locating.{location, agreeing}
+use Rattle.locating.specs.Locating.{location}
 use Rattle.locating.specs.Locating.Location.{alone, several, nowhere}
 use Rattle.locating.specs.Scanning.{locationOf, numbersAt, workAgrees}
 
 pub record Scanned (p : ℕ → Bool) (rows c lowest count : ℕ) : Type 0 where
   pub within : c ≤ rows
   pub few : count ≤ c
-  pub counts : count ≡ length (agreeing p c)
-  pub first : lowest ≡ getD (agreeing p c) 0 0
+  pub counts : count ≡ length (passing p c)
+  pub first : lowest ≡ getD (passing p c) 0 0
 
 length-more : (l : List ℕ) (u : Bool) (c : ℕ) → length (l ++ cond u (c ∷ []) []) ≡ length l + cond u 1 0
 length-more l true c = length-append l (c ∷ [])
@@ -57,10 +57,10 @@ scanned-next {p} {rows} {c} {lowest} {count} {lowest'} {count'} u w h e le ce =
       few = omega (arith, w .few);
       counts =
           ce ∙ ap₂ (λ (x : ℕ) (t : Bool). x + cond t 1 0) (w .counts) e
-          ∙ sym (length-more (agreeing p c) (p c) c) ∙ ap (λ (x : ℕ). length (agreeing p x)) (sym (add-one c));
+          ∙ sym (length-more (passing p c) (p c) c) ∙ ap (λ (x : ℕ). length (passing p x)) (sym (add-one c));
       first =
           le ∙ (λ i. cond (e i && eqb (w .counts i) 0) c (w .first i))
-          ∙ sym (first-more (agreeing p c) (p c) c) ∙ ap (λ (x : ℕ). getD (agreeing p x) 0 0) (sym (add-one c));
+          ∙ sym (first-more (passing p c) (p c) c) ∙ ap (λ (x : ℕ). getD (passing p x) 0 0) (sym (add-one c));
     }
 
 location-of : (l : List ℕ) → locationOf (getD l 0 0) (length l) ≡ location l
@@ -69,11 +69,11 @@ location-of (c ∷ []) = refl
 location-of (c ∷ d ∷ more) = refl
 
 pub scanned-all : {p : ℕ → Bool} {rows c lowest count : ℕ} → Scanned p rows c lowest count → rows ≤ c
-    → gives (locationOf lowest count) ≡ gives (location (agreeing p rows))
+    → gives (locationOf lowest count) ≡ gives (location (passing p rows))
 scanned-all {p} {rows} {c} w h =
     let e : c ≡ rows = omega (arith, w .within) in
     ap gives
-    (ap₂ locationOf (w .first) (w .counts) ∙ location-of (agreeing p c) ∙ ap (λ (x : ℕ). location (agreeing p x)) e)
+    (ap₂ locationOf (w .first) (w .counts) ∙ location-of (passing p c) ∙ ap (λ (x : ℕ). location (passing p x)) e)
 
 -- ---- one row more
 

@@ -1,23 +1,24 @@
-// Signatures, the few coefficients that tell the circuits of a job apart, and locating a unit from its readings (document 01,
-// "Choosing" and "Locating").
+// A unit located from its readings (document 01, "Locating").
+//
+// `prepare` has the checks and fills the work: 13, 16 and 17 come before 10, so they are judged before the spectra are
+// made; 16 over the whole list, then 17. Then each circuit's coefficients at the indices are compared with the readings.
 ghost use Prim.Native.Nat.{_+_, _*_, _^_, _≤_, _<_};
 ghost use mathlib.Core.Path.{_≡_};
 ghost use mathlib.Core.Bool.{cond, _&&_};
 ghost use lib.Dec.{eqb};
-ghost use lib.ListN.{length, take};
-ghost use Rattle.bits.specs.Answer.{leaves};
+ghost use lib.ListN.{length};
+ghost use Rattle.bits.specs.Answer.{outcome, leaves};
 ghost use Rattle.bits.specs.Answer.Answer.{gives};
-ghost use Rattle.bits.specs.Sizes.{tableBytes};
-ghost use Rattle.spectra.specs.Rows.{Counted};
-ghost use Rattle.spectra.specs.Operations.{sameNumbers};
-ghost use Rattle.locating.specs.Locating.{locatedOf, locatedTold, location, agreeing, indicesOk};
-ghost use Rattle.locating.specs.Scanning.{numbersAt, workAgrees, locationOf, rowsLocated, Readable};
+ghost use Rattle.bits.specs.Passing.{passing};
+ghost use Rattle.spectra.specs.Listed.{entriesAt};
+ghost use Rattle.spectra.specs.Operations.{sameNumbers, fromTables};
+ghost use Rattle.locating.specs.Locating.{preparedBy, locatedFrom, locatedOf, locatedTold, location};
+ghost use Rattle.locating.specs.Scanning.{indicesBelow, numbersAt, workAgrees, locationOf, Readable};
 use bits::Outcome;
 use bits::Refusal;
 use spectra::Kind;
 use tables::ALL_TABLES_BYTES;
 use tables::Counts;
-use tables::CountsAnswer;
 
 // The one agreeing circuit; the lowest agreeing circuit and how many agree; none; or the refusal.
 pub enum Located {
@@ -30,7 +31,7 @@ pub enum Located {
 // Whether all indices are below the number of coefficients of n inputs.
 fn indices_ok(indices: &[u16], n: usize) -> bool
     requires { ⌜ n ≤ 15 ⌝ }
-    ensures { λ r. ⌜ r ≡ indicesOk n (now (indices .entry)) ⌝ }
+    ensures { λ r. ⌜ r ≡ indicesBelow n (now (indices .entry)) ⌝ }
 {
     let size = bits::table_size(n);
     let mut i = 0;
@@ -98,7 +99,7 @@ fn told(lowest: usize, count: usize) -> Located
 // Which rows of the work, of 2 to the power n numbers each, agree with the readings.
 fn scan(work: &[u16], indices: &[u16], readings: &[u16], n: usize, rows: usize) -> Located
     requires { ⌜ (n ≤ 15) × Readable n (now indices) (now readings) × (rows * 2 ^ n ≤ length (now work)) ⌝ }
-    ensures { λ r. ⌜ locatedTold r ≡ gives (location (agreeing (workAgrees (now (work .entry)) n (now (indices .entry)) (now (readings .entry))) rows)) ⌝ }
+    ensures { λ r. ⌜ locatedTold r ≡ gives (location (passing (workAgrees (now (work .entry)) n (now (indices .entry)) (now (readings .entry))) rows)) ⌝ }
 {
     let size = bits::table_size(n);
     let mut lowest = 0;
@@ -113,10 +114,40 @@ fn scan(work: &[u16], indices: &[u16], readings: &[u16], n: usize, rows: usize) 
     told(lowest, count)
 }
 
-// Which of the tables that stand row after row agree with the readings: 13; 16; 17; then as the spectra of the rows.
-fn locate_rows(
-    n: usize,
-    rows: usize,
+// The checks of locating, 17 by a test of the caller's, and then the spectra of the counted circuits, from their tables, one after the other:
+// 2; 12; 13; 16; 17; 10.
+pub fn prepare(
+    counts: Counts,
+    tables: &[u8],
+    kind: Kind,
+    polarity: usize,
+    indices: &[u16],
+    paired: bool,
+    work: &mut [u16],
+) -> Outcome
+    ensures { λ r. ⌜ record { answer = outcome r; memory = now (work .exit) } ≡ leaves (fromTables (counts .inputs) (counts .faults + 1) (now (tables .entry)) (λ F. preparedBy paired F kind polarity (entriesAt (now (indices .entry))) (length (now (work .entry))))) (now (work .entry)) ⌝ }
+{
+    let circuits = tables::circuits_of(counts);
+    let n = counts.inputs;
+    let checked = spectra::check_tables(n, circuits, tables);
+    if let Outcome::Refused(cause) = checked {
+        return Outcome::Refused(cause);
+    }
+    if bits::table_size(n) <= polarity {
+        return Outcome::Refused(Refusal::Polarity);
+    }
+    if !indices_ok(indices, n) {
+        return Outcome::Refused(Refusal::Index);
+    }
+    if !paired {
+        return Outcome::Refused(Refusal::Readings);
+    }
+    spectra::fill(n, circuits, tables, kind, polarity, work)
+}
+
+// Which of the counted circuits agree with readings at a list of indices, from their tables, one after the other: 2; 12; 13; 16; 17; 10.
+pub fn locate_tables(
+    counts: Counts,
     tables: &[u8],
     kind: Kind,
     polarity: usize,
@@ -124,50 +155,14 @@ fn locate_rows(
     readings: &[u16],
     work: &mut [u16],
 ) -> Located
-    requires { ⌜ n ≤ 15 ⌝ }
-    ensures { λ r. ⌜ record { answer = locatedTold r; memory = now (work .exit) } ≡ leaves (rowsLocated n rows (now (tables .entry)) kind polarity (now (indices .entry)) (now (readings .entry)) (length (now (work .entry)))) (now (work .entry)) ⌝ }
+    ensures { λ r. ⌜ record { answer = locatedTold r; memory = now (work .exit) } ≡ leaves (fromTables (counts .inputs) (counts .faults + 1) (now (tables .entry)) (λ F. locatedFrom F kind polarity (entriesAt (now (indices .entry))) (now (readings .entry)) (length (now (work .entry))))) (now (work .entry)) ⌝ }
 {
-    if bits::table_size(n) <= polarity {
-        return Located::Refused(Refusal::Polarity);
-    }
-    if !indices_ok(indices, n) {
-        return Located::Refused(Refusal::Index);
-    }
-    if indices.len() != readings.len() {
-        return Located::Refused(Refusal::Readings);
-    }
-    let outcome = spectra::row_spectra(n, rows, tables, kind, polarity, work);
+    let paired = indices.len() == readings.len();
+    let outcome = prepare(counts, tables, kind, polarity, indices, paired, work);
     match outcome {
         Outcome::Refused(cause) => Located::Refused(cause),
-        Outcome::Done => scan(work, indices, readings, n, rows),
+        Outcome::Done => scan(work, indices, readings, counts.inputs, counts.faults + 1),
     }
-}
-
-// The tables of the counted circuits stand at the start of the packed bytes.
-fn locate_counted(
-    packed: &[u8],
-    counts: Counts,
-    kind: Kind,
-    polarity: usize,
-    indices: &[u16],
-    readings: &[u16],
-    work: &mut [u16],
-) -> Located
-    requires { ⌜ Counted counts (length (now packed)) ⌝ }
-    ensures { λ r. ⌜ record { answer = locatedTold r; memory = now (work .exit) } ≡ leaves (rowsLocated (counts .inputs) (counts .faults + 1) (take ((counts .faults + 1) * tableBytes (counts .inputs)) (now (packed .entry))) kind polarity (now (indices .entry)) (now (readings .entry)) (length (now (work .entry)))) (now (work .entry)) ⌝ }
-{
-    let rows = counts.faults + 1;
-    let end = rows * bits::table_bytes(counts.inputs);
-    locate_rows(
-        counts.inputs,
-        rows,
-        &packed[..end],
-        kind,
-        polarity,
-        indices,
-        readings,
-        work,
-    )
 }
 
 // Which circuits of a job agree with readings at a list of indices; the work then holds the spectra of all circuits.
@@ -182,11 +177,21 @@ pub fn locate(
     ensures { λ r. ⌜ record { answer = locatedTold r; memory = now (work .exit) } ≡ leaves (locatedOf (now (bytes .entry)) kind polarity (now (indices .entry)) (now (readings .entry)) (length (now (work .entry)))) (now (work .entry)) ⌝ }
 {
     let mut packed = [0u8; ALL_TABLES_BYTES];
-    let answer = tables::tables(bytes, &mut packed);
-    match answer {
-        CountsAnswer::Refused(cause) => Located::Refused(cause),
-        CountsAnswer::Filled(counts) => {
-            locate_counted(&packed, counts, kind, polarity, indices, readings, work)
+    let delivery = tables::tables(bytes, &mut packed);
+    let outcome = delivery.outcome;
+    match outcome {
+        Outcome::Refused(cause) => Located::Refused(cause),
+        Outcome::Done => {
+            let end = delivery.bytes;
+            locate_tables(
+                delivery.counts,
+                &packed[..end],
+                kind,
+                polarity,
+                indices,
+                readings,
+                work,
+            )
         }
     }
 }

@@ -4,6 +4,7 @@ pub mod Congruence
 pub mod Drops
 pub mod Firsts
 pub mod JobA
+pub mod Names
 pub mod Pairs
 pub mod Signatures
 pub mod Takes

@@ -5,13 +5,13 @@ use crate::MAX_ENTRIES;
 use crate::MAX_TABLE_BYTES;
 use crate::listing;
 use crate::words;
+use bits::Outcome;
 use choosing::Chosen;
 use choosing::Purpose;
 use choosing::Verdict;
 use job::MAX_FAULTS;
 use locating::Located;
 use tables::Counts;
-use tables::CountsAnswer;
 
 // The coefficients, and the bytes of the tables, of the most circuits.
 const WORK_PLACES: usize = MAX_CIRCUITS * MAX_ENTRIES;
@@ -56,10 +56,11 @@ fn row_of(circuit: usize, size: usize, places: usize) -> Row
 
 fn list_tables(job: &[u8]) {
     let mut packed = [0u8; ALL_TABLES_BYTES];
-    let answer = tables::tables(job, &mut packed);
-    match answer {
-        CountsAnswer::Filled(counts) => list_circuits(&packed, counts),
-        CountsAnswer::Refused(cause) => listing::refusal(cause),
+    let delivery = tables::tables(job, &mut packed);
+    let outcome = delivery.outcome;
+    match outcome {
+        Outcome::Done => list_circuits(&packed, delivery.counts),
+        Outcome::Refused(cause) => listing::refusal(cause),
     }
 }
 
@@ -94,7 +95,7 @@ fn list_chosen(chosen: Chosen) {
     let verdict = chosen.verdict;
     let signature = chosen.signature;
     match verdict {
-        Verdict::Done(_) => listing::numbers(b"signature", &signature.entries, signature.count),
+        Verdict::Done => listing::numbers(b"signature", &signature.entries, signature.count),
         Verdict::Alike(a, b) => listing::pair(b"refused 15", a, b),
         Verdict::Refused(cause) => listing::refusal(cause),
     }
@@ -131,16 +132,37 @@ fn list_located(line: &[u8], job: &[u8], indices: &[u16], readings: &[u16]) {
 
 // The indices at which a circuit is not as the good one.
 fn list_fault(line: &[u8], job: &[u8]) {
+    let mut packed = [0u8; ALL_TABLES_BYTES];
+    let delivery = tables::tables(job, &mut packed);
+    let outcome = delivery.outcome;
+    match outcome {
+        Outcome::Done => {
+            let end = delivery.bytes;
+            list_filled(line, delivery.counts, &packed[..end])
+        }
+        Outcome::Refused(cause) => listing::refusal(cause),
+    }
+}
+
+fn list_filled(line: &[u8], counts: Counts, packed: &[u8]) {
     let polarity = words::decimal(line, 2);
+    let circuits = tables::circuits_of(counts);
     let mut work = [0u16; WORK_PLACES];
-    let answer = spectra::job_spectra(job, words::kind(line), polarity, &mut work);
-    match answer {
-        CountsAnswer::Filled(counts) => list_unlike(
+    let outcome = spectra::fill(
+        counts.inputs,
+        circuits,
+        packed,
+        words::kind(line),
+        polarity,
+        &mut work,
+    );
+    match outcome {
+        Outcome::Done => list_unlike(
             &work,
             words::decimal(line, 3),
             bits::table_size(counts.inputs),
         ),
-        CountsAnswer::Refused(cause) => listing::refusal(cause),
+        Outcome::Refused(cause) => listing::refusal(cause),
     }
 }
 

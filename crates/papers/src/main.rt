@@ -15,6 +15,7 @@ ghost use Prim.Native.Nat.{_≤_};
 ghost use lib.ListN.{length};
 use job::MAX_FAULTS;
 use job::MAX_INPUTS;
+use job::MAX_JOB_BYTES;
 use libc::STDIN_FILENO;
 
 mod jobs;
@@ -24,7 +25,7 @@ mod table;
 mod words;
 
 // One byte more than the longest job, so that a longer one is seen to be longer.
-const MAX_JOB_BYTES: usize = 266;
+const MAX_INPUT_BYTES: usize = MAX_JOB_BYTES + 1;
 
 // The entries of a table of the most inputs, and the bytes that hold them.
 const MAX_ENTRIES: usize = 1 << MAX_INPUTS;
@@ -78,7 +79,7 @@ fn answer_line(line: &[u8], from_job: &[u8]) {
 // The job is the first line of the text from it on.
 fn answer_job(line: &[u8], from_job: &[u8]) {
     let end = words::place_of(from_job, 0, b'\n');
-    let mut job = [0u8; MAX_JOB_BYTES];
+    let mut job = [0u8; MAX_INPUT_BYTES];
     let n = words::bytes(&from_job[..end], 1, &mut job);
     jobs::answer(line, &job[..n]);
 }

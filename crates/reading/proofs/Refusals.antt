@@ -1,6 +1,6 @@
 -- Which numbers reading refuses with (specs/Reading.antt).
 --
---   reading-refused   none over 9
+--   reading-refused   1 to 9
 use Prim.Native.Nat.{ℕ, zero, suc, _+_, _≤_}
 use native.Mathlib.Omega.{arith}
 use mathlib.Core.Path.{_≡_, subst}
@@ -19,25 +19,28 @@ use Rattle.job.specs.Record.{faultOf, lines, emptyJob}
 use Rattle.job.specs.declared.Job.{Job}
 use Rattle.reading.specs.Reading.{entryFields, unaryLinesOk, gate, faultLinesOk, fault, entriesFrom, spare, withGates, withOutput, withFaultCount, withFaults, withCounts, fromEnd, fromFaults, fromFaultCount, fromOutput, fromGates, wholeJob, valueRead, reading}
 
--- nine is the last of reading's numbers
+-- reading's numbers are 1 to 9
+abbrev Number : ℕ → Type 0
+Number i = (1 ≤ i) × (i ≤ 9)
+
 abbrev Known : {A : Type 0} → Answer A → Type 0
 Known (gives a) = Unit {0}
-Known (refused i) = i ≤ 9
+Known (refused i) = Number i
 
 known-then : {A B : Type 0} (r : Answer (Parsed A)) (f : A → Parser B) → Known r → ((a : A) (rest : List ℕ) → Known (f a rest)) → Known (andThen r f)
 known-then (gives p) f h more = more (p .value) (p .rest)
 known-then (refused i) f h more = h
 
-known-unless : {A : Type 0} (t : Bool) (k : ℕ) (r : Answer A) → k ≤ 9 → Known r → Known (unless t k r)
+known-unless : {A : Type 0} (t : Bool) (k : ℕ) (r : Answer A) → Number k → Known r → Known (unless t k r)
 known-unless true k r h more = more
 known-unless false k r h more = h
 
 field-then : {B : Type 0} (w : ℕ) (bits : List ℕ) (f : ℕ → Parser B) → ((v : ℕ) (rest : List ℕ) → Known (f v rest)) → Known (andThen (field w bits) f)
 unfolding field
 field-then w bits f more =
-    known-then (field w bits) f (known-unless (leb w (length bits)) 1 (parsed (valueOf (take w bits)) (drop w bits)) (omega arith) tt) more
+    known-then (field w bits) f (known-unless (leb w (length bits)) 1 (parsed (valueOf (take w bits)) (drop w bits)) (omega arith, omega arith) tt) more
 
-check-then : {B : Type 0} (t : Bool) (k : ℕ) (bits : List ℕ) (f : Parser B) → k ≤ 9 → ((rest : List ℕ) → Known (f rest)) → Known (andThen (check t k bits) (λ _. f))
+check-then : {B : Type 0} (t : Bool) (k : ℕ) (bits : List ℕ) (f : Parser B) → Number k → ((rest : List ℕ) → Known (f rest)) → Known (andThen (check t k bits) (λ _. f))
 check-then t k bits f h more = known-then (check t k bits) (λ _. f) (known-unless t k (parsed tt bits) h tt) (λ _ rest. more rest)
 
 entryFields-known : (w : ℕ) (bits : List ℕ) → Known (entryFields w bits)
@@ -48,15 +51,15 @@ gate-known : (own : ℕ) (bits : List ℕ) → Known (gate own bits)
 unfolding gate
 gate-known own bits =
     known-then (entryFields gateKindBits bits) _ (entryFields-known gateKindBits bits) λ e r₁.
-    check-then (ltb (e .a) own && ltb (e .b) own) 4 r₁ _ (omega arith) λ r₂.
-    check-then (unaryLinesOk (e .kind) (e .a) (e .b)) 5 r₂ _ (omega arith) λ r₃. tt
+    check-then (ltb (e .a) own && ltb (e .b) own) 4 r₁ _ (omega arith, omega arith) λ r₂.
+    check-then (unaryLinesOk (e .kind) (e .a) (e .b)) 5 r₂ _ (omega arith, omega arith) λ r₃. tt
 
 fault-known : (n count : ℕ) (bits : List ℕ) → Known (fault n count bits)
 unfolding fault
 fault-known n count bits =
     known-then (entryFields faultKindBits bits) _ (entryFields-known faultKindBits bits) λ e r₁.
-    check-then (faultLineOk n count (faultOf (e .kind) (e .a) (e .b))) 7 r₁ _ (omega arith) λ r₂.
-    check-then (faultLinesOk (e .kind) (e .a) (e .b)) 8 r₂ _ (omega arith) λ r₃. tt
+    check-then (faultLineOk n count (faultOf (e .kind) (e .a) (e .b))) 7 r₁ _ (omega arith, omega arith) λ r₂.
+    check-then (faultLinesOk (e .kind) (e .a) (e .b)) 8 r₂ _ (omega arith, omega arith) λ r₃. tt
 
 entries-known : {A : Type 0} (p : ℕ → Parser A) → ((i : ℕ) (bits : List ℕ) → Known (p i bits)) → (left i : ℕ) (entries : List A) (bits : List ℕ)
     → Known (entriesFrom p left i entries bits)
@@ -68,7 +71,7 @@ entries-known p each (suc left) i entries bits =
 fromEnd-known : (j : Job) (bits : List ℕ) → Known (fromEnd j bits)
 unfolding fromEnd spare
 fromEnd-known j bits =
-    known-then (unless (spareOnly bits) 9 (parsed tt [])) _ (known-unless (spareOnly bits) 9 (parsed tt []) (omega arith) tt) λ _ rest. tt
+    known-then (unless (spareOnly bits) 9 (parsed tt [])) _ (known-unless (spareOnly bits) 9 (parsed tt []) (omega arith, omega arith) tt) λ _ rest. tt
 
 fromFaults-known : (j : Job) (bits : List ℕ) → Known (fromFaults j bits)
 unfolding fromFaults
@@ -81,7 +84,7 @@ fromOutput-known : (j : Job) (bits : List ℕ) → Known (fromOutput j bits)
 unfolding fromOutput fromFaultCount
 fromOutput-known j bits =
     field-then lineBits bits _ λ line r₁.
-    check-then (outputOk (lines j) line) 6 r₁ _ (omega arith) λ r₂.
+    check-then (outputOk (lines j) line) 6 r₁ _ (omega arith, omega arith) λ r₂.
     field-then faultCountBits r₂ _ λ f r₃.
     fromFaults-known (withFaultCount (withOutput j line) f) r₃
 
@@ -96,9 +99,9 @@ wholeJob-known : (bits : List ℕ) → Known (wholeJob bits)
 unfolding wholeJob
 wholeJob-known bits =
     field-then inputCountBits bits _ λ n r₁.
-    check-then (inputsOk n) 2 r₁ _ (omega arith) λ r₂.
+    check-then (inputsOk n) 2 r₁ _ (omega arith, omega arith) λ r₂.
     field-then gateCountBits r₂ _ λ g r₃.
-    check-then (gateCountOk g) 3 r₃ _ (omega arith) λ r₄.
+    check-then (gateCountOk g) 3 r₃ _ (omega arith, omega arith) λ r₄.
     fromGates-known (withCounts emptyJob n g) r₄
 
 value-known : {A : Type 0} (r : Answer (Parsed A)) → Known r → Known (valueRead r)
@@ -109,5 +112,5 @@ reading-known : (s : List ℕ) → Known (reading s)
 unfolding reading
 reading-known s = value-known (wholeJob (stringOf s)) (wholeJob-known (stringOf s))
 
-pub reading-refused : (s : List ℕ) {i : ℕ} → reading s ≡ refused i → i ≤ 9
+pub reading-refused : (s : List ℕ) {i : ℕ} → reading s ≡ refused i → (1 ≤ i) × (i ≤ 9)
 reading-refused s e = subst (λ (a : Answer Job). Known a) e (reading-known s)

@@ -1,4 +1,9 @@
 // Reading a job from any bytes (document 01, "Job layout" and "Refusal by operation").
+//
+// The definition takes fields off the front of a string of bits; the code keeps a place in the bytes instead. A
+// function a stage: each reads its fields one by one, value with cursor or refusal, judges them, and hands the record
+// so far to the next. A job ends before bit 2200, so a stage may ask for a place that is near (`Near`), for a slice of
+// any length. A gate and a fault each read their three fields themselves, so that each is compiled for its widths.
 ghost use mathlib.Core.Path.{_≡_};
 ghost use Prim.Native.Nat.{_+_, _*_, _≤_};
 ghost use Rattle.bits.specs.Answer.{number};

@@ -3,6 +3,7 @@ pub mod Decimals
 pub mod Lengths
 pub mod Lines
 pub mod Pieces
+pub mod Readings
 pub mod Sizes
 pub mod Texts
 pub mod Verdicts

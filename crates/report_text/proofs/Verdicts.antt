@@ -3,38 +3,84 @@
 --   told-refused, told-alike, told-done   what each verdict prints
 --   printed-done                          and what is known of a report
 --   entries-inside                        a signature counts no more entries than it has
-use Prim.Native.Nat.{ℕ, _≤_}
+--   exitText, verdict-printed             what a verdict prints, by what the call answers and leaves
+--   refused-printed                       the line of a refusal
+use Prim.Native.Nat.{ℕ, zero, suc, _≤_}
 use native.Mathlib.Omega.{arith}
-use mathlib.Core.Path.{_≡_, sym, ap, subst, _∙_}
+use mathlib.Core.Path.{_≡_, refl, sym, ap, subst, _∙_}
 use mathlib.Core.List.{List}
 use lib.ListN.{length}
 use Rattle.bits.specs.Answer.{number}
 use Rattle.bits.specs.declared.Refusal.{Refusal}
+use Rattle.bits.specs.declared.Refusal.the-variants as refusals
 use Rattle.tables.specs.declared.Counts.{Counts}
+use Rattle.method.specs.Method.{Pair}
+use Rattle.method.specs.Method.Pair.{nobody, pair}
 use Rattle.chooser.specs.Matrix.{maxSignature}
 use Rattle.chooser.specs.declared.Signature.{Signature}
-use Rattle.choosing.specs.Choosing.{verdictTold}
+use Rattle.choosing.specs.Choosing.{AtExit, verdictNumber, verdictPair}
 use Rattle.choosing.specs.declared.Verdict.{Verdict}
 use Rattle.choosing.specs.declared.Verdict.the-variants.{Done, Alike, Refused}
-use Rattle.report_text.specs.Putting.{Printable}
-use Rattle.report_text.specs.Text.{answerText, listOf, refusedLine, alikeLine, jobText}
+use Rattle.report_text.specs.Putting.{Printable, workText, listOf, verdictText}
+use Rattle.report_text.specs.Text.{refusedLine, alikeLine}
 
-module _ (v : Verdict) (signature : Signature) (work : List ℕ) where
+module _ (v : Verdict) (counts : Counts) (signature : Signature) (work : List ℕ) where
   abbrev text : List ℕ
-  text = answerText (verdictTold v) (listOf signature) work
+  text = verdictText v counts signature work
 
   pub told-refused : {cause : Refusal} {i : ℕ} → v ≡ Refused cause → i ≡ number cause → text ≡ refusedLine i
-  told-refused {cause} {i} e n = ap (λ (x : Verdict). answerText (verdictTold x) (listOf signature) work) e ∙ ap refusedLine (sym n)
+  told-refused {cause} {i} e n = ap (λ (x : Verdict). verdictText x counts signature work) e ∙ ap refusedLine (sym n)
 
   pub told-alike : {a b : ℕ} → v ≡ Alike a b → text ≡ alikeLine a b
-  told-alike e = ap (λ (x : Verdict). answerText (verdictTold x) (listOf signature) work) e
+  told-alike e = ap (λ (x : Verdict). verdictText x counts signature work) e
 
-  module _ {counts : Counts} (e : v ≡ Done counts) where
-    pub told-done : text ≡ jobText counts (listOf signature) work
-    told-done = ap (λ (x : Verdict). answerText (verdictTold x) (listOf signature) work) e
+  module _ (e : v ≡ Done) where
+    pub told-done : text ≡ workText counts (listOf signature) work
+    told-done = ap (λ (x : Verdict). verdictText x counts signature work) e
 
-    pub printed-done : Printable v signature (length work) → Printable (Done counts) signature (length work)
-    printed-done h = subst (λ (x : Verdict). Printable x signature (length work)) e h
+    pub printed-done : Printable v counts signature (length work) → Printable Done counts signature (length work)
+    printed-done h = subst (λ (x : Verdict). Printable x counts signature (length work)) e h
 
 pub entries-inside : (signature : Signature) → length (signature .entries) ≡ maxSignature → signature .count ≤ maxSignature → signature .count ≤ length (signature .entries)
 entries-inside signature e h = omega arith
+
+-- ---- by what the call answers and leaves
+
+abbrev printed : ℕ → Pair → List ℕ → List ℕ
+printed zero p text = text
+printed (suc i) nobody text = refusedLine (suc i)
+printed (suc i) (pair a b) text = alikeLine a b
+
+abbrev pub exitText : AtExit → List ℕ
+exitText c = printed (c .number) (c .pair) (workText (c .counts) (listOf (c .signature)) (c .memory))
+
+pub refused-printed : (i : ℕ) (text : List ℕ) → 1 ≤ i → printed i nobody text ≡ refusedLine i
+refused-printed zero text h = absurd (omega arith)
+refused-printed (suc i) text h = refl
+
+number-some : (e : Refusal) → 1 ≤ number e
+number-some refusals.BytesEnd = omega arith
+number-some refusals.Inputs = omega arith
+number-some refusals.Gates = omega arith
+number-some refusals.GateLine = omega arith
+number-some refusals.OneLine = omega arith
+number-some refusals.Output = omega arith
+number-some refusals.FaultLine = omega arith
+number-some refusals.FaultPair = omega arith
+number-some refusals.Spare = omega arith
+number-some refusals.Memory = omega arith
+number-some refusals.Circuit = omega arith
+number-some refusals.Table = omega arith
+number-some refusals.Polarity = omega arith
+number-some refusals.NoSpectrum = omega arith
+number-some refusals.Alike = omega arith
+number-some refusals.Index = omega arith
+number-some refusals.Readings = omega arith
+number-some refusals.Faults = omega arith
+
+pub verdict-printed : (v : Verdict) (counts : Counts) (signature : Signature) (memory : List ℕ)
+    → verdictText v counts signature memory
+    ≡ exitText (record { number = verdictNumber v; pair = verdictPair v; counts = counts; signature = signature; memory = memory })
+verdict-printed Done counts signature memory = refl
+verdict-printed (Alike a b) counts signature memory = refl
+verdict-printed (Refused e) counts signature memory = sym (refused-printed (number e) (workText counts (listOf signature) memory) (number-some e))

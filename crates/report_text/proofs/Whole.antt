@@ -1,129 +1,198 @@
 -- The text of the report (specs/Text.antt) can be printed from the work that choosing fills, and what is written where.
 --
---   prints-isolated    what isolating chooses for a job can be printed
---   verdict-printable  so the verdict that tells it can
---   verdict-room       and there is room for its text
+--   Prints              what choosing answers and leaves prints a text that fits, and can be printed
+--   prints-isolated     it prints the report's text
+--   text-bounded        every text fits in the most bytes
+--   verdict-printable   so the verdict that tells it can be printed
+--   verdict-room        there is room for its text
 --   reported-written, reported-short   what is written, with room and without
 use Prim.Native.Nat.{ℕ, _+_, _*_, _^_, _≤_, _<_}
 use native.Mathlib.Omega.{arith}
-use native.Mathlib.Nat.{zero-add, le-trans}
+use native.Mathlib.Nat.{zero-add, le-trans, mul-one}
 use mathlib.Core.Path.{_≡_, refl, sym, ap, subst, _∙_}
-use mathlib.Core.List.{List, _++_}
+use mathlib.Core.Bool.{Bool, true, false}
+use mathlib.Core.List.{List, _++_, map}
 use borrow.Author.Tests.{le-leb, lt-leb}
-use lib.Dec.{leb, ltb}
-use lib.ListN.{length, drop, length-append}
+use lib.Dec.{leb}
+use lib.ListN.{length, drop, length-append, length-map}
 use lib.Seq.{take-at}
-use Rattle.bits.specs.Answer.{Answer}
+use Rattle.bits.specs.Answer.{Answer, Fills, leaves, unless, onward}
 use Rattle.bits.specs.Answer.Answer.{gives, refused}
-use Rattle.job.specs.Check.{Valid}
-use Rattle.job.proofs.Sizes.{most-inputs}
-use Rattle.job.specs.declared.Job.{Job}
-use Rattle.reading.specs.Reading.{reading}
-use Rattle.reading.proofs.Validity.{reading-valid}
-use Rattle.tables.specs.Operations.{countsOf}
 use Rattle.bits.specs.Slices.{splice}
-use Rattle.spectra.specs.Operations.{circuitSpectra}
+use Rattle.job.specs.Check.{Valid}
+use Rattle.job.specs.Layout.{maxFaults}
+use Rattle.job.specs.declared.Job.{Job}
+use Rattle.job.proofs.Sizes.{most-inputs}
+use Rattle.reading.specs.Reading.{reading}
+use Rattle.reading.proofs.Refusals.{reading-refused}
+use Rattle.reading.proofs.Validity.{reading-valid}
+use Rattle.tables.specs.Family.{Family, familyOf}
+use Rattle.tables.specs.Operations.{countsOf}
+use Rattle.tables.specs.declared.Counts.{Counts}
+use Rattle.spectra.specs.Listed.{Entry, familySpectra, places}
+use Rattle.spectra.specs.Operations.{polarityOk}
 use Rattle.spectra.specs.declared.Kind.the-variants.{Mrm}
-use Rattle.spectra.proofs.WorkPlaces.{length-circuitSpectra}
+use Rattle.spectra.proofs.Families.{length-familySpectra}
 use Rattle.method.specs.Method.{Pair}
 use Rattle.method.specs.Method.Pair.{nobody, pair}
-use Rattle.method.proofs.Pairs.{by-test}
 use Rattle.chooser.specs.Matrix.{signatureOf}
 use Rattle.chooser.specs.declared.Signature.{Signature}
 use Rattle.chooser.proofs.Places.{members-below, entry-below}
-use Rattle.choosing.specs.Choosing.{Result, AtExit, signatureIn, alikePair, decisionBy, chosenOf, verdictTold}
-use Rattle.choosing.specs.Choosing.Result.{chosen, alike}
+use Rattle.choosing.specs.Choosing.{Finding, AtExit, signatureIn, alikePair, findingBy, chosenFrom, chosenOf, found, atExit, countsIn, verdictNumber, verdictPair}
+use Rattle.choosing.specs.Choosing.Finding.{chosen, alike}
 use Rattle.choosing.specs.declared.Purpose.the-variants.{Isolating}
 use Rattle.choosing.specs.declared.Verdict.{Verdict}
 use Rattle.choosing.specs.declared.Verdict.the-variants.{Done, Alike, Refused}
-use Rattle.choosing.proofs.Bound.{signature-short, signature-below}
+use Rattle.choosing.proofs.Bound.{signature-below}
 use Rattle.choosing.proofs.Sizes.{faults-entries}
-use Rattle.report_text.specs.Putting.{Puts, Room, WorkRows, Printable}
-use Rattle.report_text.specs.Text.{listOf, textOf, isolated, maxText, reported}
+use Rattle.report_text.specs.Putting.{Puts, Room, WorkRows, Printable, workText, listOf, verdictText}
+use Rattle.report_text.specs.Text.{refusedLine, findingText, chosenText, reportBy, reportText, workLeft, maxText, reported}
 use Rattle.report_text.specs.declared.Reported.the-variants.{Written, Short}
-use Rattle.report_text.proofs.Lengths.{text-bounded}
+use Rattle.report_text.proofs.Lengths.{refused-short, signature-few, indices-below, job-short, alike-short}
+use Rattle.report_text.proofs.Readings.{work-text}
+use Rattle.report_text.proofs.Verdicts.{exitText, refused-printed, verdict-printed}
 
--- `Printable`, of an answer
-abbrev Prints : Answer Result → Signature → ℕ → Type 0
-Prints (gives (chosen counts)) signature room = Printable (Done counts) signature room
-Prints (gives (alike a b)) signature room = Unit {0}
-Prints (refused i) signature room = Unit {0}
+record Prints (c : AtExit) (text : List ℕ) : Type 0 where
+  told : exitText c ≡ text
+  short : length text ≤ maxText
+  ready : c .number ≡ 0 → Printable Done (c .counts) (c .signature) (length (c .memory))
 
-abbrev PrintsAll : AtExit → Type 0
-PrintsAll c = Prints (c .answer) (c .signature) (length (c .memory))
+-- with any counts, for a refusal tells none
+prints-refused : (counts : Counts) (i : ℕ) (work : List ℕ) → 1 ≤ i → i ≤ 18 → Prints (atExit counts (refused i) work) (refusedLine i)
+prints-refused counts i work some few =
+    record {
+      told = refused-printed i _ some;
+      short = refused-short i (omega arith);
+      ready = λ e. absurd (omega arith);
+    }
 
 -- ---- a job
 
-module _ (j : Job) (v : Valid j) (rest : List ℕ) where
-  abbrev signed : List ℕ
-  signed = signatureIn Isolating Mrm 0 j
+module _ (j : Job) (v : Valid j) where
+  abbrev F : Family
+  F = familyOf j
 
-  abbrev filled : List ℕ
-  filled = circuitSpectra Mrm 0 j (j .«fault_count» + 1)
+  abbrev signed : List Entry
+  signed = signatureIn Isolating Mrm 0 F
 
-  signed-rows : WorkRows (2 ^ (j .inputs)) (j .«fault_count» + 1) signed (length (filled ++ rest))
-  signed-rows =
-      record {
-        rows = omega (arith, length-append filled rest, length-circuitSpectra Mrm 0 j (j .«fault_count» + 1));
-        indices = λ i h.
-            entry-below (2 ^ (j .inputs)) signed i
-            (members-below (2 ^ (j .inputs)) signed
-            (signature-below Isolating Mrm 0 j)) h;
-      }
+  abbrev indices : List ℕ
+  indices = map (λ (e : Entry). e .index) signed
 
-  job-prints : (p : Pair) → Prints (gives (decisionBy p (countsOf j) signed .result)) (signatureOf (decisionBy p (countsOf j) signed .entries)) (length (filled ++ rest))
-  job-prints nobody =
-      let short = signature-short Isolating Mrm 0 j in
-      let taken : listOf (signatureOf signed) ≡ signed = take-at signed _ (length signed) refl in (
-        le-trans (v .few) most-inputs,
-        v .faults-few,
-        le-trans short (le-trans (v .faults-few) faults-entries),
-        subst (λ (l : List ℕ). WorkRows (2 ^ (j .inputs)) (j .«fault_count» + 1) l (length (filled ++ rest))) (sym taken) signed-rows,
-      )
-  job-prints (pair a b) = tt
+  taken : listOf (signatureOf indices) ≡ indices
+  taken = take-at indices _ (length indices) refl
+
+  module _ (rest : List ℕ) where
+    abbrev filled : List ℕ
+    filled = familySpectra Mrm 0 F ++ rest
+
+    rows : WorkRows (2 ^ (j .inputs)) (j .«fault_count» + 1) indices (length filled)
+    rows =
+        let long : length (familySpectra Mrm 0 F) ≡ (j .«fault_count» + 1) * 2 ^ (j .inputs) =
+        length-familySpectra Mrm 0 F ∙ ap (λ (x : ℕ). x * 2 ^ (j .inputs)) (mul-one (j .«fault_count» + 1)) in
+        record {
+          rows = omega (arith, length-append (familySpectra Mrm 0 F) rest);
+          indices = λ i h. entry-below (2 ^ (j .inputs)) indices i (members-below (2 ^ (j .inputs)) indices (indices-below j v)) h;
+        }
+
+    prints-found : (p : Pair) → alikePair Isolating F ≡ p
+        → Prints (found (countsOf j) (findingBy p signed) filled) (findingText (countsOf j) F (findingBy p signed))
+    prints-found nobody e =
+        let few : length indices ≤ maxFaults = omega (arith, signature-few j v, length-map signed (λ (e : Entry). e .index)) in
+        record {
+          told = ap (λ (l : List ℕ). workText (countsOf j) l filled) taken ∙ work-text j rest signed (λ e m. signature-below Isolating Mrm 0 F e m .0);
+          short = job-short j v;
+          ready = λ _. (
+            le-trans (v .few) most-inputs,
+            v .faults-few,
+            le-trans few faults-entries,
+            subst (λ (l : List ℕ). WorkRows (2 ^ (j .inputs)) (j .«fault_count» + 1) l (length filled)) (sym taken) rows,
+          );
+        }
+    prints-found (pair a b) e =
+        record {
+          told = refl;
+          short = alike-short j v a b e;
+          ready = λ e. absurd (omega arith);
+        }
+
+  module _ (work : List ℕ) where
+    abbrev Answered : Answer (Fills Finding) → Type 0
+    Answered r = Prints (atExit (countsOf j) r work) (chosenText (countsOf j) F r)
+
+    by-unless : (t : Bool) (k : ℕ) (r : Answer (Fills Finding)) → 1 ≤ k → k ≤ 18 → Answered r → Answered (unless t k r)
+    by-unless true k r some few h = h
+    by-unless false k r some few h = prints-refused (countsOf j) k work some few
+
+    prints-chosen : Answered (chosenFrom Isolating F Mrm 0 (length work))
+    unfolding chosenFrom
+    prints-chosen =
+        by-unless (polarityOk (j .inputs) 0) 13 _ (omega arith) (omega arith)
+        (by-unless (leb (places F) (length work)) 10 _ (omega arith) (omega arith)
+        (prints-found (drop (length (familySpectra Mrm 0 F)) work) (alikePair Isolating F) refl))
 
 -- ---- an answer
 
 module _ (s work : List ℕ) where
-  prints-read : (a : Answer Job) → reading s ≡ a → PrintsAll (isolated s work)
-  unfolding chosenOf
-  prints-read (refused i) r = simp r tt
-  prints-read (gives j) r =
-      by-test (ltb 0 (2 ^ (j .inputs)))
-      (λ p. by-test (leb ((j .«fault_count» + 1) * 2 ^ (j .inputs)) (length work))
-      (λ q. simp (r, p, q)
-      (job-prints j (reading-valid s j r) (drop (length (circuitSpectra Mrm 0 j (j .«fault_count» + 1))) work) (alikePair Isolating j)))
-      (λ q. simp (r, p, q) tt))
-      (λ p. simp (r, p) tt)
+  -- what isolating answers and leaves
+  abbrev isolated : AtExit
+  isolated = atExit (countsIn (reading s)) (chosenOf Isolating s Mrm 0 (length work)) work
 
-  pub prints-isolated : PrintsAll (isolated s work)
+  prints-read : (a : Answer Job) → reading s ≡ a
+      → Prints (atExit (countsIn a) (onward a (λ j. chosenFrom Isolating (familyOf j) Mrm 0 (length work))) work) (reportBy a (length work))
+  prints-read (refused i) r = let known = reading-refused s r in prints-refused (countsIn (refused i)) i work (known .0) (omega (arith, known .1))
+  prints-read (gives j) r = prints-chosen j (reading-valid s j r) work
+
+  prints-isolated : Prints isolated (reportText s (length work))
   prints-isolated = prints-read (reading s) refl
 
-told-printable : (v : Verdict) (signature : Signature) (room : ℕ) → Prints (verdictTold v) signature room → Printable v signature room
-told-printable (Done counts) signature room h = h
-told-printable (Alike a b) signature room h = h
-told-printable (Refused e) signature room h = h
+pub text-bounded : (s work : List ℕ) → length (reportText s (length work)) ≤ maxText
+text-bounded s work = prints-isolated s work .short
 
-module _ (s work : List ℕ) (v : Verdict) (signature : Signature) (memory : List ℕ)
-    (e : record { answer = verdictTold v; signature = signature; memory = memory } ≡ isolated s work) where
+found-memory : (counts : Counts) (f : Finding) (memory : List ℕ) → found counts f memory .memory ≡ memory
+found-memory counts (chosen list) memory = refl
+found-memory counts (alike a b) memory = refl
+
+exit-memory : (counts : Counts) (r : Answer (Fills Finding)) (work : List ℕ) → atExit counts r work .memory ≡ leaves r work .memory
+exit-memory counts (gives w) work = found-memory counts (w .value) (leaves (gives w) work .memory)
+exit-memory counts (refused i) work = refl
+
+module _ (s work : List ℕ) (v : Verdict) (counts : Counts) (signature : Signature) (memory : List ℕ)
+    (e : record { number = verdictNumber v; pair = verdictPair v; counts = counts; signature = signature; memory = memory } ≡ isolated s work) where
   abbrev text : List ℕ
-  text = textOf (record { answer = verdictTold v; signature = signature; memory = memory })
+  text = verdictText v counts signature memory
 
-  pub verdict-printable : Printable v signature (length memory)
-  verdict-printable = told-printable v signature (length memory) (subst PrintsAll (sym e) (prints-isolated s work))
+  text-whole : text ≡ reportText s (length work)
+  text-whole = verdict-printed v counts signature memory ∙ ap exitText e ∙ prints-isolated s work .told
+
+  memory-left : memory ≡ workLeft s work
+  memory-left =
+      ap (λ (c : AtExit). c .memory) e ∙ exit-memory (countsIn (reading s)) (chosenOf Isolating s Mrm 0 (length work)) work
+
+  pub verdict-printable : Printable v counts signature (length memory)
+  verdict-printable =
+      by-verdict v
+      (subst (λ (c : AtExit). c .number ≡ 0 → Printable Done (c .counts) (c .signature) (length (c .memory))) (sym e) (prints-isolated s work .ready))
+    where
+      by-verdict : (x : Verdict) → (verdictNumber x ≡ 0 → Printable Done counts signature (length memory)) → Printable x counts signature (length memory)
+      by-verdict Done h = h refl
+      by-verdict (Alike a b) h = tt
+      by-verdict (Refused i) h = tt
 
   module _ (out : List ℕ) (enough : maxText ≤ length out) where
     pub verdict-room : Room text 0 out
     verdict-room =
-        let short : length text ≤ maxText = subst (λ (c : AtExit). length (textOf c) ≤ maxText) (sym e) (text-bounded s work) in
+        let short : length text ≤ maxText = subst (λ (t : List ℕ). length t ≤ maxText) (sym text-whole) (text-bounded s work) in
         omega arith
 
     pub reported-written : {end : ℕ} {out' : List ℕ} → Puts text out 0 end out'
         → record { answer = Written end; work = memory; text = out' } ≡ reported s work out
     unfolding reported
     reported-written {end} {out'} p =
-        (λ i. record { answer = Written ((p .ends ∙ zero-add (length text)) i); work = memory; text = p .stands i })
-        ∙ ap (λ (c : AtExit). record { answer = Written (length (textOf c)); work = c .memory; text = splice out 0 (textOf c) }) e
+        (λ i. record {
+          answer = Written ((p .ends ∙ zero-add (length text) ∙ ap length text-whole) i);
+          work = memory-left i;
+          text = (p .stands ∙ ap (splice out 0) text-whole) i;
+        })
         ∙ rw (le-leb maxText (length out) enough)
 
 pub reported-short : (s work out : List ℕ) → length out < maxText → record { answer = Short; work = work; text = out } ≡ reported s work out

@@ -66,8 +66,7 @@ numbers-width [] h = omega arith
 numbers-width (v ∷ l) h =
     let first = three-digits v (h v (List·Memᴰ·head refl)) in
     let rest = numbers-width l (λ x m. h x (List·Memᴰ·tail m)) in
-    let all = length-append (decimal v) (numbersText l) in
-    omega arith
+    simp length-append (omega arith)
 
 pub counts-width : (c : Counts) → c .inputs < 10 → c .gates < 100 → c .faults < 100 → length (countsLine c) ≤ 28
 unfolding inputsWord gatesWord faultsWord

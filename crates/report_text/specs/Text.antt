@@ -4,26 +4,29 @@
 --   numbersText    numbers, each behind a space: "One space parts the words of a line"
 --   countsLine, signatureLine, circuitLine, refusedLine, alikeLine   the lines, "every line ends with a newline"
 --   circuitLines   the lines of circuits 0 to c − 1
---   answerText      the text that an answer of choosing prints
---   reportText     "isolates by MRM at polarity 0"
+--   jobText        the text of a job that has a signature
+--   reportText     the text for the bytes of a job
 --   maxText        no text is longer
 --   reported       what is written where
-use Prim.Native.Nat.{ℕ, zero, suc, _+_, _*_, _/_, _%_, _^_}
+use Prim.Native.Nat.{ℕ, zero, suc, _+_, _*_, _/_, _%_}
 use mathlib.Core.Bool.{cond}
-use mathlib.Core.List.{List, [], _∷_, _++_}
+use mathlib.Core.List.{List, [], _∷_, _++_, map}
 use lib.Dec.{leb, ltb}
-use lib.ListN.{length, take}
-use Rattle.job.specs.Layout.{maxFaults}
-use Rattle.bits.specs.Answer.{Answer}
+use lib.ListN.{length}
+use Rattle.bits.specs.Answer.{Answer, Fills, leaves}
 use Rattle.bits.specs.Answer.Answer.{gives, refused}
 use Rattle.bits.specs.Slices.{splice}
+use Rattle.job.specs.Layout.{maxFaults}
+use Rattle.job.specs.declared.Job.{Job}
+use Rattle.reading.specs.Reading.{reading}
+use Rattle.tables.specs.Family.{Family, familyOf}
+use Rattle.tables.specs.Operations.{countsOf}
 use Rattle.tables.specs.declared.Counts.{Counts}
+use Rattle.spectra.specs.Listed.{Entry, readingsOf}
 use Rattle.spectra.specs.declared.Kind.the-variants.{Mrm}
-use Rattle.chooser.specs.declared.Signature.{Signature}
-use Rattle.choosing.specs.Choosing.{Result, AtExit, chosenOf, atExit}
-use Rattle.choosing.specs.Choosing.Result.{chosen, alike}
+use Rattle.choosing.specs.Choosing.{Finding, chosenFrom, chosenOf}
+use Rattle.choosing.specs.Choosing.Finding.{chosen, alike}
 use Rattle.choosing.specs.declared.Purpose.the-variants.{Isolating}
-use Rattle.locating.specs.Scanning.{numbersAt}
 use Rattle.report_text.specs.declared.Reported.{Reported}
 use Rattle.report_text.specs.declared.Reported.the-variants.{Written, Short}
 
@@ -92,26 +95,30 @@ refusedLine i = refusedWord ++ decimal i ++ newline
 abbrev pub alikeLine : ℕ → ℕ → List ℕ
 alikeLine a b = alikeWord ++ decimal a ++ (space ∷ decimal b) ++ newline
 
-abbrev pub jobText : Counts → List ℕ → List ℕ → List ℕ
-jobText counts list work =
-    countsLine counts ++ signatureLine list ++ circuitLines (λ c. numbersAt work (c * 2 ^ (counts .inputs)) list) (counts .faults + 1)
+-- by MRM at polarity 0
+abbrev pub jobText : Counts → Family → List Entry → List ℕ
+jobText counts F list =
+    countsLine counts ++ signatureLine (map (λ (e : Entry). e .index) list) ++ circuitLines (readingsOf Mrm 0 F list) (F .circuits)
 
-abbrev pub answerText : Answer Result → List ℕ → List ℕ → List ℕ
-answerText (gives (chosen counts)) list work = jobText counts list work
-answerText (gives (alike a b)) list work = alikeLine a b
-answerText (refused i) list work = refusedLine i
+abbrev pub findingText : Counts → Family → Finding → List ℕ
+findingText counts F (chosen list) = jobText counts F list
+findingText counts F (alike a b) = alikeLine a b
 
-abbrev pub listOf : Signature → List ℕ
-listOf s = take (s .count) (s .entries)
+abbrev pub chosenText : Counts → Family → Answer (Fills Finding) → List ℕ
+chosenText counts F (gives w) = findingText counts F (w .value)
+chosenText counts F (refused i) = refusedLine i
 
-abbrev pub isolated : List ℕ → List ℕ → AtExit
-isolated s work = atExit (chosenOf Isolating s Mrm 0 (length work)) work
+-- "isolates by MRM at polarity 0": the text for the bytes, with so many places of work
+abbrev pub reportBy : Answer Job → ℕ → List ℕ
+reportBy (gives j) room = chosenText (countsOf j) (familyOf j) (chosenFrom Isolating (familyOf j) Mrm 0 room)
+reportBy (refused i) room = refusedLine i
 
-abbrev pub textOf : AtExit → List ℕ
-textOf c = answerText (c .answer) (listOf (c .signature)) (c .memory)
+abbrev pub reportText : List ℕ → ℕ → List ℕ
+reportText s room = reportBy (reading s) room
 
-abbrev pub reportText : List ℕ → List ℕ → List ℕ
-reportText s work = textOf (isolated s work)
+-- the work at exit
+abbrev pub workLeft : List ℕ → List ℕ → List ℕ
+workLeft s work = leaves (chosenOf Isolating s Mrm 0 (length work)) work .memory
 
 -- 28 characters of counts; 10 of a signature's line and 4 for each entry, which are no more than faults; a line for each circuit, of 3 and again 4 for each
 -- entry
@@ -127,5 +134,9 @@ pub record Report : Type 0 where
 unfoldable pub reported : List ℕ → List ℕ → List ℕ → Report
 reported s work out =
     cond (leb maxText (length out))
-    (record { answer = Written (length (reportText s work)); work = isolated s work .memory; text = splice out 0 (reportText s work) })
+    (record {
+      answer = Written (length (reportText s (length work)));
+      work = workLeft s work;
+      text = splice out 0 (reportText s (length work));
+    })
     (record { answer = Short; work = work; text = out })

@@ -1,12 +1,14 @@
 // The text of the report program (document 01, "The report program"): a job's text, or its refusal.
+//
+// Each function puts a piece of text from a place on and answers the place after it. There is room for the longest
+// text, or nothing is written, so that no piece needs a test.
 ghost use Prim.Native.Nat.{_+_, _*_, _^_, _≤_, _<_};
 ghost use mathlib.Core.Path.{_≡_};
 ghost use mathlib.Core.List.{_∷_};
 ghost use lib.ListN.{length};
-ghost use Rattle.choosing.specs.Choosing.{verdictTold};
 ghost use Rattle.locating.specs.Scanning.{numbersAt};
-ghost use Rattle.report_text.specs.Putting.{Puts, Room, Within, WorkRows, Printable};
-ghost use Rattle.report_text.specs.Text.{decimal, space, numbersText, countsLine, signatureLine, circuitLine, circuitLines, refusedLine, alikeLine, jobText, answerText, listOf, reported};
+ghost use Rattle.report_text.specs.Putting.{Puts, Room, Within, WorkRows, Printable, workText, verdictText};
+ghost use Rattle.report_text.specs.Text.{decimal, space, numbersText, countsLine, signatureLine, circuitLine, circuitLines, refusedLine, alikeLine, reported};
 use chooser::Signature;
 use choosing::Purpose;
 use choosing::Verdict;
@@ -149,8 +151,8 @@ fn put_circuits(
 
 // The whole text of a job, at the start.
 fn put_job(out: &mut [u8], counts: Counts, work: &[u16], list: &[u16]) -> usize
-    requires { ⌜ (counts .inputs ≤ 15) × WorkRows (2 ^ (counts .inputs)) (counts .faults + 1) (now list) (length (now work)) × Room (jobText counts (now list) (now work)) 0 (now out) ⌝ }
-    ensures { λ r. ⌜ Puts (jobText counts (now (list .entry)) (now (work .entry))) (now (out .entry)) 0 r (now (out .exit)) ⌝ }
+    requires { ⌜ (counts .inputs ≤ 15) × WorkRows (2 ^ (counts .inputs)) (counts .faults + 1) (now list) (length (now work)) × Room (workText counts (now list) (now work)) 0 (now out) ⌝ }
+    ensures { λ r. ⌜ Puts (workText counts (now (list .entry)) (now (work .entry))) (now (out .entry)) 0 r (now (out .exit)) ⌝ }
 {
     let signature_at = put_counts(out, counts);
     let circuits_at = put_signature(out, signature_at, list);
@@ -180,14 +182,20 @@ fn put_alike(out: &mut [u8], a: usize, b: usize) -> usize
 }
 
 // The text of a verdict, at the start.
-fn put_verdict(out: &mut [u8], verdict: Verdict, signature: Signature, work: &[u16]) -> usize
-    requires { ⌜ Printable verdict signature (length (now work)) × Room (answerText (verdictTold verdict) (listOf signature) (now work)) 0 (now out) ⌝ }
-    ensures { λ r. ⌜ Puts (answerText (verdictTold verdict) (listOf signature) (now (work .entry))) (now (out .entry)) 0 r (now (out .exit)) ⌝ }
+fn put_verdict(
+    out: &mut [u8],
+    verdict: Verdict,
+    counts: Counts,
+    signature: Signature,
+    work: &[u16],
+) -> usize
+    requires { ⌜ Printable verdict counts signature (length (now work)) × Room (verdictText verdict counts signature (now work)) 0 (now out) ⌝ }
+    ensures { λ r. ⌜ Puts (verdictText verdict counts signature (now (work .entry))) (now (out .entry)) 0 r (now (out .exit)) ⌝ }
 {
     match verdict {
         Verdict::Refused(cause) => put_refused(out, cause.number()),
         Verdict::Alike(a, b) => put_alike(out, a, b),
-        Verdict::Done(counts) => {
+        Verdict::Done => {
             let count = signature.count;
             let entries = signature.entries;
             put_job(out, counts, work, &entries[..count])
@@ -204,6 +212,6 @@ pub fn report(bytes: &[u8], work: &mut [u16], out: &mut [u8]) -> Reported
     }
     let chosen = choosing::choose(bytes, Purpose::Isolating, Kind::Mrm, 0, work);
     let verdict = chosen.verdict;
-    let end = put_verdict(out, verdict, chosen.signature, work);
+    let end = put_verdict(out, verdict, chosen.counts, chosen.signature, work);
     Reported::Written(end)
 }

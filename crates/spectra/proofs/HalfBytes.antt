@@ -30,13 +30,14 @@ use Rattle.bits.proofs.Digits.{digit-lt}
 use Rattle.bits.proofs.Packed.{tabulate-at, tabulate-ext, tabulate-list}
 use Rattle.bits.specs.Slices.{splice}
 use Rattle.bits.proofs.Splice.{Written, written-all, splice-whole}
+use Rattle.bits.specs.Blocks.{block}
+use Rattle.bits.proofs.Blocks.{length-block, block-at}
 use Rattle.spectra.specs.Recursion.{byteEntry, sumsOf, byteSums, halfByte, halfRows, halfSums, eightFrom, sumAt, eightSums, SumsFit, Asks, LeafAsks, entriesFrom}
 use Rattle.spectra.specs.Operations.{at}
 use Rattle.spectra.specs.Spectrum.{inside, sumTo, subsetSum, coefficient, spectrum}
 use Rattle.spectra.specs.declared.Kind.the-variants.{Mrm}
 use Rattle.spectra.proofs.Bounds.{coefficient-le, subset-ext}
 use Rattle.spectra.proofs.Sums.{sumTo-ext, sumTo-plus, term}
-use Rattle.spectra.proofs.WorkPlaces.{length-joined, joined-at}
 
 -- ---- a byte and its halves
 
@@ -137,15 +138,14 @@ eight-read s at =
 
 module _ (k : ℕ) where
   length-rows : (i : ℕ) → length (halfRows k i) ≡ i * 8
-  unfolding halfRows
-  length-rows i = length-joined (halfRows k) (λ r. byteSums k (halfByte r)) 8 refl (λ r. refl) (λ r. refl) i
+  length-rows i = length-block 8 (λ r. byteSums k (halfByte r)) (λ r. refl) i
 
   half-row : (i : ℕ) → i < 32 → eightFrom (halfSums k) (i * 8) ≡ byteSums k (halfByte i)
-  unfolding halfRows tabulate
+  unfolding block tabulate
   half-row i h =
       eight-read (halfSums k) (i * 8)
       ∙ tabulate-ext 8 (λ j. getD (halfSums k) (i * 8 + j) 0) (at (byteSums k (halfByte i)))
-      (λ j l. joined-at (halfRows k) (λ r. byteSums k (halfByte r)) 8 refl (λ r. refl) (λ r. refl) 32 i j h l)
+      (λ j l. block-at 8 (λ r. byteSums k (halfByte r)) (λ r. refl) 32 i j h l)
 
 pub record Summing (k : ℕ) (start sums : List ℕ) (i : ℕ) : Type 0 where
   pub size : length start ≡ 256
@@ -153,7 +153,7 @@ pub record Summing (k : ℕ) (start sums : List ℕ) (i : ℕ) : Type 0 where
   pub done : sums ≡ halfRows k i ++ drop (i * 8) start
 
 pub summing-start : (k : ℕ) {start : List ℕ} → length start ≡ 256 → Summing k start start 0
-unfolding halfRows
+unfolding block
 summing-start k e = record { size = e; within = zero-le; done = refl }
 
 module _ {k : ℕ} {start sums : List ℕ} {i : ℕ} (w : Summing k start sums i) where
@@ -165,7 +165,7 @@ module _ {k : ℕ} {start sums : List ℕ} {i : ℕ} (w : Summing k start sums i
 
   pub summing-next : {byte : ℕ} {x after : List ℕ} → i < 32 → byte ≡ halfByte i → x ≡ byteSums k byte → after ≡ splice sums (i * 8) x
       → Summing k start after (i + 1)
-  unfolding halfRows
+  unfolding block
   summing-next {byte} {x} h b e p =
       let row : x ≡ byteSums k (halfByte i) = e ∙ ap (byteSums k) b in
       let lx : length x ≡ 8 = ap length row in

@@ -1,11 +1,10 @@
 pub mod Acceptance
 pub mod Bounds
 pub mod Combination
+pub mod Families
 pub mod HalfBytes
 pub mod Halves
 pub mod Inverse
-pub mod JobRows
-pub mod JobTables
 pub mod PackedTables
 pub mod Parities
 pub mod Recovery
@@ -13,8 +12,9 @@ pub mod Recursion
 pub mod Reduction
 pub mod Refusals
 pub mod Rows
+pub mod Sizes
 pub mod Subnumbers
 pub mod Sums
 pub mod TableTests
+pub mod Undoing
 pub mod Uniqueness
-pub mod WorkPlaces

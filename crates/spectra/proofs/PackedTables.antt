@@ -18,7 +18,7 @@ use Rattle.job.specs.declared.Job.{Job}
 use Rattle.bits.specs.Sizes.{tableBytes}
 use Rattle.tables.specs.Circuit.{circuitEntry, circuitTable}
 use Rattle.spectra.specs.Operations.{zeroFrom, tableOk, tableRow, rowsOk}
-use Rattle.spectra.proofs.JobTables.{entry-bit}
+use Rattle.tables.proofs.Families.{entry-bit}
 
 zero-from : (w m : ℕ) (s : List ℕ) → ((i : ℕ) → m ≤ i → i < m + w → entry s i ≡ 0) → zeroFrom w m s ≡ true
 unfolding zeroFrom

@@ -39,8 +39,9 @@ use Rattle.bits.specs.Sizes.{tableBytes, tableSizeOf}
 use Rattle.bits.specs.Slices.{splice}
 use Rattle.bits.proofs.TableSizes.{table-size-exact}
 use Rattle.tables.proofs.Answers.{kept, put}
-use Rattle.spectra.specs.Operations.{tableOk, rowsOf, at, sameNumbers, isSpectrum, undoneOf}
+use Rattle.spectra.specs.Operations.{tableOk, at, sameNumbers, isSpectrum, undoneOf}
 use Rattle.spectra.specs.Parities.{parityAt, Packs, Lent}
+use Rattle.spectra.specs.Rows.{rowsOf}
 use Rattle.spectra.specs.Spectrum.{spectrum, recovered}
 use Rattle.spectra.specs.declared.Kind.{Kind}
 use Rattle.spectra.specs.declared.Kind.the-variants.{Rm}

@@ -1,84 +1,102 @@
 -- What the operations on tables answer and leave, case by case (specs/Operations.antt, specs/Rows.antt).
 --
---   room-of                 so many places, counted by a quotient, hold so many spectra
---   filled-polarity, filled-memory, filled-done   the spectra of tables: 13, 10, success
---   rows-few, rows-many     the rows of tables: 2
---   rows-shape              12
---   rows-onward             past these checks the spectra are filled
+--   tables-low, tables-high, tables-wrong, tables-right   the checks of tables: 2 twice, 12, none
+--   filled-unchecked, filled-polarity, filled-memory, filled-done   the spectra of tables: 2 or 12, 13, 10, success
+--   rows-room               the places of tables that pass the checks are a number
 --   spectrum-row            the spectrum of a table is that of one row
 --   row-done                which is left in memory of its size where no test fails
-use Prim.Native.Nat.{ℕ, _-_, _*_, _/_, _^_, _≤_, _<_}
-use native.Mathlib.Nat.{div-lt-iff-lt-mul, le-div-iff-mul-le, one-mul, le-of-eq}
-use mathlib.Core.Path.{_≡_, refl, sym, ap, ap₂, _∙_}
+use Prim.Native.Nat.{ℕ, _+_, _-_, _*_, _^_, _≤_, _<_}
+use native.Mathlib.Nat.{one-mul, mul-one, le-of-eq, mul-le-mul, lt-of-le-of-lt}
+use native.Mathlib.Omega.{arith}
+use mathlib.Core.Path.{_≡_, refl, sym, ap, ap₂, subst, _∙_}
 use mathlib.Core.Bool.{Bool, true, false, _&&_}
 use mathlib.Core.List.{List, _++_, append-nil}
 use borrow.Author.Tests.{eqb-true, le-leb, lt-leb, lt-ltb, le-ltb}
 use lib.Dec.{leb, eqb}
 use lib.ListN.{length, drop, drop-of-length-le}
-use lib.Pow.{pow-pos}
-use Rattle.bits.specs.Answer.{Answer, Fills, Leaves, leaves, unless}
+use lib.Pow.{pow-mono}
+use Rattle.bits.specs.Answer.{Answer, Fills, Leaves, leaves, unless, onward}
 use Rattle.bits.specs.Answer.Answer.{gives, refused}
+use Rattle.bits.specs.Blocks.{block}
 use Rattle.bits.specs.Packed.{entry}
-use Rattle.bits.proofs.Tests.{and-i}
 use Rattle.job.specs.Check.{inputsOk}
-use Rattle.job.specs.Layout.{maxInputs}
+use Rattle.job.specs.Layout.{maxInputs, maxFaults}
+use Rattle.job.proofs.Sizes.{most-places}
 use Rattle.bits.specs.Sizes.{tableBytes}
 use Rattle.tables.proofs.Answers.{kept}
-use Rattle.spectra.specs.Operations.{zeroFrom, tableOk, tableRow, rowsOk, polarityOk, rowSpectra, rowsOf, spectrumOf}
-use Rattle.spectra.specs.Rows.{rowsFit, spectraFilled}
+use Rattle.spectra.specs.Listed.{familySpectra, places}
+use Rattle.spectra.specs.Operations.{zeroFrom, tableOk, tableRow, rowsOk, tablesOk, tablesChecked, tableFamily, filledFrom, polarityOk, spectrumOf}
+use Rattle.spectra.specs.Rows.{rowsFilled, rowSpectra, rowsOf}
 use Rattle.spectra.specs.Spectrum.{spectrum}
 use Rattle.spectra.specs.declared.Kind.{Kind}
 use Rattle.spectra.proofs.Bounds.{length-spectrum}
+use Rattle.spectra.proofs.Families.{Fits, unchecked, checked, rows-family}
 use Rattle.spectra.proofs.Rows.{length-rowSpectra, row-whole}
 
-pub room-of : (n : ℕ) {rows room : ℕ} → rows ≤ room / 2 ^ n → rows * 2 ^ n ≤ room
-room-of n h = le-div-iff-mul-le (pow-pos n) .0 h
+-- ---- the checks of tables
 
-module _ (n : ℕ) {size : ℕ} (e : size ≡ 2 ^ n) (rows : ℕ) (s : List ℕ) (kind : Kind) (k : ℕ) (out : List ℕ) where
-  pub filled-polarity : size ≤ k → record { answer = refused 13; memory = out } ≡ leaves (spectraFilled n rows s kind k (length out)) out
-  unfolding spectraFilled
-  filled-polarity h = kept (spectraFilled n rows s kind k (length out)) 13 out (let l : 2 ^ n ≤ k = rw e at h in simp (le-ltb k (2 ^ n) l))
+module _ (n rows : ℕ) (s : List ℕ) where
+  pub tables-low : n < 1 → refused 2 ≡ tablesChecked n rows s
+  unfolding tablesChecked
+  tables-low h = simp (lt-leb 1 n h)
 
-  pub filled-memory : k < size → length out / 2 ^ n < rows
-      → record { answer = refused 10; memory = out } ≡ leaves (spectraFilled n rows s kind k (length out)) out
-  unfolding spectraFilled
-  filled-memory h l =
-      let i : k < 2 ^ n = rw e at h in
-      let j : length out < rows * 2 ^ n = div-lt-iff-lt-mul (pow-pos n) .0 l in
-      kept (spectraFilled n rows s kind k (length out)) 10 out (simp (lt-ltb k (2 ^ n) i, lt-leb (rows * 2 ^ n) (length out) j))
+  pub tables-high : 1 ≤ n → maxInputs < n → refused 2 ≡ tablesChecked n rows s
+  unfolding tablesChecked
+  tables-high h l = simp (le-leb 1 n h, lt-leb n maxInputs l)
 
-  pub filled-done : (after : List ℕ) → k < size → rows ≤ length out / 2 ^ n → after ≡ rowSpectra kind n k s rows ++ drop (rows * 2 ^ n) out
-      → record { answer = gives tt; memory = after } ≡ leaves (spectraFilled n rows s kind k (length out)) out
-  unfolding spectraFilled
-  filled-done after h l p =
-      let i : k < 2 ^ n = rw e at h in
-      let j : rows * 2 ^ n ≤ length out = room-of n l in
-      let gave : spectraFilled n rows s kind k (length out) ≡ gives (record { value = tt; filled = rowSpectra kind n k s rows }) =
-      simp (lt-ltb k (2 ^ n) i, le-leb (rows * 2 ^ n) (length out) j) in
-      ap (λ (m : List ℕ). record { answer = gives tt; memory = m })
-      (p ∙ ap (λ (x : ℕ). rowSpectra kind n k s rows ++ drop x out) (sym (length-rowSpectra kind n k s rows)))
-      ∙ ap (λ (x : Answer (Fills (Unit {0}))). leaves x out) (sym gave)
+  pub tables-wrong : 1 ≤ n → n ≤ maxInputs → tablesOk n rows s ≡ false → refused 12 ≡ tablesChecked n rows s
+  unfolding tablesChecked
+  tables-wrong h l e = simp (le-leb 1 n h, le-leb n maxInputs l, e)
+
+  pub tables-right : 1 ≤ n → n ≤ maxInputs → tablesOk n rows s ≡ true → gives tt ≡ tablesChecked n rows s
+  unfolding tablesChecked
+  tables-right h l e = simp (le-leb 1 n h, le-leb n maxInputs l, e)
+
+-- ---- the spectra of tables
 
 module _ (n rows : ℕ) (s : List ℕ) (kind : Kind) (k : ℕ) (out : List ℕ) where
-  pub rows-few : n < 1 → record { answer = refused 2; memory = out } ≡ leaves (rowsOf n rows s kind k (length out)) out
-  unfolding rowsOf
-  rows-few h = kept (rowsOf n rows s kind k (length out)) 2 out (simp (lt-leb 1 n h))
+  pub filled-unchecked : {i : ℕ} → tablesChecked n rows s ≡ refused i → record { answer = refused i; memory = out } ≡ leaves (rowsOf n rows s kind k (length out)) out
+  filled-unchecked {i} e =
+      kept (rowsOf n rows s kind k (length out)) i out (unchecked n rows s (λ F. filledFrom F kind k (length out)) e)
 
-  pub rows-many : 1 ≤ n → maxInputs < n → record { answer = refused 2; memory = out } ≡ leaves (rowsOf n rows s kind k (length out)) out
-  unfolding rowsOf
-  rows-many h l = kept (rowsOf n rows s kind k (length out)) 2 out (simp (le-leb 1 n h, lt-leb n maxInputs l))
+  module _ (ok : tablesChecked n rows s ≡ gives tt) where
+    onto : rowsOf n rows s kind k (length out) ≡ filledFrom (tableFamily n rows s) kind k (length out)
+    onto = checked n rows s (λ F. filledFrom F kind k (length out)) ok
 
-  pub rows-shape : 1 ≤ n → n ≤ maxInputs → rowsFit n s rows ≡ false
-      → record { answer = refused 12; memory = out } ≡ leaves (rowsOf n rows s kind k (length out)) out
-  unfolding rowsOf rowsFit
-  rows-shape h l e = kept (rowsOf n rows s kind k (length out)) 12 out (simp (le-leb 1 n h, le-leb n maxInputs l, e))
+    -- the places of one output
+    one-output : {size : ℕ} → size ≡ 2 ^ n → places (tableFamily n rows s) ≡ rows * size
+    one-output e = ap₂ (λ (x y : ℕ). x * y) (mul-one rows) (sym e)
 
-  pub rows-onward : 1 ≤ n → n ≤ maxInputs → rowsFit n s rows ≡ true
-      → leaves (spectraFilled n rows s kind k (length out)) out ≡ leaves (rowsOf n rows s kind k (length out)) out
-  unfolding rowsOf rowsFit spectraFilled
-  rows-onward h l e =
-      ap₂ (λ (u w : Bool). leaves (unless u 2 (unless w 12 (spectraFilled n rows s kind k (length out)))) out)
-      (sym (and-i (le-leb 1 n h) (le-leb n maxInputs l))) (sym e)
+    pub filled-polarity : {size : ℕ} → size ≡ 2 ^ n → size ≤ k → record { answer = refused 13; memory = out } ≡ leaves (rowsOf n rows s kind k (length out)) out
+    unfolding filledFrom
+    filled-polarity e h =
+        kept (rowsOf n rows s kind k (length out)) 13 out (onto ∙ (let l : 2 ^ n ≤ k = rw e at h in simp (le-ltb k (2 ^ n) l)))
+
+    pub filled-memory : {size : ℕ} → size ≡ 2 ^ n → k < size → length out < rows * size
+        → record { answer = refused 10; memory = out } ≡ leaves (rowsOf n rows s kind k (length out)) out
+    unfolding filledFrom
+    filled-memory e h l =
+        let i : k < 2 ^ n = rw e at h in
+        let p : length out < places (tableFamily n rows s) = subst (λ (x : ℕ). length out < x) (sym (one-output e)) l in
+        kept (rowsOf n rows s kind k (length out)) 10 out
+        (onto ∙ simp (lt-ltb k (2 ^ n) i, lt-leb (places (tableFamily n rows s)) (length out) p))
+
+    pub filled-done : {size : ℕ} → size ≡ 2 ^ n → (after : List ℕ) → k < size → rows * size ≤ length out → after ≡ rowsFilled kind n k s rows out
+        → record { answer = gives tt; memory = after } ≡ leaves (rowsOf n rows s kind k (length out)) out
+    unfolding filledFrom
+    filled-done e after h l p =
+        let i : k < 2 ^ n = rw e at h in
+        let room : places (tableFamily n rows s) ≤ length out = subst (λ (x : ℕ). x ≤ length out) (sym (one-output e)) l in
+        let gave : filledFrom (tableFamily n rows s) kind k (length out) ≡ gives (record { value = tt; filled = familySpectra kind k (tableFamily n rows s) }) =
+        simp (lt-ltb k (2 ^ n) i, le-leb (places (tableFamily n rows s)) (length out) room) in
+        ap (λ (m : List ℕ). record { answer = gives tt; memory = m })
+        (p ∙ ap (λ (x : ℕ). rowSpectra kind n k s rows ++ drop x out) (sym (length-rowSpectra kind n k s rows))
+        ∙ ap (λ (x : List ℕ). x ++ drop (length x) out) (rows-family kind n k s rows))
+        ∙ ap (λ (x : Answer (Fills (Unit {0}))). leaves x out) (sym (onto ∙ gave))
+
+pub rows-room : (n : ℕ) {rows size : ℕ} {s : List ℕ} → Fits n rows s → size ≡ 2 ^ n → rows * size < 2 ^ 64
+rows-room n {rows} {size} f e =
+    lt-of-le-of-lt (mul-le-mul (f .listed-few) (subst (λ (x : ℕ). x ≤ 2 ^ maxInputs) (sym e) (pow-mono (f .few)))) most-places
 
 -- ---- one table
 
@@ -91,9 +109,19 @@ checks n kind k room ok places s =
     (unless (leb places room) 10
     (gives (record { value = tt; filled = spectrum kind n k (entry s) })))))
 
+checks-first : {A B : Type 0} (u w : Bool) (a : A) (f : A → Answer B)
+    → onward (unless u 2 (unless w 12 (gives a))) f ≡ unless u 2 (unless w 12 (f a))
+checks-first true true a f = refl
+checks-first true false a f = refl
+checks-first false w a f = refl
+
 pub spectrum-row : (n : ℕ) (s : List ℕ) (kind : Kind) (k room : ℕ) → rowsOf n 1 s kind k room ≡ spectrumOf n s kind k room
-unfolding checks spectrumOf rowsOf rowsOk rowSpectra tableOk
-spectrum-row n s kind k room = go (eqb (length s) (tableBytes n)) refl
+unfolding checks spectrumOf tablesChecked tablesOk filledFrom rowsOk block tableOk
+spectrum-row n s kind k room =
+    ap (λ (t : Bool). onward (unless (inputsOk n) 2 (unless (t && (eqb (length s) (1 * tableBytes n) && tableOk n (tableRow n s 0))) 12 (gives (tt {0}))))
+    (λ _. filledFrom (tableFamily n 1 s) kind k room)) (le-leb 1 (maxFaults + 1) (omega arith))
+    ∙ checks-first (inputsOk n) (eqb (length s) (1 * tableBytes n) && tableOk n (tableRow n s 0)) tt (λ _. filledFrom (tableFamily n 1 s) kind k room)
+    ∙ go (eqb (length s) (tableBytes n)) refl
   where
     places : 1 * 2 ^ n ≡ 2 ^ n
     places = one-mul (2 ^ n)
@@ -101,7 +129,8 @@ spectrum-row n s kind k room = go (eqb (length s) (tableBytes n)) refl
     size : 1 * tableBytes n ≡ tableBytes n
     size = one-mul (tableBytes n)
 
-    go : (u : Bool) → eqb (length s) (tableBytes n) ≡ u → rowsOf n 1 s kind k room ≡ spectrumOf n s kind k room
+    go : (u : Bool) → eqb (length s) (tableBytes n) ≡ u
+        → checks n kind k room (eqb (length s) (1 * tableBytes n) && tableOk n (tableRow n s 0)) (1 * 2 ^ n) (tableRow n s 0) ≡ spectrumOf n s kind k room
     go true e =
         let row : tableRow n s 0 ≡ s = row-whole n s (eqb-true (length s) (tableBytes n) e) in
         ap (λ (x : ℕ). checks n kind k room (eqb (length s) x && tableOk n (tableRow n s 0)) (1 * 2 ^ n) (tableRow n s 0)) size

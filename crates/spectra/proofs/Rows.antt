@@ -16,7 +16,7 @@
 --   filling-next        one spectrum more is put
 --   filling-lent        the same, as the memory and the row are lent
 --   filling-end         all are put
-use Prim.Native.Nat.{ℕ, zero, suc, _+_, _-_, _*_, _^_, _≤_, _<_}
+use Prim.Native.Nat.{ℕ, suc, _+_, _-_, _*_, _^_, _≤_, _<_}
 use native.Mathlib.Nat.{le-antisymm, le-of-eq, zero-mul, zero-add, suc-mul, mul-le-mul-right, le-trans}
 use native.Mathlib.Numerals.{add-one}
 use native.Mathlib.Omega.{arith}
@@ -24,21 +24,20 @@ use mathlib.Core.Path.{_≡_, sym, ap, ap₂, subst, _∙_}
 use mathlib.Core.List.{List, _++_, append-assoc}
 use lib.ListN.{length, take, drop, length-append, length-take, length-drop}
 use lib.Seq.{take-all, take-at, drop-append-add, drop-drop}
+use Rattle.bits.specs.Blocks.{block}
+use Rattle.bits.proofs.Blocks.{length-block}
 use Rattle.bits.specs.Packed.{entry}
 use Rattle.bits.specs.Sizes.{tableBytes}
-use Rattle.spectra.specs.Operations.{tableRow, rowSpectra}
+use Rattle.spectra.specs.Operations.{tableRow}
+use Rattle.spectra.specs.Rows.{rowSpectra}
 use Rattle.spectra.specs.Spectrum.{spectrum}
 use Rattle.spectra.specs.Recursion.{entriesFrom}
 use Rattle.spectra.specs.declared.Kind.{Kind}
 use Rattle.spectra.proofs.Bounds.{length-spectrum, spectrum-ext}
 
 pub length-rowSpectra : (kind : Kind) (n k : ℕ) (s : List ℕ) (r : ℕ) → length (rowSpectra kind n k s r) ≡ r * 2 ^ n
-unfolding rowSpectra
-length-rowSpectra kind n k s zero = sym (zero-mul (2 ^ n))
-length-rowSpectra kind n k s (suc r) =
-    length-append (rowSpectra kind n k s r) (spectrum kind n k (entry (tableRow n s r)))
-    ∙ ap₂ _+_ (length-rowSpectra kind n k s r) (length-spectrum kind n k (entry (tableRow n s r)))
-    ∙ sym (suc-mul r (2 ^ n))
+length-rowSpectra kind n k s r =
+    length-block (2 ^ n) (λ i. spectrum kind n k (entry (tableRow n s i))) (λ i. length-spectrum kind n k (entry (tableRow n s i))) r
 
 pub row-within : (r rows size room : ℕ) → r < rows → rows * size ≤ room → r * size + size ≤ room
 row-within r rows size room h fits = le-trans (subst (λ (k : ℕ). k ≤ rows * size) (suc-mul r size) (mul-le-mul-right size h)) fits
@@ -72,7 +71,7 @@ pub record Filling (kind : Kind) (n k : ℕ) (s start : List ℕ) (rows size byt
 
 pub filling-start : (kind : Kind) (n k : ℕ) (s start : List ℕ) (rows : ℕ) {size bytes : ℕ} → size ≡ 2 ^ n → bytes ≡ tableBytes n → rows * 2 ^ n ≤ length start
     → Filling kind n k s start rows size bytes start 0
-unfolding rowSpectra
+unfolding block
 filling-start kind n k s start rows e d h = record { sized = e; wide = d; room = h; within = omega arith; done = ap (λ (x : ℕ). drop x start) (sym (zero-mul (2 ^ n))) }
 
 module _ {kind : Kind} {n k : ℕ} {s start : List ℕ} {rows size bytes : ℕ} {work : List ℕ} {r : ℕ} (f : Filling kind n k s start rows size bytes work r) where
@@ -109,7 +108,7 @@ module _ {kind : Kind} {n k : ℕ} {s start : List ℕ} {rows size bytes : ℕ} 
 
   pub filling-next : (new after : List ℕ) → r < rows → k < 2 ^ n → new ≡ spectrum kind n k (entriesFrom (tableRow n s r) 0)
       → after ≡ take (r * 2 ^ n) work ++ (new ++ drop (r * 2 ^ n + 2 ^ n) work) → Filling kind n k s start rows size bytes after (r + 1)
-  unfolding rowSpectra
+  unfolding block
   filling-next new after h hk e p =
       let q : new ≡ spectrum kind n k (entry (tableRow n s r)) =
       e ∙ spectrum-ext kind n k (entriesFrom (tableRow n s r) 0) (entry (tableRow n s r)) hk (λ m l. ap (entry (tableRow n s r)) (zero-add m)) in

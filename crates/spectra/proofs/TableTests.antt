@@ -5,10 +5,9 @@
 --   table-one, table-two   the spare bits of one and of two inputs
 --   table-full       more inputs leave no spare bits
 --   bytes-some       a table has at least one byte
---   count-small, count-large   how many tables bytes hold, by a shift
---   rows-few-bytes   the bytes of so many rows are no more than there are
---   rows-other       bytes that hold another number of rows are no such rows
---   rows-uneven      nor are bytes of which some are left over
+--   rows-none, rows-many   no rows, or more than a list has circuits
+--   rows-other       as many rows have other bytes
+--   rows-small       these are a number
 --   Testing          the bytes are as many as the rows have, and the rows below r are tables
 --   testing-start    no row is tested yet
 --   testing-room     the rows lie within the bytes
@@ -16,26 +15,26 @@
 --   testing-next     one row more is a table
 --   testing-stop     a row is none
 --   testing-end      all are
---   rows-within      rows that are tables lie within the bytes
 use Prim.Native.Nat.{ℕ, zero, suc, _+_, _-_, _*_, _/_, _%_, _^_, _≤_, _<_}
-use native.Mathlib.Nat.{zero-mul, zero-add, suc-mul, le-antisymm, le-of-eq, mul-div-cancel, le-div-iff-mul-le, div-one}
+use native.Mathlib.Nat.{zero-mul, zero-add, suc-mul, le-antisymm, le-of-eq, mul-le-mul, lt-of-le-of-lt}
 use native.Mathlib.Numerals.{add-one}
 use native.Mathlib.Omega.{arith}
 use mathlib.Core.Path.{_≡_, refl, sym, ap, ap₂, subst, _∙_}
 use mathlib.Core.Bool.{Bool, true, false, not, _&&_}
 use mathlib.Core.List.{List}
 use mathlib.Core.Logic.{⊎-elim}
-use borrow.Author.Tests.{eqb-true, eq-eqb, ne-eqb, not-true, not-false}
-use lib.Dec.{eqb}
+use borrow.Author.Tests.{eq-eqb, ne-eqb, le-leb, lt-leb, not-true, not-false}
+use lib.Dec.{eqb, leb}
 use lib.ListN.{length, getD, take, drop}
 use lib.Pow.{pow-pos, pow-mono, pow-add, mod-pow-add}
 use Rattle.bits.specs.Packed.{entry}
 use Rattle.bits.proofs.Below.{lt-or-ge}
 use Rattle.bits.proofs.Packed.{entry-digit}
-use Rattle.bits.proofs.Tests.{and-l, and-i}
+use Rattle.bits.proofs.Tests.{and-i}
 use Rattle.bits.specs.Sizes.{tableBytes}
-use Rattle.spectra.specs.Rows.{rowsFit}
-use Rattle.spectra.specs.Operations.{zeroFrom, tableOk, tableRow, rowsOk}
+use Rattle.job.specs.Layout.{maxFaults}
+use Rattle.spectra.specs.Operations.{zeroFrom, tableOk, tableRow, rowsOk, tablesOk}
+use Rattle.spectra.proofs.Sizes.{all-rows-fit}
 use Rattle.spectra.proofs.Rows.{row-place, row-slice}
 
 -- ---- one table
@@ -86,50 +85,51 @@ module _ (n : ℕ) {bytes : ℕ} (s : List ℕ) (e : bytes ≡ tableBytes n) whe
 
 -- ---- rows of tables
 
-wrong-length : (n : ℕ) (s : List ℕ) (rows : ℕ) → (length s ≡ rows * tableBytes n → ⊥) → false ≡ rowsFit n s rows
-unfolding rowsFit
-wrong-length n s rows h = ap (λ (t : Bool). t && rowsOk n s rows) (sym (ne-eqb (length s) (rows * tableBytes n) h))
-
-bytes-pos : (n : ℕ) → 0 < tableBytes n
-bytes-pos n = let p = pow-pos n in omega arith
-
 pub bytes-some : (n : ℕ) {bytes : ℕ} → bytes ≡ tableBytes n → 0 < bytes
-bytes-some n e = rw e (bytes-pos n)
+bytes-some n e = let p = pow-pos n in omega arith
 
--- the bytes of a table are a power of two
-pub count-small : (n size : ℕ) → n < 3 → size ≡ size / tableBytes n
-count-small n size h =
-    let q : 2 ^ n ≤ 2 ^ 2 = pow-mono {i = n} {j = 2} (omega arith) in
-    let e : tableBytes n ≡ 1 = omega (arith, pow-pos n) in
-    sym (div-one size) ∙ ap (λ (w : ℕ). size / w) (sym e)
+module _ (n : ℕ) (s : List ℕ) (rows : ℕ) where
+  pub rows-none : rows < 1 → false ≡ tablesOk n rows s
+  unfolding tablesOk
+  rows-none h = sym (ap (λ (t : Bool). t && (leb rows (maxFaults + 1) && fit)) (lt-leb 1 rows h))
+    where
+      fit : Bool
+      fit = eqb (length s) (rows * tableBytes n) && rowsOk n s rows
 
-pub count-large : (n size : ℕ) → 3 ≤ n → size / 2 ^ (n - 3) ≡ size / tableBytes n
-count-large n size h =
-    let i : 3 + (n - 3) ≡ n = omega arith in
-    let q : 2 ^ n ≡ 8 * 2 ^ (n - 3) = ap (λ (m : ℕ). 2 ^ m) (sym i) ∙ pow-add 2 3 (n - 3) in
-    let e : 2 ^ (n - 3) ≡ tableBytes n = omega arith in
-    ap (λ (w : ℕ). size / w) e
+  pub rows-many : 1 ≤ rows → maxFaults + 1 < rows → false ≡ tablesOk n rows s
+  unfolding tablesOk
+  rows-many h l = simp (le-leb 1 rows h, lt-leb rows (maxFaults + 1) l)
 
-pub rows-few-bytes : (n : ℕ) {bytes count rows size : ℕ} → bytes ≡ tableBytes n → count ≡ size / tableBytes n → count ≡ rows → rows * bytes ≤ size
-rows-few-bytes n {bytes} {count} {rows} {size} e p q = le-div-iff-mul-le (bytes-some n e) .0 (omega (arith, p, q, ap (λ (w : ℕ). size / w) e))
+  -- of so many rows the length and the tables are left to test
+  counted : 1 ≤ rows → rows ≤ maxFaults + 1 → eqb (length s) (rows * tableBytes n) && rowsOk n s rows ≡ tablesOk n rows s
+  unfolding tablesOk
+  counted h l = simp (le-leb 1 rows h, le-leb rows (maxFaults + 1) l)
 
-pub rows-uneven : (n : ℕ) {bytes : ℕ} (s : List ℕ) (rows : ℕ) → bytes ≡ tableBytes n → (rows * bytes ≡ length s → ⊥) → false ≡ rowsFit n s rows
-rows-uneven n s rows e h = wrong-length n s rows (λ p. h (ap (λ (w : ℕ). rows * w) e ∙ sym p))
+  pub rows-other : {bytes : ℕ} → bytes ≡ tableBytes n → 1 ≤ rows → rows ≤ maxFaults + 1 → (length s ≡ rows * bytes → ⊥) → false ≡ tablesOk n rows s
+  rows-other e h l ne =
+      ap (λ (t : Bool). t && rowsOk n s rows) (sym (ne-eqb (length s) (rows * tableBytes n) (λ p. ne (p ∙ ap (λ (w : ℕ). rows * w) (sym e)))))
+      ∙ counted h l
 
-pub rows-other : (n : ℕ) {count : ℕ} (s : List ℕ) (rows : ℕ) → count ≡ length s / tableBytes n → (count ≡ rows → ⊥) → false ≡ rowsFit n s rows
-rows-other n s rows e h =
-    wrong-length n s rows (λ p. h (e ∙ ap (λ (l : ℕ). l / tableBytes n) p ∙ mul-div-cancel rows (bytes-pos n)))
+-- the rows are as many as a list may have circuits
+pub rows-small : (n : ℕ) {bytes rows : ℕ} → n ≤ 15 → bytes ≡ tableBytes n → rows ≤ maxFaults + 1 → rows * bytes < 2 ^ 64
+rows-small n {bytes} {rows} h e l =
+    let p : 2 ^ n ≤ 2 ^ 15 = pow-mono {i = n} {j = 15} h in
+    let b : bytes ≤ 4096 = omega (arith, e) in
+    lt-of-le-of-lt (mul-le-mul l b) all-rows-fit
 
 pub record Testing (n : ℕ) (s : List ℕ) (rows bytes r : ℕ) : Type 0 where
   pub wide : bytes ≡ tableBytes n
   pub size : length s ≡ rows * tableBytes n
   pub within : r ≤ rows
   pub ok : rowsOk n s r ≡ true
+  pub some : 1 ≤ rows
+  pub few : rows ≤ maxFaults + 1
 
-pub testing-start : {n bytes rows : ℕ} (s : List ℕ) → bytes ≡ tableBytes n → rows * bytes ≡ length s → Testing n s rows bytes 0
+pub testing-start : {n bytes rows : ℕ} (s : List ℕ) → bytes ≡ tableBytes n → 1 ≤ rows → rows ≤ maxFaults + 1 → length s ≡ rows * bytes
+    → Testing n s rows bytes 0
 unfolding rowsOk
-testing-start {n} {bytes} {rows} s e p =
-    record { wide = e; size = sym p ∙ ap (λ (x : ℕ). rows * x) e; within = omega arith; ok = refl }
+testing-start {n} {bytes} {rows} s e h l p =
+    record { wide = e; size = p ∙ ap (λ (x : ℕ). rows * x) e; within = omega arith; ok = refl; some = h; few = l }
 
 fails : (n : ℕ) (s : List ℕ) (r rows : ℕ) → r < rows → tableOk n (tableRow n s r) ≡ false → rowsOk n s rows ≡ false
 unfolding rowsOk
@@ -152,11 +152,11 @@ module _ {n : ℕ} {s : List ℕ} {rows bytes r : ℕ} (g : Testing n s rows byt
   testing-place h = row-place (g .wide) h testing-room
 
   pub testing-stop : (t : Bool) → r < rows
-      → t ≡ tableOk n (take (r * bytes + bytes - r * bytes) (drop (r * bytes) s)) → not t ≡ true → false ≡ rowsFit n s rows
-  unfolding rowsFit
+      → t ≡ tableOk n (take (r * bytes + bytes - r * bytes) (drop (r * bytes) s)) → not t ≡ true → false ≡ tablesOk n rows s
   testing-stop t h p q =
       sym (ap₂ _&&_ (eq-eqb (length s) (rows * tableBytes n) (g .size))
       (fails n s r rows h (sym (ap (tableOk n) (row-slice n s r (g .wide))) ∙ sym p ∙ not-true t q)))
+      ∙ counted n s rows (g .some) (g .few)
 
   pub testing-next : (t : Bool) → r < rows
       → t ≡ tableOk n (take (r * bytes + bytes - r * bytes) (drop (r * bytes) s)) → not t ≡ false → Testing n s rows bytes (r + 1)
@@ -166,17 +166,14 @@ module _ {n : ℕ} {s : List ℕ} {rows bytes r : ℕ} (g : Testing n s rows byt
         wide = g .wide;
         size = g .size;
         within = omega arith;
+        some = g .some;
+        few = g .few;
         ok =
             ap (rowsOk n s) (add-one r)
             ∙ and-i (g .ok) (sym (ap (tableOk n) (row-slice n s r (g .wide))) ∙ sym p ∙ not-false t q);
       }
 
-  pub testing-end : rows ≤ r → true ≡ rowsFit n s rows
-  unfolding rowsFit
+  pub testing-end : rows ≤ r → true ≡ tablesOk n rows s
   testing-end h =
       sym (and-i (eq-eqb (length s) (rows * tableBytes n) (g .size)) (ap (rowsOk n s) (le-antisymm h (g .within)) ∙ g .ok))
-
-pub rows-within : (n : ℕ) (s : List ℕ) (rows : ℕ) → rowsFit n s rows ≡ true → rows * tableBytes n ≤ length s
-unfolding rowsFit
-rows-within n s rows e =
-    le-of-eq (sym (eqb-true (length s) (rows * tableBytes n) (and-l (eqb (length s) (rows * tableBytes n)) (rowsOk n s rows) e)))
+      ∙ counted n s rows (g .some) (g .few)

@@ -3,27 +3,25 @@
 --   tableOk         12: a packed table of n inputs has (N+7) div 8 bytes and spare bits 0
 --   polarityOk      13
 --   at              number j of a list
---   rowsOk          so many rows are tables
---   rowSpectra      their spectra
---   rowsOf          the spectra of tables that stand row after row
+--   tablesOk        12, of the tables of circuits that stand one after the other
+--   tablesChecked   2 and 12 of these
+--   fromTables      an operation on listed circuits, from their tables
+--   filledFrom      the spectra of listed circuits
 --   spectrumOf      the spectrum of one table
---   undoneOf        the table of a spectrum
---   jobSpectraOf    the spectra of all circuits of a job
+--   undoneOf        the table of a spectrum; specs/Undoing.antt says what it is
 use Prim.Native.Nat.{ℕ, zero, suc, _+_, _-_, _*_, _^_}
 use mathlib.Core.Bool.{Bool, true, false, _&&_}
-use mathlib.Core.List.{List, [], _∷_, _++_}
+use mathlib.Core.List.{List, [], _∷_}
 use lib.Dec.{leb, ltb, eqb}
 use lib.ListN.{length, getD, take, drop}
 use Rattle.bits.specs.Answer.{Answer, Fills, unless, onward}
 use Rattle.bits.specs.Answer.Answer.{gives}
 use Rattle.bits.specs.Packed.{entry, packed}
 use Rattle.job.specs.Check.{inputsOk}
-use Rattle.job.specs.declared.Job.{Job}
-use Rattle.reading.specs.Reading.{reading}
+use Rattle.job.specs.Layout.{maxFaults}
 use Rattle.bits.specs.Sizes.{tableBytes}
-use Rattle.tables.specs.Circuit.{circuitEntry}
-use Rattle.tables.specs.Operations.{countsOf}
-use Rattle.tables.specs.declared.Counts.{Counts}
+use Rattle.tables.specs.Family.{Family}
+use Rattle.spectra.specs.Listed.{familySpectra, places}
 use Rattle.spectra.specs.Spectrum.{spectrum, recovered}
 use Rattle.spectra.specs.declared.Kind.{Kind}
 
@@ -52,19 +50,31 @@ unfoldable pub rowsOk : ℕ → List ℕ → ℕ → Bool
 rowsOk n s zero = true
 rowsOk n s (suc r) = rowsOk n s r && tableOk n (tableRow n s r)
 
--- the spectra of rows 0 to r − 1, one after the other
-unfoldable pub rowSpectra : Kind → ℕ → ℕ → List ℕ → ℕ → List ℕ
-rowSpectra kind n k s zero = []
-rowSpectra kind n k s (suc r) = rowSpectra kind n k s r ++ spectrum kind n k (entry (tableRow n s r))
+-- 12 of the tables of circuits, one after the other: there are as many circuits as a list may have, and as many rows, each a table
+unfoldable pub tablesOk : ℕ → ℕ → List ℕ → Bool
+tablesOk n circuits s = leb 1 circuits && (leb circuits (maxFaults + 1) && (eqb (length s) (circuits * tableBytes n) && rowsOk n s circuits))
 
--- the checks of a spectrum, over so many tables that stand row after row
-unfoldable pub rowsOf : ℕ → ℕ → List ℕ → Kind → ℕ → ℕ → Answer (Fills (Unit {0}))
-rowsOf n rows s kind k room =
+-- 2; 12
+unfoldable pub tablesChecked : ℕ → ℕ → List ℕ → Answer (Unit {0})
+tablesChecked n circuits s =
     unless (inputsOk n) 2
-    (unless (eqb (length s) (rows * tableBytes n) && rowsOk n s rows) 12
-    (unless (polarityOk n k) 13
-    (unless (leb (rows * 2 ^ n) room) 10
-    (gives (record { value = tt; filled = rowSpectra kind n k s rows })))))
+    (unless (tablesOk n circuits s) 12
+    (gives tt))
+
+-- these tables as a family: one output
+abbrev pub tableFamily : ℕ → ℕ → List ℕ → Family
+tableFamily n circuits s = record { inputs = n; circuits = circuits; outputs = 1; entry = λ c o m. entry (tableRow n s c) m }
+
+-- an operation on listed circuits, from their tables
+abbrev pub fromTables : {A : Type 0} → ℕ → ℕ → List ℕ → (Family → Answer A) → Answer A
+fromTables n circuits s go = onward (tablesChecked n circuits s) (λ _. go (tableFamily n circuits s))
+
+-- the spectra of listed circuits: 13; 10, fewer than (f+1) × N places
+unfoldable pub filledFrom : Family → Kind → ℕ → ℕ → Answer (Fills (Unit {0}))
+filledFrom F kind k room =
+    unless (polarityOk (F .inputs) k) 13
+    (unless (leb (places F) room) 10
+    (gives (record { value = tt; filled = familySpectra kind k F })))
 
 -- "Spectrum of a table: 2, then 12 .., then 13 .., then 10, fewer than N places"
 unfoldable pub spectrumOf : ℕ → List ℕ → Kind → ℕ → ℕ → Answer (Fills (Unit {0}))
@@ -85,6 +95,7 @@ sameNumbers (x ∷ xs) (y ∷ ys) = eqb x y && sameNumbers xs ys
 unfoldable pub isSpectrum : Kind → ℕ → ℕ → List ℕ → Bool
 isSpectrum kind n k numbers = sameNumbers numbers (spectrum kind n k (recovered n k (at numbers)))
 
+-- how the table is found, as the code does it; what document 01 says of it stands in specs/Undoing.antt, and is proved of this:
 -- "Undoing a spectrum: 2; 13; 14, not exactly N numbers or no table has this spectrum; 10."
 unfoldable pub undoneOf : ℕ → List ℕ → Kind → ℕ → ℕ → Answer (Fills (Unit {0}))
 undoneOf n numbers kind k room =
@@ -93,16 +104,3 @@ undoneOf n numbers kind k room =
     (unless (isSpectrum kind n k numbers) 14
     (unless (leb (tableBytes n) room) 10
     (gives (record { value = tt; filled = packed (2 ^ n) (recovered n k (at numbers)) })))))
-
--- the spectra of circuits 0 to c − 1 of a job: "Work place c × N + j holds coefficient j of circuit c"
-unfoldable pub circuitSpectra : Kind → ℕ → Job → ℕ → List ℕ
-circuitSpectra kind k j zero = []
-circuitSpectra kind k j (suc c) = circuitSpectra kind k j c ++ spectrum kind (j .inputs) k (circuitEntry j c)
-
--- reading's refusals; 13; 10, fewer than (f+1) × N places
-unfoldable pub jobSpectraOf : List ℕ → Kind → ℕ → ℕ → Answer (Fills Counts)
-jobSpectraOf s kind k room =
-    onward (reading s) (λ j.
-    unless (polarityOk (j .inputs) k) 13
-    (unless (leb ((j .«fault_count» + 1) * 2 ^ (j .inputs)) room) 10
-    (gives (record { value = countsOf j; filled = circuitSpectra kind k j (j .«fault_count» + 1) }))))

@@ -16,9 +16,10 @@
 --   Asks         what the transform asks, of so many places of memory and so many bytes of tables
 --   LeafAsks     what a leaf asks: what the transform of three inputs does, in some polarity
 --   LeafMade     what a leaf makes, in whatever polarity that is
-use Prim.Native.Nat.{ℕ, _+_, _≤_, zero, suc, _-_, _*_, _/_, _%_, _^_, _<_}
+use Prim.Native.Nat.{ℕ, _+_, _≤_, _-_, _*_, _/_, _%_, _^_, _<_}
 use mathlib.Core.List.{List, _++_, [], _∷_}
 use lib.ListN.{length, getD}
+use Rattle.bits.specs.Blocks.{block}
 use Rattle.bits.specs.Packed.{entry, tabulate}
 use Rattle.spectra.specs.Spectrum.{reduce, spectrum}
 use Rattle.spectra.specs.declared.Kind.{Kind}
@@ -58,9 +59,8 @@ byteSums k byte =
 abbrev pub halfByte : ℕ → ℕ
 halfByte i = i % 16 * (16 - 15 * (i / 16))
 
-unfoldable pub halfRows : ℕ → ℕ → List ℕ
-halfRows k zero = []
-halfRows k (suc i) = halfRows k i ++ byteSums k (halfByte i)
+abbrev pub halfRows : ℕ → ℕ → List ℕ
+halfRows k i = block i (λ r. byteSums k (halfByte r))
 
 abbrev pub halfSums : ℕ → List ℕ
 halfSums k = halfRows k 32

@@ -1,25 +1,28 @@
-// Reed-Muller spectra of tables and of jobs, and their undoing (document 01, "Spectra").
-ghost use Prim.Native.Nat.{_+_, _*_, _/_, _^_, _≤_, _<_};
+// Reed-Muller spectra of tables, and their undoing (document 01, "Spectra").
+//
+// `fill` is the one way from tables to work: it checks the tables of listed circuits, which stand one after the other,
+// and makes their spectra. The spectrum of one table is that of one circuit.
+//
+// Undoing recovers and compares. The numbers are taken modulo 2 and transformed once more, which undoes an RM spectrum;
+// an MRM coefficient modulo 2 is the RM one, so this recovers the one table that can have these numbers. It is then
+// transformed anew, and 14 is given unless the result is the numbers given. No number falls below zero on the way.
+ghost use Prim.Native.Nat.{_+_, _^_, _≤_, _<_};
 ghost use Rattle.bits.specs.Answer.{outcome, leaves};
 ghost use Rattle.bits.specs.Bits.{valueFrom};
 ghost use Rattle.bits.specs.Packed.{packed, tabulate};
-ghost use Rattle.spectra.specs.Rows.{rowsFit, Counted, spectraTold};
-ghost use Rattle.spectra.specs.Operations.{tableOk, at, rowsOf, spectrumOf, undoneOf, jobSpectraOf, sameNumbers};
+ghost use Rattle.spectra.specs.Operations.{tableOk, tablesOk, tablesChecked, fromTables, filledFrom, at, spectrumOf, undoneOf, sameNumbers};
 ghost use Rattle.spectra.specs.Parities.{parityAt, Closed, Packs, Lent};
 ghost use Rattle.spectra.specs.Spectrum.{recovered};
-ghost use Rattle.bits.specs.Sizes.{tableBytes};
-ghost use Rattle.bits.specs.Slices.{splice};
-ghost use Rattle.tables.specs.Operations.{countsTold};
-ghost use lib.ListN.{length, take};
+ghost use lib.ListN.{length};
 ghost use mathlib.Core.Path.{_≡_};
 use bits::Outcome;
 use bits::Refusal;
-use tables::ALL_TABLES_BYTES;
-use tables::Counts;
-use tables::CountsAnswer;
 use tables::MAX_TABLE_BYTES;
 
 mod transform;
+
+// A list has no more circuits: the good one and each fault.
+const MAX_ROWS: usize = job::MAX_FAULTS + 1;
 
 // The kind of a spectrum: Reed-Muller, or modified Reed-Muller.
 pub enum Kind {
@@ -44,27 +47,19 @@ fn table_ok(table: &[u8], n: usize) -> bool
     true
 }
 
-// How many packed tables of n inputs so many bytes hold. A table has a power of two of bytes, and shifting takes less time than dividing.
-fn table_count(size: usize, n: usize) -> usize
-    requires { ⌜ n ≤ 15 ⌝ }
-    ensures { λ r. ⌜ r ≡ size / tableBytes n ⌝ }
-{
-    if n < 3 {
-        return size;
-    }
-    size >> (n - 3)
-}
-
-// Whether the bytes are so many packed tables of n inputs.
+// Whether the bytes are so many packed tables of n inputs, row after row.
 fn rows_ok(tables: &[u8], n: usize, rows: usize) -> bool
     requires { ⌜ (1 ≤ n) × (n ≤ 15) ⌝ }
-    ensures { λ r. ⌜ r ≡ rowsFit n (now (tables .entry)) rows ⌝ }
+    ensures { λ r. ⌜ r ≡ tablesOk n rows (now (tables .entry)) ⌝ }
 {
-    let bytes = bits::table_bytes(n);
-    if table_count(tables.len(), n) != rows {
+    if rows < 1 {
         return false;
     }
-    if rows * bytes != tables.len() {
+    if MAX_ROWS < rows {
+        return false;
+    }
+    let bytes = bits::table_bytes(n);
+    if tables.len() != rows * bytes {
         return false;
     }
     let mut r = 0;
@@ -77,16 +72,9 @@ fn rows_ok(tables: &[u8], n: usize, rows: usize) -> bool
     true
 }
 
-// The spectra of so many packed tables that stand row after row: 2; 12; 13; 10.
-pub fn row_spectra(
-    n: usize,
-    rows: usize,
-    tables: &[u8],
-    kind: Kind,
-    polarity: usize,
-    work: &mut [u16],
-) -> Outcome
-    ensures { λ r. ⌜ record { answer = outcome r; memory = now (work .exit) } ≡ leaves (rowsOf n rows (now (tables .entry)) kind polarity (length (now (work .entry)))) (now (work .entry)) ⌝ }
+// Whether the bytes are the packed tables of so many circuits, one after the other: 2; 12.
+pub fn check_tables(n: usize, circuits: usize, tables: &[u8]) -> Outcome
+    ensures { λ r. ⌜ outcome r ≡ tablesChecked n circuits (now (tables .entry)) ⌝ }
 {
     if n < 1 {
         return Outcome::Refused(Refusal::Inputs);
@@ -94,57 +82,43 @@ pub fn row_spectra(
     if job::MAX_INPUTS < n {
         return Outcome::Refused(Refusal::Inputs);
     }
-    if !rows_ok(tables, n, rows) {
+    if !rows_ok(tables, n, circuits) {
         return Outcome::Refused(Refusal::Table);
+    }
+    Outcome::Done
+}
+
+// The spectra of all circuits whose tables are given: 2; 12; 13; 10.
+pub fn fill(
+    n: usize,
+    circuits: usize,
+    tables: &[u8],
+    kind: Kind,
+    polarity: usize,
+    work: &mut [u16],
+) -> Outcome
+    ensures { λ r. ⌜ record { answer = outcome r; memory = now (work .exit) } ≡ leaves (fromTables n circuits (now (tables .entry)) (λ F. filledFrom F kind polarity (length (now (work .entry))))) (now (work .entry)) ⌝ }
+{
+    let checked = check_tables(n, circuits, tables);
+    if let Outcome::Refused(cause) = checked {
+        return Outcome::Refused(cause);
     }
     let size = bits::table_size(n);
     if size <= polarity {
         return Outcome::Refused(Refusal::Polarity);
     }
-    if work.len() >> n < rows {
+    if work.len() < circuits * size {
         return Outcome::Refused(Refusal::Memory);
     }
-    transform::fill_rows(work, tables, n, rows, polarity, kind);
+    transform::fill_rows(work, tables, n, circuits, polarity, kind);
     Outcome::Done
 }
 
-// The spectra of all circuits of the job that the bytes give, with its counts: reading's refusals; 13; 10.
-pub fn job_spectra(bytes: &[u8], kind: Kind, polarity: usize, work: &mut [u16]) -> CountsAnswer
-    ensures { λ r. ⌜ record { answer = countsTold r; memory = now (work .exit) } ≡ leaves (jobSpectraOf (now (bytes .entry)) kind polarity (length (now (work .entry)))) (now (work .entry)) ⌝ }
-{
-    let mut packed = [0u8; ALL_TABLES_BYTES];
-    let answer = tables::tables(bytes, &mut packed);
-    match answer {
-        CountsAnswer::Refused(cause) => CountsAnswer::Refused(cause),
-        CountsAnswer::Filled(counts) => fill_job(work, &packed, counts, kind, polarity),
-    }
-}
-
-// The spectra of the circuits that the counts tell, from their tables, which stand at the start of the packed bytes.
-fn fill_job(
-    work: &mut [u16],
-    packed: &[u8],
-    counts: Counts,
-    kind: Kind,
-    polarity: usize,
-) -> CountsAnswer
-    requires { ⌜ Counted counts (length (now packed)) ⌝ }
-    ensures { λ r. ⌜ record { answer = countsTold r; memory = now (work .exit) } ≡ leaves (spectraTold counts (rowsOf (counts .inputs) (counts .faults + 1) (take ((counts .faults + 1) * tableBytes (counts .inputs)) (now (packed .entry))) kind polarity (length (now (work .entry))))) (now (work .entry)) ⌝ }
-{
-    let rows = counts.faults + 1;
-    let end = rows * bits::table_bytes(counts.inputs);
-    let outcome = row_spectra(counts.inputs, rows, &packed[..end], kind, polarity, work);
-    match outcome {
-        Outcome::Refused(cause) => CountsAnswer::Refused(cause),
-        Outcome::Done => CountsAnswer::Filled(counts),
-    }
-}
-
-// The spectrum of one packed table, which is one row: 2; 12; 13; 10.
+// The spectrum of one packed table, as that of one circuit: 2; 12; 13; 10.
 pub fn spectrum(n: usize, table: &[u8], kind: Kind, polarity: usize, out: &mut [u16]) -> Outcome
     ensures { λ r. ⌜ record { answer = outcome r; memory = now (out .exit) } ≡ leaves (spectrumOf n (now (table .entry)) kind polarity (length (now (out .entry)))) (now (out .entry)) ⌝ }
 {
-    row_spectra(n, 1, table, kind, polarity, out)
+    fill(n, 1, table, kind, polarity, out)
 }
 
 // The entries of the largest table.
@@ -194,7 +168,7 @@ fn recover(table: &mut [u8], sums: &mut [u16], numbers: &[u16], n: usize, k: usi
     ensures { λ r. ⌜ now (table .exit) ≡ packed (2 ^ n) (recovered n k (at (now (numbers .entry)))) ⌝ }
 {
     pack(table, numbers, 0);
-    row_spectra(n, 1, table, Kind::Rm, 0, sums);
+    fill(n, 1, table, Kind::Rm, 0, sums);
     pack(table, sums, k);
 }
 
@@ -229,7 +203,7 @@ fn undo_in(
     ensures { λ r. ⌜ record { answer = outcome r; memory = now (out .exit) } ≡ leaves (undoneOf n (now (numbers .entry)) kind k (length (now (out .entry)))) (now (out .entry)) ⌝ }
 {
     recover(table, sums, numbers, n, k);
-    row_spectra(n, 1, table, kind, k, sums);
+    fill(n, 1, table, kind, k, sums);
     if !same(numbers, sums) {
         return Outcome::Refused(Refusal::NoSpectrum);
     }

@@ -1,4 +1,13 @@
-// The Reed-Muller transform of packed truth tables, of both kinds, in every polarity: one recursion on halves (document 01, "Spectra").
+// The Reed-Muller transform of packed truth tables, of both kinds, in every polarity: one recursion on halves (document
+// 01, "Spectra").
+//
+// `transform` calls itself on each half, the number of inputs falling, then combines. Each half of the lent slice is
+// written by the inner call; where in the table the two come from is exchanged by the top bit of the polarity. The leaf
+// is three inputs, a byte: its sums are those of its two half bytes added, which are worked out once a call for the
+// three lowest bits of the polarity (`half_sums`). For four inputs the same step stands written out with the leaf as
+// its inner call (`four`), since that saves half of all calls. One and two inputs go down to single entries.
+//
+// What is made are sums, which are the MRM spectrum; RM's numbers are taken modulo 2 at the end (`parities`).
 ghost use Prim.Native.Nat.{_+_, _*_, _/_, _%_, _^_, _≤_, _<_};
 ghost use Rattle.bits.specs.Packed.{entry};
 ghost use Rattle.spectra.specs.Rows.{rowsFilled};
@@ -150,8 +159,8 @@ fn four(out: &mut [u16], sums: &[u16], table: &[u8], at: usize, k: usize)
     combine(out, 8);
 }
 
-// The MRM spectrum of the 2 to the power n entries from `at` on. "The spectrum of n inputs is combined from those of its two halves; the
-// halves change places where the top bit of k is 1."
+// The MRM spectrum of the 2 to the power n entries from `at` on. "The spectrum of n inputs is combined from those of its two halves
+// ..; the halves change places where the top bit of k is 1."
 fn transform(out: &mut [u16], sums: &[u16], table: &[u8], at: usize, n: usize, k: usize)
     requires { ⌜ Asks (length (now out)) (now sums) (length (now table)) at n k ⌝ }
     ensures { λ r. ⌜ now (out .exit) ≡ spectrum Mrm n k (entriesFrom (now (table .entry)) at) ⌝ }

@@ -4,18 +4,24 @@
 --   table-unread, table-number, table-memory, table-done   the table of one circuit: reading's refusals, 11, 10, success
 --   tables-unread, tables-memory, tables-done              the tables of all circuits: reading's refusals, 10, success
 use Prim.Native.Nat.{ℕ, _+_, _*_, _≤_, _<_}
-use mathlib.Core.Path.{_≡_, sym, ap, _∙_}
+use mathlib.Core.Path.{_≡_, sym, ap, ap₂, subst, _∙_}
 use mathlib.Core.List.{List}
 use borrow.Author.Tests.{le-leb, lt-leb}
 use lib.ListN.{length}
-use Rattle.bits.specs.Answer.{Answer, Fills, leaves}
+use Rattle.bits.specs.Answer.{Answer, Fills, leaves, number, outcome}
 use Rattle.bits.specs.Answer.Answer.{gives, refused}
+use Rattle.bits.specs.declared.Refusal.{Refusal}
+use Rattle.bits.specs.declared.Refusal.the-variants.{Memory}
+use Rattle.bits.specs.declared.Outcome.the-variants.{Refused}
 use Rattle.job.specs.declared.Job.{Job}
 use Rattle.reading.specs.Reading.{reading}
 use Rattle.bits.specs.Sizes.{tableBytes}
 use Rattle.bits.specs.Slices.{splice}
 use Rattle.tables.specs.Circuit.{circuitTable}
-use Rattle.tables.specs.Operations.{tableOf, tablesOf, tablesTo, countsOf}
+use Rattle.tables.specs.Operations.{tableOf, tablesOf, tablesTo, countsOf, noCounts, delivered}
+use Rattle.tables.specs.declared.Counts.{Counts}
+use Rattle.tables.specs.declared.Delivery.{Delivery}
+use Rattle.tables.proofs.WrittenTables.{length-tablesTo}
 use Rattle.bits.proofs.Splice.{splice-start}
 
 -- a refusal leaves the memory as it was
@@ -50,18 +56,34 @@ module _ (s out : List ℕ) (c : ℕ) where
         (simp (e, le-leb c (j .«fault_count») h, le-leb (tableBytes (j .inputs)) (length out) l)) p
 
 module _ (s out : List ℕ) where
-  pub tables-unread : {k : ℕ} → reading s ≡ refused k → record { answer = refused k; memory = out } ≡ leaves (tablesOf s (length out)) out
+  module _ {r : Delivery} {cause : Refusal} (none : r ≡ record { outcome = Refused cause; counts = noCounts; bytes = 0 }) where
+    -- a refusal leaves the memory as it was, beside counts of 0
+    refuses : tablesOf s (length out) ≡ refused (number cause)
+        → record { answer = outcome (r .outcome); counts = r .counts; bytes = r .bytes; memory = out } ≡ delivered (tablesOf s (length out)) out
+    refuses e =
+        ap (λ (x : Delivery). record { answer = outcome (x .outcome); counts = x .counts; bytes = x .bytes; memory = out }) none
+        ∙ ap (λ (x : Answer (Fills Counts)). delivered x out) (sym e)
+
+    pub tables-unread : reading s ≡ refused (number cause)
+        → record { answer = outcome (r .outcome); counts = r .counts; bytes = r .bytes; memory = out } ≡ delivered (tablesOf s (length out)) out
+    unfolding tablesOf
+    tables-unread e = refuses (rw e)
+
+    pub tables-memory : cause ≡ Memory → (j : Job) → reading s ≡ gives j → length out < (j .«fault_count» + 1) * tableBytes (j .inputs)
+        → record { answer = outcome (r .outcome); counts = r .counts; bytes = r .bytes; memory = out } ≡ delivered (tablesOf s (length out)) out
+    unfolding tablesOf
+    tables-memory m j e l =
+        let short : tablesOf s (length out) ≡ refused 10 = simp (e, lt-leb ((j .«fault_count» + 1) * tableBytes (j .inputs)) (length out) l) in
+        refuses (short ∙ ap (λ (x : Refusal). refused (number x)) (sym m))
+
+  pub tables-done : (j : Job) → reading s ≡ gives j → {bytes : ℕ} (after : List ℕ) → bytes ≡ (j .«fault_count» + 1) * tableBytes (j .inputs)
+      → bytes ≤ length out → after ≡ splice out 0 (tablesTo j (j .«fault_count» + 1))
+      → record { answer = gives tt; counts = countsOf j; bytes = bytes; memory = after } ≡ delivered (tablesOf s (length out)) out
   unfolding tablesOf
-  tables-unread {k} e = kept (tablesOf s (length out)) k out (rw e)
-
-  module _ (j : Job) (e : reading s ≡ gives j) where
-    pub tables-memory : length out < (j .«fault_count» + 1) * tableBytes (j .inputs) → record { answer = refused 10; memory = out } ≡ leaves (tablesOf s (length out)) out
-    unfolding tablesOf
-    tables-memory l = kept (tablesOf s (length out)) 10 out (simp (e, lt-leb ((j .«fault_count» + 1) * tableBytes (j .inputs)) (length out) l))
-
-    pub tables-done : (after : List ℕ) → (j .«fault_count» + 1) * tableBytes (j .inputs) ≤ length out → after ≡ splice out 0 (tablesTo j (j .«fault_count» + 1))
-        → record { answer = gives (countsOf j); memory = after } ≡ leaves (tablesOf s (length out)) out
-    unfolding tablesOf
-    tables-done after l p =
-        put (tablesOf s (length out)) (countsOf j) (tablesTo j (j .«fault_count» + 1)) out after
-        (simp (e, le-leb ((j .«fault_count» + 1) * tableBytes (j .inputs)) (length out) l)) p
+  tables-done j e {bytes} after size l p =
+      let room : (j .«fault_count» + 1) * tableBytes (j .inputs) ≤ length out = subst (λ (k : ℕ). k ≤ length out) size l in
+      let gave : tablesOf s (length out) ≡ gives (record { value = countsOf j; filled = tablesTo j (j .«fault_count» + 1) }) =
+      simp (e, le-leb ((j .«fault_count» + 1) * tableBytes (j .inputs)) (length out) room) in
+      ap₂ (λ (n : ℕ) (m : List ℕ). record { answer = gives tt; counts = countsOf j; bytes = n; memory = m })
+      (size ∙ sym (length-tablesTo j (j .«fault_count» + 1))) (p ∙ splice-start out (tablesTo j (j .«fault_count» + 1)))
+      ∙ ap (λ (x : Answer (Fills Counts)). delivered x out) (sym gave)

@@ -34,7 +34,8 @@ use Rattle.gates.specs.Values.{inputValue}
 use Rattle.gates.specs.declared.Polynomial.{Polynomial}
 use Rattle.gates.proofs.Answers.{kind-lt}
 use Rattle.tables.specs.Circuit.{fixingOf}
-use Rattle.tables.specs.Sizes.{shapeOf, block}
+use Rattle.bits.specs.Blocks.{block}
+use Rattle.tables.specs.Sizes.{shapeOf}
 use Rattle.tables.specs.Work.{rowAt, rowOf, gateNumber, fixesLine, FixedIn, Unfixed, LineRoom, lineBlock, Sound, Good, sideTable, Side, Made}
 use Rattle.tables.specs.declared.evaluator.Batch.{Batch}
 use Rattle.tables.specs.declared.rows.Shape.{Shape}

@@ -1,8 +1,5 @@
 -- Laws of tables side by side (specs/Sizes.antt).
 --
---   block-ext        blocks of equal tables are equal
---   block-append     a block behind a block
---   length-block     a block has as many bytes as its tables together
 --   tabulate-block   bytes worked out one by one are a block of tables, each of the bytes at its own place
 --   slice-block       rows that follow each other are a block
 --   splice-none      no new bytes
@@ -13,17 +10,18 @@
 use Prim.Native.Nat.{ℕ, zero, suc, _+_, _*_, _≤_, _<_}
 use native.Mathlib.Omega.{arith}
 use native.Mathlib.Nat.{add-zero, add-assoc, add-mul, suc-mul, zero-mul, not-suc-le-zero, le-of-suc-le-suc, eq-or-lt-of-le}
-use mathlib.Core.Path.{_≡_, refl, sym, ap, ap₂, _∙_}
+use mathlib.Core.Path.{_≡_, sym, ap, ap₂, _∙_}
 use mathlib.Core.List.{List, [], _∷_, _++_, append-assoc, append-nil}
 use mathlib.Core.Logic.{⊎-elim}
 use lib.ListN.{length, getD, take, drop, length-append, length-take, take-append-drop}
 use lib.Seq.{length-take-le, take-at, drop-at, drop-drop, drop-append-add}
 use Rattle.bits.specs.Packed.{tabulate}
+use Rattle.bits.proofs.Blocks.{block-ext, length-block}
 use Rattle.bits.proofs.Packed.{tabulate-ext}
 use Rattle.bits.specs.Slices.{slice, splice}
 use Rattle.bits.proofs.Slices.{tabulate-slice, slice-same, slice-other}
 use Rattle.bits.proofs.Splice.{length-splice}
-use Rattle.tables.specs.Sizes.{block}
+use Rattle.bits.specs.Blocks.{block}
 
 tabulate-append : (a b : ℕ) (g : ℕ → ℕ) → tabulate (a + b) g ≡ tabulate a g ++ tabulate b (λ t. g (a + t))
 unfolding tabulate
@@ -32,24 +30,6 @@ tabulate-append a (suc b) g =
     let e : a + suc b ≡ suc (a + b) = omega arith in
     ap (λ (k : ℕ). tabulate k g) e ∙ ap (λ (l : List ℕ). l ++ (g (a + b) ∷ [])) (tabulate-append a b g)
     ∙ append-assoc (tabulate a g) (tabulate b (λ t. g (a + t))) (g (a + b) ∷ [])
-
-pub block-ext : (c : ℕ) (f g : ℕ → List ℕ) → ((i : ℕ) → i < c → f i ≡ g i) → block c f ≡ block c g
-unfolding block
-block-ext zero f g h = refl
-block-ext (suc c) f g h = ap₂ _++_ (block-ext c f g (λ i l. h i (omega arith))) (h c (omega arith))
-
-pub block-append : (a b : ℕ) (f : ℕ → List ℕ) → block a f ++ block b (λ i. f (a + i)) ≡ block (a + b) f
-unfolding block
-block-append a zero f = append-nil (block a f) ∙ ap (λ (k : ℕ). block k f) (sym (add-zero a))
-block-append a (suc b) f =
-    let e : suc (a + b) ≡ a + suc b = omega arith in
-    sym (append-assoc (block a f) (block b (λ i. f (a + i))) (f (a + b)))
-    ∙ ap (λ (l : List ℕ). l ++ f (a + b)) (block-append a b f) ∙ ap (λ (k : ℕ). block k f) e
-
-pub length-block : (w : ℕ) (f : ℕ → List ℕ) → ((i : ℕ) → length (f i) ≡ w) → (c : ℕ) → length (block c f) ≡ c * w
-unfolding block
-length-block w f long zero = sym (zero-mul w)
-length-block w f long (suc c) = length-append (block c f) (f c) ∙ ap₂ _+_ (length-block w f long c) (long c) ∙ sym (suc-mul c w)
 
 pub tabulate-block : (c w : ℕ) (g : ℕ → ℕ) → tabulate (c * w) g ≡ block c (λ i. tabulate w (λ t. g (i * w + t)))
 unfolding tabulate block

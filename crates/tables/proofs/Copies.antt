@@ -33,12 +33,13 @@ use Rattle.bits.proofs.Minimum.{least-left, least-right, least-some}
 use Rattle.bits.proofs.Splice.{length-splice}
 use Rattle.tables.specs.Circuit.{circuitTable}
 use Rattle.tables.specs.Operations.{tablesTo}
-use Rattle.tables.specs.Sizes.{block}
+use Rattle.bits.specs.Blocks.{block}
 use Rattle.tables.specs.Work.{blockBytes, rowOf, Wide, Sound, Good, Side, tablesFrom}
 use Rattle.tables.specs.declared.evaluator.Batch.{Batch}
 use Rattle.tables.specs.declared.rows.Shape.{Shape}
-use Rattle.tables.proofs.Blocks.{length-block, splice-none, splice-again}
-use Rattle.tables.proofs.Delivery.{length-table, side-output, tables-all, tables-more, table-single}
+use Rattle.bits.proofs.Blocks.{length-block}
+use Rattle.tables.proofs.Blocks.{splice-none, splice-again}
+use Rattle.tables.proofs.WrittenTables.{length-table, side-output, tables-all, tables-more, table-single}
 use Rattle.tables.proofs.Sizes.{block-fits}
 use Rattle.tables.proofs.Space.{wide-bytes, wide-some, wide-kept, wide-fewer, tableBytes-most, sound-bytes, sound-some, block-room}
 

@@ -3,7 +3,8 @@ pub mod Batches
 pub mod Blocks
 pub mod Columns
 pub mod Copies
-pub mod Delivery
+pub mod WrittenTables
+pub mod Families
 pub mod Faults
 pub mod FixedColumns
 pub mod LineTables

@@ -41,11 +41,13 @@ use Rattle.gates.proofs.StepTests.{step-fits, bit-inside}
 use Rattle.bits.proofs.Room.{fitted, room-fits}
 use Rattle.bits.proofs.TableSizes.{table-bytes-exact}
 use Rattle.gates.proofs.Tables.{gate-packed, level-packed, pattern-packed, alternate-packed}
-use Rattle.tables.specs.Sizes.{shapeOf, shapeWithin, Room, Space, Below, block, fixedRow}
+use Rattle.bits.specs.Blocks.{block}
+use Rattle.tables.specs.Sizes.{shapeOf, shapeWithin, Room, Space, Below, fixedRow}
 use Rattle.tables.specs.Work.{rowOf, LineRoom}
 use Rattle.tables.specs.declared.evaluator.Batch.{Batch}
 use Rattle.tables.specs.declared.rows.Shape.{Shape}
-use Rattle.tables.proofs.Blocks.{tabulate-block, block-ext}
+use Rattle.bits.proofs.Blocks.{block-ext}
+use Rattle.tables.proofs.Blocks.{tabulate-block}
 use Rattle.tables.proofs.Space.{bytes-some, block-before}
 
 pub few-shape : {n : ℕ} → n < 64 → shapeWithin n ≡ shapeOf n

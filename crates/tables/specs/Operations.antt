@@ -1,20 +1,21 @@
 -- Believed: the operations on tables (document 01, "Tables" and "Refusal by operation").
 --
---   tableOf       the table of one circuit, given the bytes of a job, the circuit's number and the length of the lent memory
---   tablesOf      the tables of all circuits of a job, circuit after circuit, with the job's counts
---   tablesTold    what the second operation's answer stands for
-use Prim.Native.Nat.{ℕ, zero, suc, _+_, _*_}
-use mathlib.Core.List.{List, [], _++_}
+--   tableOf      the table of one circuit, given the bytes of a job, the circuit's number and the length of the lent memory
+--   tablesTo     the tables of the first circuits of a job, circuit after circuit
+--   tablesOf     those of all its circuits, with the job's counts
+--   delivered    what the second operation answers and leaves
+use Prim.Native.Nat.{ℕ, _+_, _*_}
+use mathlib.Core.List.{List}
 use lib.Dec.{leb}
-use Rattle.bits.specs.Answer.{Answer, Fills, number, unless, onward}
+use lib.ListN.{length}
+use Rattle.bits.specs.Answer.{Answer, Fills, leaves, unless, onward}
 use Rattle.bits.specs.Answer.Answer.{gives, refused}
+use Rattle.bits.specs.Blocks.{block}
 use Rattle.job.specs.declared.Job.{Job}
 use Rattle.reading.specs.Reading.{reading}
 use Rattle.bits.specs.Sizes.{tableBytes}
 use Rattle.tables.specs.Circuit.{circuitTable}
 use Rattle.tables.specs.declared.Counts.{Counts}
-use Rattle.tables.specs.declared.CountsAnswer.{CountsAnswer}
-use Rattle.tables.specs.declared.CountsAnswer.the-variants.{Filled, Refused}
 
 -- "Table of a circuit: reading's, then 11, circuit number over f, then 10"
 unfoldable pub tableOf : List ℕ → ℕ → ℕ → Answer (Fills (Unit {0}))
@@ -24,10 +25,9 @@ tableOf s c room =
     (unless (leb (tableBytes (j .inputs)) room) 10
     (gives (record { value = tt; filled = circuitTable j c }))))
 
--- the tables of circuits 0 to c − 1, one after the other
-unfoldable pub tablesTo : Job → ℕ → List ℕ
-tablesTo j zero = []
-tablesTo j (suc c) = tablesTo j c ++ circuitTable j c
+-- the tables of circuits 0 to c − 1
+abbrev pub tablesTo : Job → ℕ → List ℕ
+tablesTo j c = block c (circuitTable j)
 
 abbrev pub countsOf : Job → Counts
 countsOf j = record { inputs = j .inputs; gates = j .«gate_count»; faults = j .«fault_count» }
@@ -39,6 +39,16 @@ tablesOf s room =
     unless (leb ((j .«fault_count» + 1) * tableBytes (j .inputs)) room) 10
     (gives (record { value = countsOf j; filled = tablesTo j (j .«fault_count» + 1) })))
 
-abbrev pub countsTold : CountsAnswer → Answer Counts
-countsTold (Filled c) = gives c
-countsTold (Refused e) = refused (number e)
+abbrev pub noCounts : Counts
+noCounts = record { inputs = 0; gates = 0; faults = 0 }
+
+pub record Delivered : Type 0 where
+  pub answer : Answer (Unit {0})
+  pub counts : Counts
+  pub bytes : ℕ
+  pub memory : List ℕ
+
+-- the counts, and how many bytes are filled, stand beside the answer; they are 0 beside a refusal
+abbrev pub delivered : Answer (Fills Counts) → List ℕ → Delivered
+delivered (gives w) memory = record { answer = gives tt; counts = w .value; bytes = length (w .filled); memory = leaves (gives w) memory .memory }
+delivered (refused i) memory = record { answer = refused i; counts = noCounts; bytes = 0; memory = memory }

@@ -6,11 +6,10 @@
 --   Space         so for tables side by side
 --   Below         there is room for a table at a place, and two tables stand before it
 --   noForm, Formed   the polynomials of the kinds of gates
---   block         tables side by side
 --   fixedRow      the table that a fault gives the lines that it fixes, from the rows of the good circuit
-use Prim.Native.Nat.{ℕ, zero, suc, _+_, _*_, _^_, _≤_, _<_}
+use Prim.Native.Nat.{ℕ, _+_, _*_, _^_, _≤_, _<_}
 use mathlib.Core.Path.{_≡_}
-use mathlib.Core.List.{List, [], _++_}
+use mathlib.Core.List.{List}
 use lib.ListN.{length, getD}
 use Rattle.bits.specs.Packed.{packed, entry}
 use Rattle.job.specs.Record.{levelNumber}
@@ -50,10 +49,6 @@ noPolynomial = record { constant = 0; first = 0; second = 0; both = 0 }
 
 pub record Formed (mask : ℕ) (polynomials : Polynomials) : Type 0 where
   pub polynomial : (kind : ℕ) → kind < 8 → getD (polynomials .of) kind noPolynomial ≡ kindPolynomial kind mask
-
-unfoldable pub block : ℕ → (ℕ → List ℕ) → List ℕ
-block zero table = []
-block (suc i) table = block i table ++ table i
 
 unfoldable pub fixedRow : Shape → Fault → List ℕ → List ℕ
 fixedRow shape (Stuck l level) rows = packed (2 ^ (shape .inputs)) (λ m. levelNumber level)

@@ -42,7 +42,8 @@ use Rattle.bits.specs.Slices.{slice, splice}
 use Rattle.gates.specs.Values.{inputValue}
 use Rattle.gates.specs.declared.Polynomial.{Polynomial}
 use Rattle.tables.specs.Circuit.{Fixing, free, valuesTo, fixedBy, fixingOf, circuitTable}
-use Rattle.tables.specs.Sizes.{shapeOf, block}
+use Rattle.bits.specs.Blocks.{block}
+use Rattle.tables.specs.Sizes.{shapeOf}
 use Rattle.tables.specs.declared.evaluator.Batch.{Batch}
 use Rattle.tables.specs.declared.rows.Shape.{Shape}
 

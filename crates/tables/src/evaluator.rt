@@ -1,5 +1,13 @@
-// A job's circuits worked out side by side, line after line: first the good circuit, then batches of faulty ones, whose fixed lines get their values from the
-// good circuit's rows.
+// A job's circuits worked out side by side, line after line.
+//
+// The good circuit comes first, a row a line. Then come batches of faulty ones, one column a fault: each gate step is
+// taken once for a whole batch, and where a fault fixes a line its column gets a value made from the good circuit's
+// rows (`fix_line`). Every other line is its gate of its inputs, whatever the fault; nothing is asked of a bridge but
+// that its lines are there.
+//
+// The good circuit is a batch of one column in which nothing is fixed, and the table of one circuit a batch of one
+// column, so that one loop over lines serves all (`work_out`). The columns that fix a line are a set, the bits of a
+// word.
 ghost use mathlib.Core.Path.{_≡_};
 ghost use Prim.Native.Nat.{_+_, _*_, _^_, _≤_, _<_};
 ghost use lib.ListN.{length};

@@ -1,12 +1,17 @@
-// The packed truth tables of a job's circuits (document 01, "Tables"): of one circuit, and of all.
+// The packed truth tables of a job's circuits (document 01, "Tables"): of one circuit, and of all. The job is read, its
+// circuits are worked out in batches (evaluator.rt), and the rows of the output line are copied to the lent bytes.
 ghost use mathlib.Core.Path.{_≡_};
+ghost use mathlib.Core.Bool.{cond};
 ghost use Prim.Native.Nat.{_+_, _*_, _/_, _≤_};
+ghost use lib.Dec.{leb};
 ghost use lib.ListN.{length};
 ghost use Rattle.bits.specs.Answer.{outcome, leaves};
 ghost use Rattle.bits.specs.Sizes.{tableBytes};
 ghost use Rattle.bits.specs.Slices.{slice, splice};
+ghost use Rattle.bits.specs.declared.Outcome.the-variants.{Refused};
+ghost use Rattle.job.specs.Layout.{maxFaults};
 ghost use Rattle.tables.specs.Circuit.{circuitTable};
-ghost use Rattle.tables.specs.Operations.{tableOf, tablesOf, tablesTo, countsTold};
+ghost use Rattle.tables.specs.Operations.{tableOf, tablesOf, tablesTo, noCounts, delivered};
 ghost use Rattle.tables.specs.Sizes.{Formed};
 ghost use Rattle.tables.specs.Work.{blockBytes, rowOf, Wide, Sound, Good, tablesFrom};
 use bits::Outcome;
@@ -31,7 +36,8 @@ pub const ALL_TABLES_BYTES: usize = (MAX_FAULTS + 1) * MAX_TABLE_BYTES;
 // A row for each line of the good circuit, and one for each of a faulty one.
 const ROW_BYTES: usize = 2 * MAX_LINES * MAX_TABLE_BYTES;
 
-// As many circuits are worked out side by side as fit so many bytes a line: each gate step is then long, and the rows of a batch stay near the processor.
+// As many circuits are worked out side by side as fit so many bytes a line: each gate step is then long, and the rows
+// of a batch stay near the processor. With 256 or 1,024 filling is up to a twelfth slower for some number of inputs.
 const BLOCK_BYTES: usize = 512;
 
 // A row for each line of the good circuit, and a block for each of a batch.
@@ -44,10 +50,21 @@ pub struct Counts {
     pub faults: usize,
 }
 
-// The counts of a job whose tables are written, or the refusal.
-pub enum CountsAnswer {
-    Filled(Counts),
-    Refused(Refusal),
+// How many circuits are listed, the good one and each fault; 0 where there are more than a list may have.
+pub fn circuits_of(counts: Counts) -> usize
+    ensures { λ r. ⌜ r ≡ cond (leb (counts .faults) maxFaults) (counts .faults + 1) 0 ⌝ }
+{
+    if MAX_FAULTS < counts.faults {
+        return 0;
+    }
+    counts.faults + 1
+}
+
+// Whether the tables of a job are written, its counts, and how many bytes the tables have; these are 0 beside a refusal.
+pub struct Delivery {
+    pub outcome: Outcome,
+    pub counts: Counts,
+    pub bytes: usize,
 }
 
 // The packed table of circuit `circuit` of the job that the bytes give.
@@ -72,28 +89,48 @@ pub fn table(bytes: &[u8], circuit: usize, out: &mut [u8]) -> Outcome
     Outcome::Done
 }
 
+// What stands beside a refusal.
+fn undelivered(cause: Refusal) -> Delivery
+    ensures { λ r. ⌜ r ≡ record { outcome = Refused cause; counts = noCounts; bytes = 0 } ⌝ }
+{
+    Delivery {
+        outcome: Outcome::Refused(cause),
+        counts: Counts {
+            inputs: 0,
+            gates: 0,
+            faults: 0,
+        },
+        bytes: 0,
+    }
+}
+
 // The packed tables of all circuits of the job that the bytes give, circuit after circuit.
-pub fn tables(bytes: &[u8], out: &mut [u8]) -> CountsAnswer
-    ensures { λ r. ⌜ record { answer = countsTold r; memory = now (out .exit) } ≡ leaves (tablesOf (now (bytes .entry)) (length (now (out .entry)))) (now (out .entry)) ⌝ }
+pub fn tables(bytes: &[u8], out: &mut [u8]) -> Delivery
+    ensures { λ r. ⌜ record { answer = outcome (r .outcome); counts = r .counts; bytes = r .bytes; memory = now (out .exit) } ≡ delivered (tablesOf (now (bytes .entry)) (length (now (out .entry)))) (now (out .entry)) ⌝ }
 {
     let reading = reading::read(bytes);
     let outcome = reading.outcome;
     if let Outcome::Refused(cause) = outcome {
-        return CountsAnswer::Refused(cause);
+        return undelivered(cause);
     }
     let job = reading.job;
     let faults = job.fault_count as usize;
     let shape = rows::shape_of(job.inputs as usize);
-    if out.len() < (faults + 1) * shape.bytes {
-        return CountsAnswer::Refused(Refusal::Memory);
+    let bytes = (faults + 1) * shape.bytes;
+    if out.len() < bytes {
+        return undelivered(Refusal::Memory);
     }
     let mut rows = [0u8; ALL_ROW_BYTES];
     put_tables(out, &mut rows, job, shape);
-    CountsAnswer::Filled(Counts {
-        inputs: job.inputs as usize,
-        gates: job.gate_count as usize,
-        faults,
-    })
+    Delivery {
+        outcome: Outcome::Done,
+        counts: Counts {
+            inputs: job.inputs as usize,
+            gates: job.gate_count as usize,
+            faults,
+        },
+        bytes,
+    }
 }
 
 // Copies the block of the output line: the tables of a batch's circuits.

@@ -1,4 +1,5 @@
-// The size of a packed table, the polynomials of gates cut to it, and rows: of inputs, and of what a fault gives its lines.
+// The size of a packed table, the polynomials of gates cut to it, and rows: of inputs, and of what a fault gives its
+// lines.
 ghost use mathlib.Core.Path.{_≡_};
 ghost use mathlib.Core.Bool.{cond};
 ghost use Prim.Native.Nat.{_*_, _^_, _<_};
@@ -7,7 +8,8 @@ ghost use Rattle.job.specs.Record.{faultA, faultB};
 ghost use Rattle.gates.specs.Polynomial.{kindPolynomial};
 ghost use Rattle.bits.specs.Slices.{splice};
 ghost use Rattle.gates.specs.Values.{inputValue};
-ghost use Rattle.tables.specs.Sizes.{shapeWithin, Formed, Space, Below, block, fixedRow};
+ghost use Rattle.bits.specs.Blocks.{block};
+ghost use Rattle.tables.specs.Sizes.{shapeWithin, Formed, Space, Below, fixedRow};
 use gates::Polynomial;
 use job::BinaryKind;
 use job::Fault;

@@ -1,4 +1,7 @@
 // Writing a job's record into lent bytes (document 01, "Job layout" and "Refusal by operation").
+//
+// First all checks, then the number of bytes, and only then a byte is written. Bits that do not fill a byte yet wait in
+// a number (`Pen`); each byte is put once, from the start on.
 ghost use mathlib.Core.Path.{_≡_};
 ghost use mathlib.Core.List.{[]};
 ghost use Prim.Native.Nat.{_≤_, _<_, _^_};

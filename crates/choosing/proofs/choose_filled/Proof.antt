@@ -6,7 +6,7 @@ use Rattle.job.specs.Layout.{maxInputs, maxFaults}
 use Rattle.bits.proofs.TableSizes.{table-size-exact}
 use Rattle.job.proofs.Sizes.{inputs-few}
 use Rattle.chooser.specs.Matrix.{maxRows}
-use Rattle.choosing.proofs.Decision.{filled-answer}
+use Rattle.choosing.proofs.Findings.{filled-answer}
 use Rattle.choosing.proofs.Order.{listed-within, listed-length}
 use Rattle.choosing.proofs.choose_filled.Statement.{statement}
 use Rattle.choosing.proofs.choose_filled.Tie as tie

@@ -5,7 +5,7 @@ use borrow.Author.Count.{falls}
 use Rattle.bits.proofs.Splice.{Written, written-none, filled-more}
 use Rattle.bits.proofs.Tabulation.{tabulates-all}
 use Rattle.chooser.specs.Matrix.{maxRows}
-use Rattle.choosing.specs.Choosing.{mark}
+use Rattle.choosing.specs.Looking.{mark}
 use Rattle.choosing.proofs.marks_of.Statement.{statement}
 use Rattle.choosing.proofs.marks_of.Tie as tie
 

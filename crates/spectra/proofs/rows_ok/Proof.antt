@@ -3,8 +3,9 @@ use native.Mathlib.Omega.{arith}
 use Prim.Native.Nat.{_-_}
 use denote.Ref.{now}
 use borrow.Author.Count.{falls}
+use Rattle.job.specs.Layout.{maxFaults}
 use Rattle.bits.proofs.TableSizes.{table-bytes-exact, fifteen-few}
-use Rattle.spectra.proofs.TableTests.{Testing, rows-few-bytes, rows-uneven, rows-other, testing-start, testing-place, testing-stop, testing-next, testing-end}
+use Rattle.spectra.proofs.TableTests.{Testing, rows-none, rows-many, rows-other, rows-small, testing-start, testing-place, testing-stop, testing-next, testing-end}
 use Rattle.spectra.proofs.rows_ok.Statement.{statement}
 use Rattle.spectra.proofs.rows_ok.Tie as tie
 
@@ -14,23 +15,27 @@ Inv-loop tables n rows bytes r₀ r = Testing n tables rows bytes r
 abbrev μ-loop : tie.MeasureT-loop
 μ-loop tables n rows bytes r₀ r = rows - r
 
+returns : tie.Need-returns Inv-loop μ-loop
+returns c = rows-none (c .before .before .args .n) (now (c .before .before .args .tables)) (c .before .before .args .rows) (c .if1 .taken)
+
+returns-2 : tie.Need-returns-2 Inv-loop μ-loop
+unfolding maxFaults
+returns-2 c = rows-many (c .before .before .before .args .n) (now (c .before .before .before .args .tables)) (c .before .before .before .args .rows) (c .before .if1 .left) (c .if2 .taken)
+
 table-bytes-requires : tie.Need-table-bytes-requires Inv-loop μ-loop
 table-bytes-requires c κs = tt
 
-table-count-requires : tie.Need-table-count-requires Inv-loop μ-loop
-table-count-requires c κs = c .before .before .pre .1
+mul-if3 : tie.Need-mul-if3 Inv-loop μ-loop
+unfolding maxFaults
+mul-if3 c = record { fits = rows-small (c .before .before .before .before .args .n) (c .before .before .before .before .pre .1) (table-bytes-exact (fifteen-few (c .before .before .before .before .pre .1)) (c .table-bytes .ensures)) (c .before .if2 .left) }
 
-returns : tie.Need-returns Inv-loop μ-loop
-returns c = rows-other (c .before .before .before .before .args .n) (now (c .before .before .before .before .args .tables)) (c .before .before .before .before .args .rows) (c .before .table-count .ensures) (c .if1 .taken)
-
-mul-if2 : tie.Need-mul-if2 Inv-loop μ-loop
-mul-if2 c = omega (arith, rows-few-bytes (c .before .before .before .before .args .n) (table-bytes-exact (fifteen-few (c .before .before .before .before .pre .1)) (c .before .before .table-bytes .ensures)) (c .before .table-count .ensures) (c .if1 .left))
-
-returns-2 : tie.Need-returns-2 Inv-loop μ-loop
-returns-2 c = rows-uneven (c .before .before .before .before .before .args .n) (now (c .before .before .before .before .before .args .tables)) (c .before .before .before .before .before .args .rows) (table-bytes-exact (fifteen-few (c .before .before .before .before .before .pre .1)) (c .before .before .before .table-bytes .ensures)) (c .if2 .taken)
+returns-3 : tie.Need-returns-3 Inv-loop μ-loop
+unfolding maxFaults
+returns-3 c = rows-other (c .before .before .before .before .before .args .n) (now (c .before .before .before .before .before .args .tables)) (c .before .before .before .before .before .args .rows) (table-bytes-exact (fifteen-few (c .before .before .before .before .before .pre .1)) (c .before .table-bytes .ensures)) (c .before .before .before .if1 .left) (c .before .before .if2 .left) (c .if3 .taken)
 
 loop-holds : tie.Need-loop-holds Inv-loop μ-loop
-loop-holds c = testing-start (now (c .before .before .before .before .before .args .tables)) (table-bytes-exact (fifteen-few (c .before .before .before .before .before .pre .1)) (c .before .before .before .table-bytes .ensures)) (c .if2 .left)
+unfolding maxFaults
+loop-holds c = testing-start (now (c .before .before .before .before .before .args .tables)) (table-bytes-exact (fifteen-few (c .before .before .before .before .before .pre .1)) (c .before .table-bytes .ensures)) (c .before .before .before .if1 .left) (c .before .before .if2 .left) (c .if3 .left)
 
 mul-table-ok : tie.Need-mul-table-ok Inv-loop μ-loop
 mul-table-ok c = omega (arith, testing-place (c .before .loop .inv) (c .loop-test .taken))
@@ -53,8 +58,8 @@ part-table-ok-end c = omega (arith, testing-place (c .before .loop .inv) (c .loo
 table-ok-requires : tie.Need-table-ok-requires Inv-loop μ-loop
 table-ok-requires c κs = c .before .before .before .before .before .before .before .before .pre
 
-returns-3 : tie.Need-returns-3 Inv-loop μ-loop
-returns-3 c = testing-stop (c .before .before .before .before .loop .inv) (c .before .table-ok .result) (c .before .before .before .loop-test .taken) (c .before .table-ok .ensures) (c .if3 .taken)
+returns-4 : tie.Need-returns-4 Inv-loop μ-loop
+returns-4 c = testing-stop (c .before .before .before .before .loop .inv) (c .before .table-ok .result) (c .before .before .before .loop-test .taken) (c .before .table-ok .ensures) (c .if4 .taken)
 
 add-r : tie.Need-add-r Inv-loop μ-loop
 add-r c = omega (arith, c .before .before .before .loop-test .taken)
@@ -63,10 +68,10 @@ loop-less : tie.Need-loop-less Inv-loop μ-loop
 loop-less c = falls _ _ (c .before .before .before .loop-test .taken)
 
 loop-again : tie.Need-loop-again Inv-loop μ-loop
-loop-again c = testing-next (c .before .before .before .before .loop .inv) (c .before .table-ok .result) (c .before .before .before .loop-test .taken) (c .before .table-ok .ensures) (c .if3 .left)
+loop-again c = testing-next (c .before .before .before .before .loop .inv) (c .before .table-ok .result) (c .before .before .before .loop-test .taken) (c .before .table-ok .ensures) (c .if4 .left)
 
-returns-4 : tie.Need-returns-4 Inv-loop μ-loop
-returns-4 c = testing-end (c .before .loop .inv) (c .loop-test .left)
+returns-5 : tie.Need-returns-5 Inv-loop μ-loop
+returns-5 c = testing-end (c .before .loop .inv) (c .loop-test .left)
 
 pub rows-ok-spec : {M : Type 1} → statement M
 rows-ok-spec =
@@ -74,11 +79,11 @@ rows-ok-spec =
     (tie.spec
     Inv-loop
     μ-loop
-    table-bytes-requires
-    table-count-requires
     returns
-    mul-if2
     returns-2
+    table-bytes-requires
+    mul-if3
+    returns-3
     loop-holds
     mul-table-ok
     mul-table-ok-2
@@ -87,8 +92,8 @@ rows-ok-spec =
     part-table-ok-start
     part-table-ok-end
     table-ok-requires
-    returns-3
+    returns-4
     add-r
     loop-less
     loop-again
-    returns-4)
+    returns-5)

@@ -1,7 +1,7 @@
 -- `tables::put_batch` meets its contract: the block of the output line is the tables of the batch, and is copied.
 use native.Mathlib.Omega.{arith}
 use Rattle.job.specs.Layout.{maxInputs, maxGates}
-use Rattle.tables.proofs.Delivery.{side-good}
+use Rattle.tables.proofs.WrittenTables.{side-good}
 use Rattle.tables.proofs.Copies.{batch-room, batch-put}
 use Rattle.tables.proofs.Space.{line-index, sound-kept}
 use Rattle.tables.proofs.put_batch.Statement.{statement}

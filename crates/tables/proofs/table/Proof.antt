@@ -11,7 +11,7 @@ use Rattle.tables.specs.Sizes.{shapeOf}
 use Rattle.tables.specs.Work.{maxTableBytes, rowBytes}
 use Rattle.tables.specs.declared.rows.Shape.{Shape}
 use Rattle.tables.proofs.Answers.{table-unread, table-number, table-memory, table-done}
-use Rattle.tables.proofs.Delivery.{wide-one}
+use Rattle.tables.proofs.WrittenTables.{wide-one}
 use Rattle.tables.proofs.ShapedRows.{few-shape}
 use borrow.Author.Needs.{needs}
 use Rattle.tables.proofs.table.Statement.{statement}

@@ -1,0 +1,30 @@
+-- Believed: the listed circuits as tables (document 01, "Tables" and "Words of demand 3"). What follows from a job's tables alone, its spectra, signatures
+-- and locations, is said of a family, which is a term of ours.
+--
+--   Family       how many inputs, circuits and outputs there are, and the entry of a circuit and an output at an input number
+--   familyOf     the family of a job's circuits
+--   eachBelow    a test holds of every number below a bound
+--   sameTables   two circuits have equal tables
+use Prim.Native.Nat.{ℕ, zero, suc, _+_, _^_}
+use mathlib.Core.Bool.{Bool, true, _&&_}
+use lib.Dec.{eqb}
+use Rattle.job.specs.declared.Job.{Job}
+use Rattle.tables.specs.Circuit.{circuitEntry}
+
+pub record Family : Type 0 where
+  pub inputs : ℕ
+  pub circuits : ℕ
+  pub outputs : ℕ
+  pub entry : ℕ → ℕ → ℕ → ℕ
+
+-- "The listed circuits are 0 to f, the good one included"; a job has one output, number 0
+abbrev pub familyOf : Job → Family
+familyOf j = record { inputs = j .inputs; circuits = j .«fault_count» + 1; outputs = 1; entry = λ c o m. circuitEntry j c m }
+
+unfoldable pub eachBelow : ℕ → (ℕ → Bool) → Bool
+eachBelow zero test = true
+eachBelow (suc n) test = eachBelow n test && test n
+
+-- at every output, for every input number
+abbrev pub sameTables : Family → ℕ → ℕ → Bool
+sameTables F a b = eachBelow (F .outputs) (λ o. eachBelow (2 ^ (F .inputs)) (λ m. eqb (F .entry a o m) (F .entry b o m)))
