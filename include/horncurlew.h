@@ -23,6 +23,17 @@
 extern "C" {
 #endif
 
+/* The version of this header: raised with every change of the job's layout, of a function, a struct or a number below.
+ * Where horncurlew_version() gives another number the library isn't the one that this header declares, and nothing else
+ * of it may be called. */
+#define HORNCURLEW_VERSION 1
+
+/* The stack that a call needs, in bytes, with its answer: choosing, locating and the report, and any other call.
+ * Measured on x86-64 Linux over the largest jobs, and rounded up (rust/differential/tests/stack.rs measures again, and
+ * fails where a call needs more). A call needs no other memory than this and what it is lent. */
+#define HORNCURLEW_STACK 65536
+#define HORNCURLEW_SMALL_STACK 16384
+
 /* The refusals. */
 enum {
     HORNCURLEW_BYTES_END = 1,    /* the bytes end inside a field */
@@ -99,39 +110,47 @@ typedef struct {
     size_t length;
 } horncurlew_report_answer;
 
-/* Whether the bytes are a job, and its counts. Refusals 1 to 9. */
+/* Each function is given its refusals in the order in which they are looked for: the answer is the first that applies.
+ * "Reading's" are those of horncurlew_check. */
+
+/* HORNCURLEW_VERSION of the library's own header. */
+size_t horncurlew_version(void);
+
+/* Whether the bytes are a job, and its counts. Refusals, as the fields come: at each field 1 if the bytes end in it;
+ * 2; 3; for each gate 4, 5; 6; for each fault 7, 8; after the last field 9. */
 horncurlew_job_answer horncurlew_check(const uint8_t *bytes, size_t bytes_length);
 
-/* Reads a job and writes it again to out. Refusals 1 to 9, 10. */
+/* Reads a job and writes it again to out. Refusals: reading's, 10. */
 horncurlew_length_answer horncurlew_rewrite(const uint8_t *bytes, size_t bytes_length, uint8_t *out,
                                             size_t out_length);
 
 /* Writes the packed table of a circuit of a job, (N + 7) / 8 bytes: entry m is bit 7 - m % 8 of byte m / 8. The answer
- * is the number. Refusals 1 to 9, 11, 10. */
+ * is the number. Refusals: reading's, 11, 10. */
 size_t horncurlew_table(const uint8_t *bytes, size_t bytes_length, size_t circuit, uint8_t *out, size_t out_length);
 
-/* Writes the N coefficients of a packed table. The answer is the number. Refusals 2, 12, 13, 10. */
+/* Writes the N coefficients of a packed table. The answer is the number. Refusals: 2, 12, 13, 10. */
 size_t horncurlew_spectrum(size_t inputs, const uint8_t *table, size_t table_length, uint8_t kind, size_t polarity,
                            uint16_t *out, size_t out_length);
 
-/* Writes the packed table that has this spectrum. The answer is the number. Refusals 2, 13, 14, 10. */
+/* Writes the packed table that has this spectrum. The answer is the number. Refusals: 2, 13, 14, 10. */
 size_t horncurlew_undo(size_t inputs, const uint16_t *numbers, size_t numbers_length, uint8_t kind, size_t polarity,
                        uint8_t *out, size_t out_length);
 
 /* Chooses the signature of a job. The work needs N places a circuit and then holds coefficient j of circuit c at place
- * c * N + j, under HORNCURLEW_ALIKE too. Refusals 1 to 9, 13, 10, 15. */
+ * c * N + j, under HORNCURLEW_ALIKE too. Refusals: reading's, 13, 10, 15. */
 horncurlew_choice_answer horncurlew_choose(const uint8_t *bytes, size_t bytes_length, uint8_t purpose, uint8_t kind,
                                            size_t polarity, uint16_t *work, size_t work_length);
 
 /* Finds the circuits of a job whose coefficients at the indices are the readings, in order. Indices may come in any
- * order and more than once. The work is as in choosing. Refusals 1 to 9, 13, 16, 17, 10. */
+ * order and more than once. The work is as in choosing. Refusals: reading's, 13, 16, 17, 10. */
 horncurlew_location_answer horncurlew_locate(const uint8_t *bytes, size_t bytes_length, uint8_t kind, size_t polarity,
                                              const uint16_t *indices, size_t indices_length, const uint16_t *readings,
                                              size_t readings_length, uint16_t *work, size_t work_length);
 
 /* Writes the text that the report program prints for these bytes: an isolating signature by MRM at polarity 0, and the
  * readings of each circuit, or the refusal in words, work that is too short among them. No 0 ends the text. With fewer
- * than HORNCURLEW_LARGEST_REPORT bytes of out nothing is written, to the work neither. */
+ * than HORNCURLEW_LARGEST_REPORT bytes of out nothing is written, to the work neither. Refusals, in the text:
+ * reading's, 10, 15. */
 horncurlew_report_answer horncurlew_report(const uint8_t *bytes, size_t bytes_length, uint16_t *work,
                                            size_t work_length, uint8_t *out, size_t out_length);
 

@@ -55,7 +55,7 @@ pub fn ratio(first: Timed, second: Timed, memory: &mut Memory) -> Ratio {
     let mut times = Vec::new();
     for round in 0..ROUNDS {
         let (a, b);
-        if round.is_multiple_of(2) {
+        if round % 2 == 0 {
             a = first.time(turns, memory);
             b = second.time(turns, memory);
         } else {

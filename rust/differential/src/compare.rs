@@ -5,7 +5,7 @@
 //! libraries is equal, guards are untouched, and after a refusal other than 15 nothing has changed.
 
 use crate::random::Random;
-use horncurlew::{Entry, NoChoice};
+use horncurlew::{Entry, NoChoice, Refusal};
 use std::fmt;
 
 /// The operations that are compared.
@@ -181,6 +181,11 @@ fn purpose_of(purpose: Purpose) -> horncurlew::Purpose {
     }
 }
 
+/// The number of a refusal of ours.
+fn refused(cause: Refusal) -> u8 {
+    cause.number().and_then(|number| number.try_into().ok()).unwrap_or_else(|| panic!("{cause}"))
+}
+
 fn number_of<T>(result: &Result<T, u8>) -> usize {
     match result {
         Ok(_) => 0,
@@ -219,14 +224,14 @@ impl Comparison {
         let theirs = reference::read(bytes);
         let theirs = theirs.map(|job| (job.inputs.into(), job.gate_count.into(), job.fault_count.into()));
         let call = || format!("check of {bytes:02x?}");
-        self.answers(Operation::Check, &ours.map_err(|cause| cause.number()), &theirs, &call);
+        self.answers(Operation::Check, &ours.map_err(refused), &theirs, &call);
         input.unchanged();
     }
 
     pub fn rewrite(&mut self, bytes: &[u8], room: usize) {
         let input = read_bytes(&mut self.random, bytes);
         let mut out = lent_bytes(&mut self.random, room);
-        let ours = horncurlew::rewrite(input.get(), out.ours()).map_err(|cause| cause.number());
+        let ours = horncurlew::rewrite(input.get(), out.ours()).map_err(refused);
         let theirs = reference::read(bytes).and_then(|job| reference::write(&job, out.theirs()));
         let call = || format!("rewrite of {bytes:02x?}, room {room}");
         let number = self.answers(Operation::Rewrite, &ours, &theirs, &call);
@@ -237,7 +242,7 @@ impl Comparison {
     pub fn table(&mut self, bytes: &[u8], circuit: usize, room: usize) {
         let input = read_bytes(&mut self.random, bytes);
         let mut out = lent_bytes(&mut self.random, room);
-        let ours = horncurlew::table(input.get(), circuit, out.ours()).map_err(|cause| cause.number());
+        let ours = horncurlew::table(input.get(), circuit, out.ours()).map_err(refused);
         let theirs = reference::table(bytes, circuit, out.theirs());
         let call = || format!("table of {bytes:02x?}, circuit {circuit}, room {room}");
         let number = self.answers(Operation::Table, &ours, &theirs, &call);
@@ -249,7 +254,7 @@ impl Comparison {
         let input = read_bytes(&mut self.random, table);
         let mut out = lent_numbers(&mut self.random, room);
         let ours = horncurlew::spectrum(inputs, input.get(), kind_of(kind), polarity, out.ours());
-        let ours = ours.map_err(|cause| cause.number());
+        let ours = ours.map_err(refused);
         let theirs = reference::spectrum(inputs, table, kind, polarity, out.theirs());
         let call = || format!("spectrum of {inputs} inputs, {table:02x?}, {kind:?}, polarity {polarity}, room {room}");
         let number = self.answers(Operation::Spectrum, &ours, &theirs, &call);
@@ -261,7 +266,7 @@ impl Comparison {
         let input = read_numbers(&mut self.random, numbers);
         let mut out = lent_bytes(&mut self.random, room);
         let ours = horncurlew::undo(inputs, input.get(), kind_of(kind), polarity, out.ours());
-        let ours = ours.map_err(|cause| cause.number());
+        let ours = ours.map_err(refused);
         let theirs = reference::undo(inputs, numbers, kind, polarity, out.theirs());
         let call = || format!("undo of {inputs} inputs, {numbers:?}, {kind:?}, polarity {polarity}, room {room}");
         let number = self.answers(Operation::Undo, &ours, &theirs, &call);
@@ -286,7 +291,7 @@ impl Comparison {
         let mut signature = None;
         let number = match (ours, theirs) {
             (Err(NoChoice::Refused(cause)), reference::Chosen::Refused(number)) => {
-                self.answers(Operation::Choose, &Err::<(), u8>(cause.number()), &Err(number), &call)
+                self.answers(Operation::Choose, &Err::<(), u8>(refused(cause)), &Err(number), &call)
             }
             (Err(NoChoice::Alike(first, second)), reference::Chosen::Alike(lower, higher)) => {
                 assert_eq!((first, second), (lower, higher), "the pair of {}", call());
@@ -330,7 +335,7 @@ impl Comparison {
             Ok(Location::Alone(circuit)) => Ok(Located::Alone(circuit)),
             Ok(Location::Several { lowest, count }) => Ok(Located::Several(lowest, count)),
             Ok(Location::Nowhere) => Ok(Located::Nowhere),
-            Err(cause) => Err(cause.number()),
+            Err(cause) => Err(refused(cause)),
         };
         let theirs = match reference::locate(bytes, kind, polarity, indices, readings, work.theirs()) {
             Located::Refused(number) => Err(number),

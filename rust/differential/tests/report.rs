@@ -2,7 +2,7 @@
 
 use differential::jobs::{encode, full_job, sized_job, small_job};
 use differential::random::Random;
-use horncurlew::{NoRoom, LARGEST_REPORT};
+use horncurlew::{NoReport, LARGEST_REPORT};
 use reference::{choose, Chosen, Kind, Purpose};
 
 /// The work that the report program lends.
@@ -14,7 +14,7 @@ fn compare(random: &mut Random, bytes: &[u8], work: usize, room: usize) {
     let (mut numbers, mut out) = before.clone();
     let length = horncurlew::report(bytes, &mut numbers[8..8 + work], &mut out[8..8 + room]);
     let (mut expected_numbers, mut expected) = before;
-    let mut expected_length = Err(NoRoom);
+    let mut expected_length = Err(NoReport::Room);
     if room >= LARGEST_REPORT {
         let text = match choose(bytes, Purpose::Isolating, Kind::Mrm, 0, &mut expected_numbers[8..8 + work]) {
             Chosen::Refused(number) => format!("refused {number}\n").into_bytes(),

@@ -1,45 +1,115 @@
-//! The built report program: every byte that it prints.
+//! The built report program: every byte that it prints, and what it says where it can't read or print.
 
-use std::fs;
+use differential::jobs::{full_job, Circuit};
+use differential::random::Random;
+use reference::{Fault, Gate, Job, LONGEST_JOB, MOST_FAULTS, MOST_GATES};
+use std::fs::{self, File};
 use std::io::{Read, Write};
 use std::path::{Path, PathBuf};
 use std::process::{Child, Command, Stdio};
+use std::thread;
+use std::time::{Duration, Instant};
 
 fn root() -> PathBuf {
     Path::new(env!("CARGO_MANIFEST_DIR")).join("../..")
 }
 
-fn start() -> Child {
+fn program() -> PathBuf {
     let program = root().join("target/bin/report");
     assert!(program.exists(), "{} isn't there: build the crate `report` first", program.display());
-    Command::new(&program).stdin(Stdio::piped()).stdout(Stdio::piped()).spawn().expect("the report program runs")
+    program
 }
 
-/// What the program prints for bytes that come in pieces of this many.
-fn printed(bytes: &[u8], piece: usize) -> Vec<u8> {
-    let mut child = start();
+/// What a run wrote to standard output and to standard error.
+#[derive(Debug, PartialEq)]
+struct Output {
+    printed: String,
+    said: String,
+}
+
+impl Output {
+    fn new(printed: &[u8], said: &str) -> Output {
+        Output { printed: String::from_utf8_lossy(printed).into_owned(), said: said.to_string() }
+    }
+}
+
+const NO_INPUT: &str = "report: standard input can't be read\n";
+const NO_OUTPUT: &str = "report: standard output can't be written\n";
+
+fn start(command: &mut Command, input: Stdio, output: Stdio) -> Child {
+    command.stdin(input).stdout(output).stderr(Stdio::piped()).spawn().expect("the report program runs")
+}
+
+/// What the program wrote, once it has ended. It doesn't wait for its input's end once it has read enough.
+fn ended(mut child: Child) -> Output {
+    let limit = Instant::now() + Duration::from_secs(60);
+    let status = loop {
+        if let Some(status) = child.try_wait().expect("its state") {
+            break status;
+        }
+        if Instant::now() > limit {
+            child.kill().expect("it is stopped");
+            panic!("the report program doesn't end");
+        }
+        thread::sleep(Duration::from_millis(1));
+    };
+    assert!(status.success(), "the report program ended with {status}");
+    let (mut printed, mut said) = (Vec::new(), String::new());
+    if let Some(mut output) = child.stdout.take() {
+        output.read_to_end(&mut printed).expect("what it printed");
+    }
+    child.stderr.take().expect("a pipe").read_to_string(&mut said).expect("what it said");
+    Output::new(&printed, &said)
+}
+
+/// A run on bytes that come in pieces, with a wait between them.
+fn run_in_pieces(bytes: &[u8], piece: usize, wait: Duration) -> Output {
+    let mut child = start(&mut Command::new(program()), Stdio::piped(), Stdio::piped());
     let mut input = child.stdin.take().expect("a pipe");
     for piece in bytes.chunks(piece) {
         // It reads no more than it needs, and may have ended.
-        if input.write_all(piece).and_then(|()| input.flush()).is_err() {
+        if input.write_all(piece).is_err() {
             break;
         }
+        thread::sleep(wait);
     }
     drop(input);
-    let mut text = Vec::new();
-    child.stdout.take().expect("a pipe").read_to_end(&mut text).expect("its output is read");
-    assert!(child.wait().expect("it ends").success(), "the report program failed on {bytes:02x?}");
-    text
+    ended(child)
 }
 
 fn expect(bytes: &[u8], text: &[u8], name: &str) {
-    let found = printed(bytes, usize::MAX);
-    assert!(
-        found == text,
-        "{name}: printed\n{}not\n{}",
-        String::from_utf8_lossy(&found),
-        String::from_utf8_lossy(text)
-    );
+    let output = run_in_pieces(bytes, usize::MAX, Duration::ZERO);
+    assert_eq!(output, Output::new(text, ""), "{name}: {bytes:02x?}");
+}
+
+fn written(job: &Job) -> Vec<u8> {
+    let mut bytes = [0; LONGEST_JOB];
+    let length = reference::write(job, &mut bytes).expect("a job that can be written");
+    bytes[..length].to_vec()
+}
+
+fn job(inputs: u8, gates: &[Gate], output: u8, faults: &[Fault]) -> Job {
+    let mut job = Job {
+        inputs,
+        gate_count: gates.len() as u8,
+        gates: [Gate::Buf(0); MOST_GATES],
+        output,
+        fault_count: faults.len() as u8,
+        faults: [Fault::Stuck(0, false); MOST_FAULTS],
+    };
+    job.gates[..gates.len()].copy_from_slice(gates);
+    job.faults[..faults.len()].copy_from_slice(faults);
+    job
+}
+
+/// The job, written by the reference.
+fn rewritten(bytes: &[u8]) -> Vec<u8> {
+    written(&reference::read(bytes).expect("a valid job"))
+}
+
+/// A job of the largest counts.
+fn longest_job() -> Vec<u8> {
+    rewritten(&full_job(&mut Random::new(31), 8, 64, 63))
 }
 
 #[test]
@@ -70,29 +140,138 @@ fn document_examples() {
 /// A pipe may give fewer bytes at a time than the program asks for.
 #[test]
 fn input_in_pieces() {
-    let bytes = fs::read(root().join("examples/decoder_7449.job")).expect("the job");
-    let text = fs::read(root().join("examples/decoder_7449.report")).expect("its report");
-    for piece in [1, 2, 7, 64] {
-        assert!(printed(&bytes, piece) == text, "another report from pieces of {piece} bytes");
+    let bytes = longest_job();
+    let text = reference::report(&bytes);
+    for (piece, milliseconds) in [(1, 1), (2, 0), (7, 2), (100, 50), (264, 50)] {
+        let output = run_in_pieces(&bytes, piece, Duration::from_millis(milliseconds));
+        assert_eq!(output, Output::new(&text, ""), "pieces of {piece} bytes");
     }
 }
 
 /// A byte after the end is refused, however many follow.
 #[test]
-fn input_without_end() {
-    for count in [265, 266, 267, 300, 5000, 1 << 20] {
-        let mut bytes = vec![0; count];
-        bytes[0] = 0x10;
-        assert_eq!(printed(&bytes, 4096), b"refused 9\n", "{count} bytes");
+fn bytes_after_the_end() {
+    let longest = longest_job();
+    assert_eq!(longest.len(), LONGEST_JOB);
+    expect(&longest, &reference::report(&longest), "the longest job");
+    expect(&longest[..LONGEST_JOB - 1], b"refused 1\n", "the longest job without its last byte");
+    for job in [longest, vec![0x10, 0, 0]] {
+        for (byte, count) in [(0, 1), (1, 1), (0xff, 1), (0, 2), (0, 5000), (0, 1 << 20)] {
+            let mut bytes = job.clone();
+            bytes.resize(job.len() + count, byte);
+            expect(&bytes, b"refused 9\n", "bytes after the end");
+        }
     }
 }
 
-/// Jobs of the largest counts give the longest texts.
+/// It answers without an end of its input.
+#[test]
+fn input_without_end() {
+    let zeros = File::open("/dev/zero").expect("a file without end");
+    let child = start(&mut Command::new(program()), zeros.into(), Stdio::piped());
+    assert_eq!(ended(child), Output::new(b"refused 2\n", ""));
+
+    let mut child = start(&mut Command::new(program()), Stdio::piped(), Stdio::piped());
+    let mut input = child.stdin.take().expect("a pipe");
+    input.write_all(&longest_job()).expect("it reads a job");
+    while input.write_all(&[0; 4096]).is_ok() {}
+    assert_eq!(ended(child), Output::new(b"refused 9\n", ""));
+
+    // Nothing more comes, and the pipe stays as it is.
+    let mut child = start(&mut Command::new(program()), Stdio::piped(), Stdio::piped());
+    let mut input = child.stdin.take().expect("a pipe");
+    input.write_all(&longest_job()).and_then(|()| input.write_all(&[0])).expect("it reads a job and a byte");
+    assert_eq!(ended(child), Output::new(b"refused 9\n", ""));
+    drop(input);
+}
+
+#[test]
+fn input_that_fails() {
+    let directory = File::open("/").expect("a directory");
+    let child = start(&mut Command::new(program()), directory.into(), Stdio::piped());
+    assert_eq!(ended(child), Output::new(b"", NO_INPUT), "a directory");
+
+    let unreadable = File::options().write(true).open("/dev/null").expect("a file");
+    let child = start(&mut Command::new(program()), unreadable.into(), Stdio::piped());
+    assert_eq!(ended(child), Output::new(b"", NO_INPUT), "a file that is open for writing only");
+
+    let mut closed = Command::new("sh");
+    let child = start(closed.arg("-c").arg("exec \"$0\" <&-").arg(program()), Stdio::null(), Stdio::piped());
+    assert_eq!(ended(child), Output::new(b"", NO_INPUT), "closed");
+
+    // An empty input can be read.
+    let child = start(&mut Command::new(program()), Stdio::null(), Stdio::piped());
+    assert_eq!(ended(child), Output::new(b"refused 1\n", ""), "empty");
+}
+
+#[test]
+fn output_that_fails() {
+    let job = || File::open(root().join("examples/job_a.job")).expect("the job");
+    let full = File::options().write(true).open("/dev/full").expect("a full file");
+    let child = start(&mut Command::new(program()), job().into(), full.into());
+    assert_eq!(ended(child), Output::new(b"", NO_OUTPUT), "full");
+
+    let mut closed = Command::new("sh");
+    let child = start(closed.arg("-c").arg("exec \"$0\" >&-").arg(program()), job().into(), Stdio::null());
+    assert_eq!(ended(child), Output::new(b"", NO_OUTPUT), "closed");
+}
+
+/// Jobs of the largest counts.
 #[test]
 fn full_jobs() {
-    let mut random = differential::random::Random::new(30);
+    let mut random = Random::new(30);
     for inputs in [4, 6, 8] {
-        let bytes = differential::jobs::full_job(&mut random, inputs, 64, 63);
+        let bytes = full_job(&mut random, inputs, 64, 63);
         expect(&bytes, &reference::report(&bytes), "a full job");
     }
+}
+
+/// The XOR of all products of two inputs. Each fault takes one product away, or the first few, so that each product
+/// has its own index in the signature.
+#[test]
+fn long_report() {
+    let pairs = (1..8).flat_map(|b| (0..b).map(move |a| (a, b)));
+    let mut gates: Vec<Gate> = pairs.map(|(a, b)| Gate::And(a, b)).collect();
+    let products: Vec<u8> = (8..8 + gates.len() as u8).collect();
+    let mut sums = vec![products[0]];
+    for product in &products[1..] {
+        gates.push(Gate::Xor(sums[sums.len() - 1], *product));
+        sums.push(7 + gates.len() as u8);
+    }
+    let faults: Vec<Fault> = products.iter().chain(&sums[1..]).map(|line| Fault::Stuck(*line, false)).collect();
+    let bytes = written(&job(8, &gates, 7 + gates.len() as u8, &faults));
+    let text = reference::report(&bytes);
+    assert!(text.len() > 2048, "only {} bytes", text.len());
+    expect(&bytes, &text, "a long report");
+}
+
+/// Gates and faults, a kind and two lines each, whose report is the longest that a search has found. (That none is
+/// longer than `horncurlew::LARGEST_REPORT`, which is more than twice as long, is proved.)
+const SEARCHED_GATES: &str = "\
+    4 6 2, 0 6 3, 0 3 1, 2 6 3, 4 10 4, 0 2 0, 2 8 1, 4 10 9, 0 2 15, 2 13 7, 4 13 14, 4 3 5, 4 15 18, 5 11 1, \
+    5 0 8, 5 6 5, 0 3 5, 2 17 23, 5 17 8, 4 21 3, 5 24 21, 2 21 6, 4 15 16, 4 30 29, 3 26 24, 2 19 0, 1 17 21, \
+    5 5 21, 3 35 33, 0 27 0, 4 32 8, 2 26 37, 6 33 33, 5 4 15, 2 28 7, 2 39 11, 2 27 25, 2 20 41, 3 42 25, 0 43 46, \
+    4 36 45, 1 24 48, 4 42 38, 3 31 49, 0 12 51, 4 52 47, 1 47 32, 6 44 44, 5 27 0, 1 15 39, 0 50 55, 0 13 58, \
+    3 53 59, 2 58 9, 1 61 55, 0 36 7, 6 62 62, 6 56 56, 6 18 18, 1 65 28, 5 67 35, 2 67 51, 1 35 56, 1 64 66";
+const SEARCHED_FAULTS: &str = "\
+    0 2 2, 0 4 4, 0 6 6, 0 8 8, 0 9 9, 0 10 10, 0 17 17, 0 18 18, 0 24 24, 0 25 25, 0 33 33, 0 39 39, 0 41 41, \
+    0 42 42, 0 44 44, 0 47 47, 0 48 48, 0 49 49, 0 50 50, 1 9 9, 1 11 11, 1 15 15, 1 16 16, 1 19 19, 1 23 23, \
+    1 24 24, 1 27 27, 1 28 28, 1 29 29, 1 32 32, 1 33 33, 1 36 36, 1 37 37, 1 38 38, 1 41 41, 1 42 42, 1 46 46, \
+    2 0 1, 2 0 2, 2 0 4, 2 1 5, 2 3 4, 2 3 7, 2 4 7, 2 5 7, 3 0 1, 3 0 2, 3 0 3, 3 0 4, 3 0 5, 3 0 6, 3 0 7, 3 1 4, \
+    3 1 5, 3 1 6, 3 2 3, 3 2 4, 3 2 5, 3 2 6, 3 3 4, 3 3 5, 3 4 5, 3 4 6";
+const SEARCHED_OUTPUT: u8 = 60;
+
+fn triples(text: &str) -> Vec<[u8; 3]> {
+    let number = |word: &str| word.parse().expect("a number");
+    let triple = |words: &str| <[u8; 3]>::try_from(words.split_whitespace().map(number).collect::<Vec<u8>>());
+    text.split(',').map(|words| triple(words).expect("three numbers")).collect()
+}
+
+#[test]
+fn longest_report() {
+    let circuit = Circuit { inputs: 8, gates: triples(SEARCHED_GATES), output: SEARCHED_OUTPUT };
+    let bytes = rewritten(&circuit.bytes(&triples(SEARCHED_FAULTS)));
+    let text = reference::report(&bytes);
+    assert!(text.len() > 7000, "only {} bytes", text.len());
+    expect(&bytes, &text, "the longest report");
 }

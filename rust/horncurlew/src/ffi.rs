@@ -1,11 +1,18 @@
 //! The exported functions, as include/horncurlew.h declares them, each behind a safe one over slices.
 //!
-//! Each safe function passes the pointers and lengths of slices that it was lent for the call. They are valid and
-//! aligned, and a mutable one overlaps no other; this is all that the library asks. It keeps no pointer and has no
-//! state, so that calls from several threads are free of each other. The pointer of an empty slice points nowhere; the
-//! library doesn't follow it.
+//! The safe functions belong to [`Library`], which is to be had once the versions are compared: a library of another
+//! version may have other structs and parameters, and is never called.
+//!
+//! Each passes the pointers and lengths of slices that it was lent for the call. They are valid and aligned, and a
+//! mutable one overlaps no other; this is all that the library asks. It keeps no pointer and has no state, so that calls
+//! from several threads are free of each other. The pointer of an empty slice points nowhere; the library doesn't follow
+//! it.
 
-use crate::Entry;
+use crate::{Entry, OtherVersion};
+use std::sync::OnceLock;
+
+/// The version of the library that this module was written for: HORNCURLEW_VERSION of the header.
+pub(crate) const VERSION: usize = 1;
 
 /// The most entries that a signature can have: one less than there are circuits.
 pub(crate) const MOST_ENTRIES: usize = 63;
@@ -50,6 +57,7 @@ pub(crate) struct ReportAnswer {
 }
 
 extern "C" {
+    fn horncurlew_version() -> usize;
     fn horncurlew_check(bytes: *const u8, bytes_length: usize) -> JobAnswer;
     fn horncurlew_rewrite(bytes: *const u8, bytes_length: usize, out: *mut u8, out_length: usize) -> LengthAnswer;
     fn horncurlew_table(
@@ -108,87 +116,137 @@ extern "C" {
     ) -> ReportAnswer;
 }
 
+/// The linked library, of the version that this module was written for.
+#[derive(Clone, Copy, Debug, PartialEq, Eq)]
+pub(crate) struct Library(());
+
+/// The linked library. Its version is compared at the first call.
 #[inline]
-pub(crate) fn check(bytes: &[u8]) -> JobAnswer {
-    // SAFETY: the slices' own pointers and lengths; see the module's comment.
-    unsafe { horncurlew_check(bytes.as_ptr(), bytes.len()) }
+pub(crate) fn library() -> Result<Library, OtherVersion> {
+    static COMPARED: OnceLock<Result<Library, OtherVersion>> = OnceLock::new();
+    // SAFETY: the function takes nothing, and has given one number since version 1.
+    *COMPARED.get_or_init(|| compare(unsafe { horncurlew_version() }))
 }
 
-#[inline]
-pub(crate) fn rewrite(bytes: &[u8], out: &mut [u8]) -> LengthAnswer {
-    // SAFETY: as in `check`.
-    unsafe { horncurlew_rewrite(bytes.as_ptr(), bytes.len(), out.as_mut_ptr(), out.len()) }
-}
-
-#[inline]
-pub(crate) fn table(bytes: &[u8], circuit: usize, out: &mut [u8]) -> usize {
-    // SAFETY: as in `check`.
-    unsafe { horncurlew_table(bytes.as_ptr(), bytes.len(), circuit, out.as_mut_ptr(), out.len()) }
-}
-
-#[inline]
-pub(crate) fn spectrum(inputs: usize, table: &[u8], kind: u8, polarity: usize, out: &mut [u16]) -> usize {
-    // SAFETY: as in `check`.
-    unsafe { horncurlew_spectrum(inputs, table.as_ptr(), table.len(), kind, polarity, out.as_mut_ptr(), out.len()) }
-}
-
-#[inline]
-pub(crate) fn undo(inputs: usize, numbers: &[u16], kind: u8, polarity: usize, out: &mut [u8]) -> usize {
-    // SAFETY: as in `check`.
-    unsafe { horncurlew_undo(inputs, numbers.as_ptr(), numbers.len(), kind, polarity, out.as_mut_ptr(), out.len()) }
-}
-
-#[inline]
-pub(crate) fn choose(bytes: &[u8], purpose: u8, kind: u8, polarity: usize, work: &mut [u16]) -> ChoiceAnswer {
-    // SAFETY: as in `check`.
-    unsafe { horncurlew_choose(bytes.as_ptr(), bytes.len(), purpose, kind, polarity, work.as_mut_ptr(), work.len()) }
-}
-
-#[inline]
-pub(crate) fn locate(
-    bytes: &[u8],
-    kind: u8,
-    polarity: usize,
-    indices: &[Entry],
-    readings: &[u16],
-    work: &mut [u16],
-) -> LocationAnswer {
-    // SAFETY: as in `check`; an `Entry` is a `u16` in memory.
-    unsafe {
-        horncurlew_locate(
-            bytes.as_ptr(),
-            bytes.len(),
-            kind,
-            polarity,
-            indices.as_ptr(),
-            indices.len(),
-            readings.as_ptr(),
-            readings.len(),
-            work.as_mut_ptr(),
-            work.len(),
-        )
+fn compare(version: usize) -> Result<Library, OtherVersion> {
+    match version {
+        VERSION => Ok(Library(())),
+        version => Err(OtherVersion(version)),
     }
 }
 
-#[inline]
-pub(crate) fn report(bytes: &[u8], work: &mut [u16], out: &mut [u8]) -> ReportAnswer {
-    // SAFETY: as in `check`.
-    unsafe {
-        horncurlew_report(bytes.as_ptr(), bytes.len(), work.as_mut_ptr(), work.len(), out.as_mut_ptr(), out.len())
+impl Library {
+    #[inline]
+    pub(crate) fn check(self, bytes: &[u8]) -> JobAnswer {
+        // SAFETY: the slices' own pointers and lengths; see the module's comment.
+        unsafe { horncurlew_check(bytes.as_ptr(), bytes.len()) }
+    }
+
+    #[inline]
+    pub(crate) fn rewrite(self, bytes: &[u8], out: &mut [u8]) -> LengthAnswer {
+        // SAFETY: as in `check`.
+        unsafe { horncurlew_rewrite(bytes.as_ptr(), bytes.len(), out.as_mut_ptr(), out.len()) }
+    }
+
+    #[inline]
+    pub(crate) fn table(self, bytes: &[u8], circuit: usize, out: &mut [u8]) -> usize {
+        // SAFETY: as in `check`.
+        unsafe { horncurlew_table(bytes.as_ptr(), bytes.len(), circuit, out.as_mut_ptr(), out.len()) }
+    }
+
+    #[inline]
+    pub(crate) fn spectrum(self, inputs: usize, table: &[u8], kind: u8, polarity: usize, out: &mut [u16]) -> usize {
+        // SAFETY: as in `check`.
+        unsafe { horncurlew_spectrum(inputs, table.as_ptr(), table.len(), kind, polarity, out.as_mut_ptr(), out.len()) }
+    }
+
+    #[inline]
+    pub(crate) fn undo(self, inputs: usize, numbers: &[u16], kind: u8, polarity: usize, out: &mut [u8]) -> usize {
+        // SAFETY: as in `check`.
+        unsafe { horncurlew_undo(inputs, numbers.as_ptr(), numbers.len(), kind, polarity, out.as_mut_ptr(), out.len()) }
+    }
+
+    #[inline]
+    pub(crate) fn choose(self, bytes: &[u8], purpose: u8, kind: u8, polarity: usize, work: &mut [u16]) -> ChoiceAnswer {
+        // SAFETY: as in `check`.
+        unsafe {
+            horncurlew_choose(bytes.as_ptr(), bytes.len(), purpose, kind, polarity, work.as_mut_ptr(), work.len())
+        }
+    }
+
+    #[inline]
+    pub(crate) fn locate(
+        self,
+        bytes: &[u8],
+        kind: u8,
+        polarity: usize,
+        indices: &[Entry],
+        readings: &[u16],
+        work: &mut [u16],
+    ) -> LocationAnswer {
+        // SAFETY: as in `check`; an `Entry` is a `u16` in memory.
+        unsafe {
+            horncurlew_locate(
+                bytes.as_ptr(),
+                bytes.len(),
+                kind,
+                polarity,
+                indices.as_ptr(),
+                indices.len(),
+                readings.as_ptr(),
+                readings.len(),
+                work.as_mut_ptr(),
+                work.len(),
+            )
+        }
+    }
+
+    #[inline]
+    pub(crate) fn report(self, bytes: &[u8], work: &mut [u16], out: &mut [u8]) -> ReportAnswer {
+        // SAFETY: as in `check`.
+        unsafe {
+            horncurlew_report(bytes.as_ptr(), bytes.len(), work.as_mut_ptr(), work.len(), out.as_mut_ptr(), out.len())
+        }
     }
 }
 
 #[cfg(test)]
 mod tests {
     use super::*;
+    use crate::{NoChoice, NoReport, Refusal};
 
     const JOB_A: [u8; 12] = [0x20, 0x20, 0x00, 0x10, 0x41, 0x80, 0x00, 0x20, 0x00, 0x20, 0x40, 0x80];
+
+    fn compared() -> Library {
+        library().expect("the version that this module was written for")
+    }
+
+    /// A library of another version is not to be had, and the error says why.
+    #[test]
+    fn other_versions() {
+        assert_eq!(compare(VERSION), Ok(Library(())));
+        assert_eq!(library(), Ok(Library(())));
+        for version in [0, VERSION + 1, VERSION + 256, usize::MAX] {
+            let other = compare(version).expect_err("another version");
+            let words = format!(
+                "the linked library horncurlew has version {version}, and this crate is for version 1: \
+                 build both from one source"
+            );
+            assert_eq!(other.to_string(), words);
+            assert_eq!(other.library(), version);
+            assert_eq!(Refusal::from(other).to_string(), words);
+            assert_eq!(Refusal::from(other).number(), None);
+            assert_eq!(NoChoice::from(other).to_string(), words);
+            assert_eq!(NoChoice::from(other).number(), None);
+            assert_eq!(NoReport::from(other).to_string(), words);
+        }
+    }
 
     /// Any number but 0 is MRM, and detecting.
     #[test]
     fn numbers_of_kinds_and_purposes() {
         let choice = |purpose, kind| {
-            let answer = choose(&JOB_A, purpose, kind, 0, &mut [0; 16]);
+            let answer = compared().choose(&JOB_A, purpose, kind, 0, &mut [0; 16]);
             answer.entries.map(Entry::index)[..3].to_vec()
         };
         assert_eq!(choice(0, 0), [1, 2, 3]);
@@ -199,34 +257,34 @@ mod tests {
         }
         for other in [1, 2, 0xff] {
             let mut out = [0; 8];
-            assert_eq!(spectrum(3, &[0x5d], other, 5, &mut out), 0);
+            assert_eq!(compared().spectrum(3, &[0x5d], other, 5, &mut out), 0);
             assert_eq!(out, [1, 2, 2, 3, 2, 3, 4, 5]);
             let mut table = [0; 1];
-            assert_eq!(undo(3, &out, other, 5, &mut table), 0);
+            assert_eq!(compared().undo(3, &out, other, 5, &mut table), 0);
             assert_eq!(table, [0x5d]);
-            assert_eq!(locate(&JOB_A, other, 0, &[Entry::new(3)], &[2], &mut [0; 16]).agreeing, 2);
+            assert_eq!(compared().locate(&JOB_A, other, 0, &[Entry::new(3)], &[2], &mut [0; 16]).agreeing, 2);
         }
     }
 
     /// What a call doesn't use of its answer is 0.
     #[test]
     fn unused_places() {
-        let refused = check(&[0x20, 0x20, 0x00]);
+        let refused = compared().check(&[0x20, 0x20, 0x00]);
         assert_eq!((refused.number, refused.inputs, refused.gates, refused.faults), (1, 0, 0, 0));
-        let refused = rewrite(&JOB_A, &mut [0; 11]);
+        let refused = compared().rewrite(&JOB_A, &mut [0; 11]);
         assert_eq!((refused.number, refused.length), (10, 0));
         for (polarity, number) in [(0, 0), (4, 13)] {
-            let answer = choose(&JOB_A, 0, 1, polarity, &mut [0; 16]);
+            let answer = compared().choose(&JOB_A, 0, 1, polarity, &mut [0; 16]);
             assert_eq!((answer.number, answer.first, answer.second), (number, 0, 0));
             assert!(answer.entries[answer.count..].iter().all(|entry| entry.index() == 0));
         }
-        let alike = choose(&[0x20, 0x20, 0x00, 0x10, 0x40, 0xc0, 0x00, 0x80], 0, 1, 0, &mut [0; 8]);
+        let alike = compared().choose(&[0x20, 0x20, 0x00, 0x10, 0x40, 0xc0, 0x00, 0x80], 0, 1, 0, &mut [0; 8]);
         assert_eq!((alike.number, alike.first, alike.second, alike.count), (15, 0, 1, 0));
         assert_eq!((alike.inputs, alike.gates, alike.faults), (0, 0, 0));
         assert!(alike.entries.iter().all(|entry| entry.index() == 0));
-        let nowhere = locate(&JOB_A, 1, 0, &[Entry::new(3)], &[3], &mut [0; 16]);
+        let nowhere = compared().locate(&JOB_A, 1, 0, &[Entry::new(3)], &[3], &mut [0; 16]);
         assert_eq!((nowhere.number, nowhere.agreeing, nowhere.circuit), (0, 0, 0));
-        let refused = locate(&JOB_A, 1, 0, &[Entry::new(4)], &[3], &mut [0; 16]);
+        let refused = compared().locate(&JOB_A, 1, 0, &[Entry::new(4)], &[3], &mut [0; 16]);
         assert_eq!((refused.number, refused.agreeing, refused.circuit), (16, 0, 0));
     }
 }

@@ -7,7 +7,7 @@
 //!
 //! The library allocates nothing: the caller lends the memory for results. A refused call writes nothing, but for
 //! circuits that are alike, which leaves the spectra in the lent work. A call that succeeds writes the places that it
-//! names from the start, and no others.
+//! names from the start, and no others. Numbers of refusals are document 01's; [`Refusal`] names them.
 //!
 //! ```
 //! use horncurlew::{choose, locate, Kind, Location, Purpose};
@@ -22,6 +22,7 @@
 //! ```
 
 #![deny(unsafe_code)]
+#![warn(missing_docs)]
 
 #[allow(unsafe_code)]
 mod ffi;
@@ -31,6 +32,13 @@ pub use refusal::Refusal;
 use std::error::Error;
 use std::fmt;
 
+/// The version of the library that this crate was written for. It is compared with the linked library's before the
+/// first call; if they differ the library is never called, and every call gives an error that says so.
+pub const VERSION: usize = ffi::VERSION;
+/// The most bytes of stack that a call needs, as measured.
+pub const STACK: usize = 65536;
+/// The most bytes of stack that a call other than [`choose`], [`locate`] and [`report`] needs.
+pub const SMALL_STACK: usize = 16384;
 /// The most bytes that a job can have.
 pub const LONGEST_JOB: usize = 265;
 /// The most work that choosing and locating need: 64 circuits of 256 coefficients.
@@ -65,8 +73,11 @@ pub enum Purpose {
 /// The counts of a job.
 #[derive(Clone, Copy, Debug, PartialEq, Eq, Hash)]
 pub struct Counts {
+    /// The number of inputs, 1 to 8.
     pub inputs: usize,
+    /// The number of gates, up to 64.
     pub gates: usize,
+    /// The number of faults, up to 63.
     pub faults: usize,
 }
 
@@ -95,6 +106,7 @@ pub struct Signature {
 }
 
 impl Signature {
+    /// The entries.
     pub fn entries(&self) -> &[Entry] {
         &self.entries[..self.count]
     }
@@ -117,7 +129,9 @@ impl fmt::Debug for Signature {
 /// A signature that was chosen, and the counts of its job.
 #[derive(Clone, Copy, Debug, PartialEq, Eq)]
 pub struct Choice {
+    /// The counts of the job.
     pub counts: Counts,
+    /// The signature that was chosen.
     pub signature: Signature,
 }
 
@@ -131,12 +145,18 @@ pub enum NoChoice {
 }
 
 impl NoChoice {
-    /// The number of the refusal.
-    pub fn number(self) -> u8 {
+    /// The number of the refusal; none if the library wasn't called.
+    pub fn number(self) -> Option<usize> {
         match self {
             NoChoice::Alike(..) => Refusal::Alike.number(),
             NoChoice::Refused(cause) => cause.number(),
         }
+    }
+}
+
+impl From<OtherVersion> for NoChoice {
+    fn from(other: OtherVersion) -> NoChoice {
+        NoChoice::Refused(other.into())
     }
 }
 
@@ -156,67 +176,120 @@ impl Error for NoChoice {}
 pub enum Location {
     /// The one circuit that does.
     Alone(usize),
-    /// The lowest that does, and how many do.
-    Several { lowest: usize, count: usize },
+    /// Two or more do.
+    Several {
+        /// The lowest circuit that does.
+        lowest: usize,
+        /// How many do.
+        count: usize,
+    },
     /// No circuit does.
     Nowhere,
 }
 
-/// The room lent for a report is below [`LARGEST_REPORT`].
+/// Why no report was written.
 #[derive(Clone, Copy, Debug, PartialEq, Eq)]
-pub struct NoRoom;
+#[non_exhaustive]
+pub enum NoReport {
+    /// The lent room is below [`LARGEST_REPORT`].
+    Room,
+    /// The library wasn't called: its version isn't the one that this crate was written for.
+    Version(OtherVersion),
+}
 
-impl fmt::Display for NoRoom {
-    fn fmt(&self, f: &mut fmt::Formatter) -> fmt::Result {
-        write!(f, "a report needs room for {LARGEST_REPORT} bytes")
+impl From<OtherVersion> for NoReport {
+    fn from(other: OtherVersion) -> NoReport {
+        NoReport::Version(other)
     }
 }
 
-impl Error for NoRoom {}
-
-/// The refusal of a number that isn't 0.
-fn refusal(number: usize) -> Refusal {
-    Refusal::ALL[number - 1]
+impl fmt::Display for NoReport {
+    fn fmt(&self, f: &mut fmt::Formatter) -> fmt::Result {
+        match self {
+            NoReport::Room => write!(f, "a report needs room for {LARGEST_REPORT} bytes"),
+            NoReport::Version(other) => other.fmt(f),
+        }
+    }
 }
+
+impl Error for NoReport {}
+
+/// The linked library has this version, which isn't [`VERSION`].
+#[derive(Clone, Copy, Debug, PartialEq, Eq, Hash)]
+pub struct OtherVersion(usize);
+
+impl OtherVersion {
+    /// The version of the linked library.
+    pub const fn library(self) -> usize {
+        self.0
+    }
+}
+
+impl fmt::Display for OtherVersion {
+    fn fmt(&self, f: &mut fmt::Formatter) -> fmt::Result {
+        let library = self.0;
+        write!(
+            f,
+            "the linked library horncurlew has version {library}, and this crate is for version {VERSION}: \
+             build both from one source"
+        )
+    }
+}
+
+impl Error for OtherVersion {}
 
 fn done(number: usize) -> Result<(), Refusal> {
     match number {
         0 => Ok(()),
-        number => Err(refusal(number)),
+        number => Err(Refusal::of(number)),
     }
 }
 
 /// Whether the bytes are a job, and its counts.
+///
+/// Refusals, as the fields come: at each field 1 if the bytes end in it; 2; 3; for each gate 4, 5; 6; for each fault
+/// 7, 8; after the last field 9.
 pub fn check(bytes: &[u8]) -> Result<Counts, Refusal> {
-    let answer = ffi::check(bytes);
+    let answer = ffi::library()?.check(bytes);
     done(answer.number)?;
     Ok(Counts { inputs: answer.inputs, gates: answer.gates, faults: answer.faults })
 }
 
 /// Reads a job and writes it again; the number of bytes written. At most [`LONGEST_JOB`] are needed.
+///
+/// Refusals, the first that applies: reading's, as in [`check`]; 10.
 pub fn rewrite(bytes: &[u8], out: &mut [u8]) -> Result<usize, Refusal> {
-    let answer = ffi::rewrite(bytes, out);
+    let answer = ffi::library()?.rewrite(bytes, out);
     done(answer.number)?;
     Ok(answer.length)
 }
 
 /// Writes the packed table of a circuit of a job: (N + 7) / 8 bytes.
+///
+/// Refusals, the first that applies: reading's, as in [`check`]; 11; 10.
 pub fn table(bytes: &[u8], circuit: usize, out: &mut [u8]) -> Result<(), Refusal> {
-    done(ffi::table(bytes, circuit, out))
+    done(ffi::library()?.table(bytes, circuit, out))
 }
 
 /// Writes the N coefficients of a packed table.
+///
+/// Refusals, the first that applies: 2; 12; 13; 10.
 pub fn spectrum(inputs: usize, table: &[u8], kind: Kind, polarity: usize, out: &mut [u16]) -> Result<(), Refusal> {
-    done(ffi::spectrum(inputs, table, kind as u8, polarity, out))
+    done(ffi::library()?.spectrum(inputs, table, kind as u8, polarity, out))
 }
 
 /// Writes the packed table that has this spectrum.
+///
+/// Refusals, the first that applies: 2; 13; 14; 10.
 pub fn undo(inputs: usize, numbers: &[u16], kind: Kind, polarity: usize, out: &mut [u8]) -> Result<(), Refusal> {
-    done(ffi::undo(inputs, numbers, kind as u8, polarity, out))
+    done(ffi::library()?.undo(inputs, numbers, kind as u8, polarity, out))
 }
 
 /// Chooses the signature of a job. `work` then holds coefficient j of circuit c at place c x N + j, for circuits that
 /// are alike too. It needs N places a circuit, at most [`MOST_WORK`].
+///
+/// Refusals, the first that applies: reading's, as in [`check`]; 13; 10; 15, which is [`NoChoice::Alike`] with its
+/// pair.
 pub fn choose(
     bytes: &[u8],
     purpose: Purpose,
@@ -224,19 +297,21 @@ pub fn choose(
     polarity: usize,
     work: &mut [u16],
 ) -> Result<Choice, NoChoice> {
-    let answer = ffi::choose(bytes, purpose as u8, kind as u8, polarity, work);
+    let answer = ffi::library()?.choose(bytes, purpose as u8, kind as u8, polarity, work);
     match answer.number {
         0 => Ok(Choice {
             counts: Counts { inputs: answer.inputs, gates: answer.gates, faults: answer.faults },
             signature: Signature { count: answer.count, entries: answer.entries },
         }),
         15 => Err(NoChoice::Alike(answer.first, answer.second)),
-        number => Err(NoChoice::Refused(refusal(number))),
+        number => Err(NoChoice::Refused(Refusal::of(number))),
     }
 }
 
 /// Finds the circuits whose coefficients at the indices are the readings, in order. Indices may come in any order and
 /// more than once. `work` then holds the spectra as in [`choose`], and needs the same room.
+///
+/// Refusals, the first that applies: reading's, as in [`check`]; 13; 16; 17; 10.
 pub fn locate(
     bytes: &[u8],
     kind: Kind,
@@ -245,7 +320,7 @@ pub fn locate(
     readings: &[u16],
     work: &mut [u16],
 ) -> Result<Location, Refusal> {
-    let answer = ffi::locate(bytes, kind as u8, polarity, indices, readings, work);
+    let answer = ffi::library()?.locate(bytes, kind as u8, polarity, indices, readings, work);
     done(answer.number)?;
     Ok(match answer.agreeing {
         0 => Location::Nowhere,
@@ -257,10 +332,12 @@ pub fn locate(
 /// Writes the text that the report program prints for these bytes, and gives its length. A refusal is a text too; work
 /// that is too short is one of them. `out` needs [`LARGEST_REPORT`] bytes; with fewer nothing is written, to the work
 /// neither.
-pub fn report(bytes: &[u8], work: &mut [u16], out: &mut [u8]) -> Result<usize, NoRoom> {
-    let answer = ffi::report(bytes, work, out);
+///
+/// Refusals, in the text, the first that applies: those of [`choose`] but for 13.
+pub fn report(bytes: &[u8], work: &mut [u16], out: &mut [u8]) -> Result<usize, NoReport> {
+    let answer = ffi::library()?.report(bytes, work, out);
     match answer.written {
-        0 => Err(NoRoom),
+        0 => Err(NoReport::Room),
         _ => Ok(answer.length),
     }
 }

@@ -1,52 +1,57 @@
-//! The causes for which an operation is refused.
+//! The causes for which an operation gives no result.
 
+use crate::OtherVersion;
 use std::error::Error;
 use std::fmt;
 
-/// Why a call was refused, by document 01's numbers.
+/// Why a call gave no result: document 01's refusals by name, and what can come of a library that isn't this crate's.
 #[derive(Clone, Copy, Debug, PartialEq, Eq, Hash)]
-#[repr(u8)]
+#[non_exhaustive]
 pub enum Refusal {
     /// The bytes end inside a field.
-    BytesEnd = 1,
+    BytesEnd,
     /// The number of inputs isn't 1 to 8.
-    Inputs = 2,
+    Inputs,
     /// More than 64 gates.
-    Gates = 3,
+    Gates,
     /// A gate reads a line that isn't below its own.
-    GateLine = 4,
+    GateLine,
     /// A NOT or BUF with line b other than line a.
-    OneLine = 5,
+    OneLine,
     /// The output line isn't one of the circuit's.
-    Output = 6,
+    Output,
     /// A stuck line isn't one of the circuit's, or a bridged line is no input.
-    FaultLine = 7,
+    FaultLine,
     /// A stuck fault with line b other than line a, or a bridge with line a not below line b.
-    FaultPair = 8,
+    FaultPair,
     /// A spare bit is 1, or a byte follows the end.
-    Spare = 9,
+    Spare,
     /// The lent memory is too short.
-    Memory = 10,
+    Memory,
     /// The circuit number is over the number of faults.
-    Circuit = 11,
+    Circuit,
     /// A packed table of the wrong length, or with a spare bit 1.
-    Table = 12,
+    Table,
     /// The polarity isn't below N.
-    Polarity = 13,
+    Polarity,
     /// Not exactly N numbers, or numbers that are no table's spectrum.
-    NoSpectrum = 14,
+    NoSpectrum,
     /// Two circuits that must be told apart have equal tables.
-    Alike = 15,
+    Alike,
     /// An index isn't below N.
-    Index = 16,
+    Index,
     /// The numbers of indices and of readings differ.
-    Readings = 17,
+    Readings,
     /// A record with more than 63 faults. No call here takes a record.
-    Faults = 18,
+    Faults,
+    /// A number that this crate doesn't know.
+    Unknown(usize),
+    /// The library wasn't called: its version isn't the one that this crate was written for.
+    Version(OtherVersion),
 }
 
 impl Refusal {
-    /// Every cause, by number.
+    /// Document 01's refusals, 1 to 18.
     pub const ALL: [Refusal; 18] = [
         Refusal::BytesEnd,
         Refusal::Inputs,
@@ -68,9 +73,27 @@ impl Refusal {
         Refusal::Faults,
     ];
 
-    /// The cause's number, 1 to 18.
-    pub fn number(self) -> u8 {
-        self as u8
+    /// The refusal of a number that isn't 0.
+    pub(crate) fn of(number: usize) -> Refusal {
+        match Refusal::ALL.get(number.wrapping_sub(1)) {
+            Some(refusal) => *refusal,
+            None => Refusal::Unknown(number),
+        }
+    }
+
+    /// The number that the library gave; none if it wasn't called.
+    pub fn number(self) -> Option<usize> {
+        match self {
+            Refusal::Unknown(number) => Some(number),
+            Refusal::Version(_) => None,
+            _ => Refusal::ALL.iter().position(|refusal| *refusal == self).map(|place| place + 1),
+        }
+    }
+}
+
+impl From<OtherVersion> for Refusal {
+    fn from(other: OtherVersion) -> Refusal {
+        Refusal::Version(other)
     }
 }
 
@@ -95,9 +118,36 @@ impl fmt::Display for Refusal {
             Refusal::Index => "an index isn't below the number of coefficients",
             Refusal::Readings => "the numbers of indices and of readings differ",
             Refusal::Faults => "there are more than 63 faults",
+            Refusal::Unknown(_) => "a number that this crate doesn't know",
+            Refusal::Version(other) => return other.fmt(f),
         };
-        write!(f, "refused {}: {cause}", self.number())
+        write!(f, "refused {}: {cause}", self.number().unwrap_or_default())
     }
 }
 
 impl Error for Refusal {}
+
+#[cfg(test)]
+mod tests {
+    use super::*;
+
+    #[test]
+    fn known_numbers() {
+        for (place, refusal) in Refusal::ALL.into_iter().enumerate() {
+            let number = place + 1;
+            assert_eq!(Refusal::of(number), refusal);
+            assert_eq!(refusal.number(), Some(number));
+            assert!(refusal.to_string().starts_with(&format!("refused {number}: ")));
+        }
+    }
+
+    #[test]
+    fn unknown_numbers() {
+        for number in [0, 19, 20, 255, 256, 256 + 9, usize::MAX] {
+            let refusal = Refusal::of(number);
+            assert_eq!(refusal, Refusal::Unknown(number));
+            assert_eq!(refusal.number(), Some(number));
+            assert_eq!(refusal.to_string(), format!("refused {number}: a number that this crate doesn't know"));
+        }
+    }
+}

@@ -1,5 +1,7 @@
 //! C programs over include/horncurlew.h, compiled by the C compiler that Rust's own linking calls.
 
+use horncurlew::Refusal;
+use std::fs;
 use std::path::Path;
 use std::process::{Command, Output};
 
@@ -24,6 +26,53 @@ fn run(name: &str) -> Output {
 fn every_operation() {
     let output = run("header");
     assert!(output.status.success(), "{}", String::from_utf8_lossy(&output.stdout));
+}
+
+#[test]
+fn every_field_and_argument() {
+    let output = run("exports");
+    assert!(output.status.success(), "{}", String::from_utf8_lossy(&output.stdout));
+}
+
+/// The number that a line of the header gives a name, behind these words.
+fn value(header: &str, words: &str) -> usize {
+    let found = header.lines().find_map(|line| line.trim_start().strip_prefix(words)?.strip_prefix(' '));
+    let rest = found.unwrap_or_else(|| panic!("the header has no {words}"));
+    rest.split([' ', ',']).next().expect("a word").parse().expect("a number")
+}
+
+/// As BytesEnd and HORNCURLEW_BYTES_END.
+fn name(refusal: Refusal) -> String {
+    let mut name = "HORNCURLEW".to_string();
+    for letter in format!("{refusal:?}").chars() {
+        if letter.is_uppercase() {
+            name.push('_');
+        }
+        name.push(letter.to_ascii_uppercase());
+    }
+    name
+}
+
+/// What the header defines is what the safe crate has.
+#[test]
+fn numbers() {
+    let file = Path::new(env!("CARGO_MANIFEST_DIR")).join("../../include/horncurlew.h");
+    let header = fs::read_to_string(file).expect("the header");
+    for (name, number) in [
+        ("VERSION", horncurlew::VERSION),
+        ("STACK", horncurlew::STACK),
+        ("SMALL_STACK", horncurlew::SMALL_STACK),
+        ("LONGEST_JOB", horncurlew::LONGEST_JOB),
+        ("LARGEST_TABLE", horncurlew::LARGEST_TABLE),
+        ("MOST_WORK", horncurlew::MOST_WORK),
+        ("MOST_ENTRIES", horncurlew::MOST_ENTRIES),
+        ("LARGEST_REPORT", horncurlew::LARGEST_REPORT),
+    ] {
+        assert_eq!(value(&header, &format!("#define HORNCURLEW_{name}")), number, "{name}");
+    }
+    for refusal in Refusal::ALL {
+        assert_eq!(Some(value(&header, &format!("{} =", name(refusal)))), refusal.number(), "{refusal:?}");
+    }
 }
 
 #[test]

@@ -1,6 +1,6 @@
 //! The report's text through the safe crate.
 
-use horncurlew::{report, NoRoom, LARGEST_REPORT, MOST_WORK};
+use horncurlew::{report, NoReport, LARGEST_REPORT, MOST_WORK};
 
 const JOB_A: [u8; 12] = [0x20, 0x20, 0x00, 0x10, 0x41, 0x80, 0x00, 0x20, 0x00, 0x20, 0x40, 0x80];
 
@@ -24,7 +24,7 @@ fn texts() {
 fn no_room() {
     let (mut work, mut out) = ([7; 16], [0x5a; LARGEST_REPORT]);
     for room in [0, 1, 64, LARGEST_REPORT - 1] {
-        assert_eq!(report(&JOB_A, &mut work, &mut out[..room]), Err(NoRoom));
+        assert_eq!(report(&JOB_A, &mut work, &mut out[..room]), Err(NoReport::Room));
     }
     assert_eq!(work, [7; 16]);
     assert_eq!(out, [0x5a; LARGEST_REPORT]);

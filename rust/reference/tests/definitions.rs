@@ -138,7 +138,7 @@ fn model_write(job: &Job) -> Result<Vec<u8>, u8> {
         }
         bits += &format!("{kind:02b}{a:07b}{b:07b}");
     }
-    while !bits.len().is_multiple_of(8) {
+    while bits.len() % 8 != 0 {
         bits.push('0');
     }
     Ok((0..bits.len() / 8).map(|i| u8::from_str_radix(&bits[8 * i..8 * i + 8], 2).unwrap()).collect())
@@ -204,7 +204,7 @@ fn model_undo(numbers: &[u16], kind: Kind, k: usize) -> Option<Vec<bool>> {
     let mut table = vec![false; numbers.len()];
     for t in 0..numbers.len() {
         let signed = |j: &usize| {
-            let sign = if (j ^ t).count_ones().is_multiple_of(2) { 1 } else { -1 };
+            let sign = if (j ^ t).count_ones() % 2 == 0 { 1 } else { -1 };
             sign * i64::from(numbers[*j])
         };
         let mut entry = (0..numbers.len()).filter(|j| j & !t == 0).map(|j| signed(&j)).sum::<i64>();

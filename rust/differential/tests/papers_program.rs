@@ -1,0 +1,147 @@
+//! The built test program `papers`, on tasks that its stored vectors don't have: what it prints is worked out anew.
+
+use differential::jobs::{encode, full_job, small_job};
+use differential::random::Random;
+use reference::{choose, locate, read, spectrum, table, undo, Chosen, Kind, Located, Purpose};
+use std::fmt::{Display, Write as _};
+use std::io::Write as _;
+use std::path::Path;
+use std::process::{Command, Stdio};
+
+/// What the program prints for tasks.
+fn printed(tasks: &str) -> String {
+    let program = Path::new(env!("CARGO_MANIFEST_DIR")).join("../../target/bin/papers");
+    assert!(program.exists(), "{} isn't there: build the crate `papers` first", program.display());
+    assert!(tasks.len() < 65536, "the program reads no more");
+    let mut child =
+        Command::new(&program).stdin(Stdio::piped()).stdout(Stdio::piped()).spawn().expect("the program runs");
+    child.stdin.take().expect("a pipe").write_all(tasks.as_bytes()).expect("it reads the tasks");
+    let output = child.wait_with_output().expect("it ends");
+    assert!(output.status.success(), "{}", output.status);
+    String::from_utf8(output.stdout).expect("text")
+}
+
+/// Numbers, each behind a space.
+fn listed<T: Display>(numbers: impl IntoIterator<Item = T>) -> String {
+    numbers.into_iter().map(|number| format!(" {number}")).collect()
+}
+
+fn hex(bytes: &[u8]) -> String {
+    listed(bytes.iter().map(|byte| format!("{byte:02x}")))
+}
+
+fn any_kind(random: &mut Random) -> (&'static str, Kind) {
+    random.pick(&[("rm", Kind::Rm), ("mrm", Kind::Mrm)])
+}
+
+/// Tasks, and the answers that they have by the reference.
+#[derive(Default)]
+struct Tasks {
+    tasks: String,
+    answers: String,
+}
+
+impl Tasks {
+    fn add(&mut self, task: String, answer: String) {
+        writeln!(self.tasks, "{task}").expect("a string");
+        writeln!(self.answers, "{answer}").expect("a string");
+    }
+
+    fn tables(&mut self, bytes: &[u8]) {
+        let answer = match read(bytes) {
+            Err(number) => format!("refused {number}"),
+            Ok(job) => {
+                let size = usize::div_ceil(1 << job.inputs, 8);
+                let mut text = format!("inputs {} gates {} faults {}", job.inputs, job.gate_count, job.fault_count);
+                for circuit in 0..=usize::from(job.fault_count) {
+                    let mut packed = vec![0; size];
+                    table(bytes, circuit, &mut packed).expect("a circuit of the job");
+                    write!(text, "\n{circuit}{}", hex(&packed)).expect("a string");
+                }
+                text
+            }
+        };
+        self.add("tables".to_string(), answer);
+    }
+
+    fn choice(&mut self, random: &mut Random, bytes: &[u8], purpose: Purpose) {
+        let name = if purpose == Purpose::Isolating { "isolating" } else { "detecting" };
+        let ((word, kind), polarity) = (any_kind(random), random.below(9));
+        let answer = match choose(bytes, purpose, kind, polarity, &mut [0; 16384]) {
+            Chosen::Signature { count, entries, .. } => format!("signature{}", listed(&entries[..count])),
+            Chosen::Alike(first, second) => format!("refused 15 {first} {second}"),
+            Chosen::Refused(number) => format!("refused {number}"),
+        };
+        self.add(format!("{name} {word} {polarity}"), answer);
+    }
+
+    /// By the readings of one of the circuits, if the job has any.
+    fn location(&mut self, random: &mut Random, bytes: &[u8]) {
+        let ((word, kind), polarity) = (any_kind(random), random.below(4));
+        let mut work = [0; 16384];
+        locate(bytes, kind, polarity, &[], &[], &mut work);
+        let (places, faults) = read(bytes).map_or((2, 0), |job| (1 << job.inputs, usize::from(job.fault_count)));
+        let (circuit, count) = (random.below(faults + 1), 1 + random.below(5));
+        let indices: Vec<u16> = (0..count).map(|_| random.below(places) as u16).collect();
+        let readings: Vec<u16> = indices.iter().map(|index| work[circuit * places + usize::from(*index)]).collect();
+        let answer = match locate(bytes, kind, polarity, &indices, &readings, &mut work) {
+            Located::Alone(circuit) => format!("circuit {circuit}"),
+            Located::Several(lowest, count) => format!("several {lowest} {count}"),
+            Located::Nowhere => "none".to_string(),
+            Located::Refused(number) => format!("refused {number}"),
+        };
+        self.add(format!("locate {word} {polarity}{} /{}", listed(indices), listed(readings)), answer);
+    }
+
+    /// The spectra of a table, one of them undone, and one undone with a number changed.
+    fn spectra(&mut self, random: &mut Random) {
+        let inputs = 1 + random.below(6);
+        let (places, polarity) = (1 << inputs, random.below(1 << inputs));
+        let mut packed = random.bytes(usize::div_ceil(places, 8));
+        packed[0] &= if places < 8 { !(0xff >> places) } else { 0xff };
+        let of = |kind| {
+            let mut numbers = vec![0; places];
+            spectrum(inputs, &packed, kind, polarity, &mut numbers).expect("a table");
+            numbers
+        };
+        let answer = format!("rm{}\nmrm{}", listed(of(Kind::Rm)), listed(of(Kind::Mrm)));
+        self.add(format!("spectra {inputs} {polarity}{}", hex(&packed)), answer);
+        let (word, kind) = any_kind(random);
+        let mut numbers = of(kind);
+        for change in [0, 1] {
+            numbers[random.below(places)] ^= change;
+            let mut back = packed.clone();
+            let answer = match undo(inputs, &numbers, kind, polarity, &mut back) {
+                Ok(()) => format!("table{}", hex(&back)),
+                Err(number) => format!("refused {number}"),
+            };
+            self.add(format!("undo {word} {inputs} {polarity}{}", listed(&numbers)), answer);
+        }
+    }
+}
+
+#[test]
+fn other_tasks() {
+    let mut random = Random::new(50);
+    let mut all = Tasks::default();
+    for turn in 0..60 {
+        let mut bytes = if turn == 0 { full_job(&mut random, 8, 64, 63) } else { encode(&small_job(&mut random)) };
+        if turn % 8 == 7 {
+            bytes.truncate(random.below(bytes.len()));
+        }
+        writeln!(all.tasks, "job{}", hex(&bytes)).expect("a string");
+        all.tables(&bytes);
+        all.choice(&mut random, &bytes, Purpose::Isolating);
+        all.choice(&mut random, &bytes, Purpose::Detecting);
+        all.location(&mut random, &bytes);
+        all.spectra(&mut random);
+    }
+    for word in ["signature ", "refused 15 ", "refused 1\n", "refused 14\n", "circuit ", "several ", "table "] {
+        assert!(all.answers.contains(word), "no task is answered with {word}");
+    }
+    let found = printed(&all.tasks);
+    for (place, (line, expected)) in found.lines().zip(all.answers.lines()).enumerate() {
+        assert_eq!(line, expected, "line {place} of the answers");
+    }
+    assert_eq!(found.len(), all.answers.len());
+}
