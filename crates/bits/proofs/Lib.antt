@@ -2,6 +2,7 @@ pub mod Answers
 pub mod Below
 pub mod Bits
 pub mod Blocks
+pub mod Bounds
 pub mod Bytes
 pub mod Digits
 pub mod FieldParser

@@ -1,6 +1,7 @@
 pub mod Answer
 pub mod Bits
 pub mod Blocks
+pub mod Bounds
 pub mod Field
 pub mod Packed
 pub mod Parser

@@ -12,6 +12,7 @@ ghost use lib.Dec.{ltb};
 ghost use Prim.Native.Nat.{_+_, _-_, _*_, _/_, _%_, _^_, _≤_, _<_};
 ghost use lib.ListN.{getD, length};
 ghost use Rattle.bits.specs.Answer.{number};
+ghost use Rattle.bits.specs.Bounds.{allBelow};
 ghost use Rattle.bits.specs.Packed.{tabulate};
 ghost use Rattle.bits.specs.Sizes.{tableSizeOf, tableBytesOf};
 ghost use Rattle.bits.specs.Slices.{slice, splice, hasRoom, copyFits};
@@ -274,4 +275,18 @@ fn copy_bytes(out: &mut [u8], to: usize, rows: &[u8], at: usize, count: usize)
         out[to + i] = rows[at + i];
         i += 1;
     }
+}
+
+// Whether all numbers of a list are below a bound.
+pub fn all_below(list: &[u16], bound: usize) -> bool
+    ensures { λ r. ⌜ r ≡ allBelow bound (now (list .entry)) ⌝ }
+{
+    let mut i = 0;
+    while i < list.len() {
+        if bound <= list[i] as usize {
+            return false;
+        }
+        i += 1;
+    }
+    true
 }

@@ -2,52 +2,19 @@
 --
 --   fits-told       the tests hold, as the code finds them
 --   fits-most, fits-filled, fits-within   what the tests tell
---   Bounding        what a loop knows that has found the first i entries within a row
---   bounding-none, bounding-stop, bounding-next, bounding-all    its start, its ways out and its step
 --   unfit-none, unfit-many, unfit-width, unfit-work  one of the tests fails
 --   fit-entries     all but the last hold
-use Prim.Native.Nat.{ℕ, suc, _+_, _*_, _/_, _≤_, _<_}
+use Prim.Native.Nat.{ℕ, _*_, _/_, _≤_, _<_}
 use native.Mathlib.Nat.{le-div-iff-mul-le, div-lt-iff-lt-mul}
-use native.Mathlib.Numerals.{add-one}
-use native.Mathlib.Omega.{arith}
-use mathlib.Core.Path.{_≡_, refl, sym, ap, _∙_}
+use mathlib.Core.Path.{_≡_, sym, _∙_}
 use mathlib.Core.Bool.{Bool, true, false, not, _&&_, and-false}
 use mathlib.Core.List.{List}
-use borrow.Author.Tests.{not-false, lt-ltb, le-ltb, leb-true, le-leb, lt-leb}
-use lib.Dec.{leb, ltb}
-use lib.ListN.{length, getD, drop, drop-of-length-le}
-use lib.Seq.{drop-cons}
+use borrow.Author.Tests.{not-false, leb-true, le-leb, lt-leb}
+use lib.Dec.{leb}
+use lib.ListN.{length}
+use Rattle.bits.specs.Bounds.{allBelow}
 use Rattle.bits.proofs.Tests.{and-l, and-r}
-use Rattle.chooser.specs.Matrix.{maxRows, allBelow, fits}
-
--- ---- every entry lies within a row
-
-pub record Bounding (width : ℕ) (scan : List ℕ) (i : ℕ) : Type 0 where
-  pub within : i ≤ length scan
-  pub rest : allBelow width scan ≡ allBelow width (drop i scan)
-
-pub bounding-none : (width : ℕ) (scan : List ℕ) → Bounding width scan 0
-bounding-none width scan = record { within = omega arith; rest = refl }
-
-module _ {width : ℕ} {scan : List ℕ} {i : ℕ} (w : Bounding width scan i) where
-  next : i < length scan → allBelow width scan ≡ ltb (getD scan i 0) width && allBelow width (drop (suc i) scan)
-  unfolding allBelow
-  next h = w .rest ∙ ap (allBelow width) (drop-cons scan i 0 h)
-
-  pub bounding-stop : i < length scan → width ≤ getD scan i 0 → false ≡ allBelow width scan
-  bounding-stop h k = sym (next h ∙ ap (λ (t : Bool). t && allBelow width (drop (suc i) scan)) (le-ltb (getD scan i 0) width k))
-
-  pub bounding-next : i < length scan → getD scan i 0 < width → Bounding width scan (i + 1)
-  bounding-next h k =
-      record {
-        within = omega arith;
-        rest = next h ∙ ap (λ (t : Bool). t && allBelow width (drop (suc i) scan)) (lt-ltb (getD scan i 0) width k)
-            ∙ ap (λ (j : ℕ). allBelow width (drop j scan)) (sym (add-one i));
-      }
-
-  pub bounding-all : length scan ≤ i → true ≡ allBelow width scan
-  unfolding allBelow
-  bounding-all h = sym (w .rest ∙ ap (allBelow width) (drop-of-length-le scan {i = i} h))
+use Rattle.chooser.specs.Matrix.{maxRows, fits}
 
 -- ---- the tests together
 

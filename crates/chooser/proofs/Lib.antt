@@ -6,7 +6,6 @@ pub mod Conclusion
 pub mod Fits
 pub mod KeptEntries
 pub mod Marks
-pub mod Places
 pub mod Recursion
 pub mod Refinement
 pub mod Relation

@@ -4,16 +4,16 @@
 --   maxSignature   no signature has more entries
 --   cell           the number of a row at an entry
 --   differ         two rows are to be told apart: their marks differ
---   allBelow       every entry lies within a row
 --   fits           the rows are there, no more than a job has circuits, and every entry lies within a row
 --   signatureOf    entries as a signature, the places past them 0
 --   choiceOver     what the method chooses, over a relation of needed pairs
 --   choice         the same where each row has a mark, and rows are to be told apart whose marks differ
 use Prim.Native.Nat.{ℕ, zero, suc, _-_, _+_, _*_}
-use mathlib.Core.Bool.{Bool, true, not, cond, _&&_}
+use mathlib.Core.Bool.{Bool, not, cond, _&&_}
 use mathlib.Core.List.{List, [], _∷_, _++_}
-use lib.Dec.{leb, ltb, eqb}
+use lib.Dec.{leb, eqb}
 use lib.ListN.{length, getD}
+use Rattle.bits.specs.Bounds.{allBelow}
 use Rattle.method.specs.Method.{agree, signature, firstPair}
 use Rattle.method.specs.Method as method
 use Rattle.method.specs.Method.Pair.{nobody, pair}
@@ -34,10 +34,6 @@ cell work width c e = getD work (c * width + e) 0
 
 abbrev pub differ : List ℕ → ℕ → ℕ → Bool
 differ marks a b = not (eqb (getD marks a 0) (getD marks b 0))
-
-unfoldable pub allBelow : ℕ → List ℕ → Bool
-allBelow width [] = true
-allBelow width (e ∷ scan) = ltb e width && allBelow width scan
 
 unfoldable pub fits : List ℕ → ℕ → ℕ → List ℕ → Bool
 fits work width rows scan = leb 1 rows && (leb rows maxRows && (leb 1 width && (leb (rows * width) (length work) && allBelow width scan)))

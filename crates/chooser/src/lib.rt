@@ -13,7 +13,8 @@ ghost use mathlib.Core.Bool.{true};
 ghost use mathlib.Core.List.{[]};
 ghost use lib.ListN.{length, drop};
 ghost use Rattle.method.specs.Method.{firstPair};
-ghost use Rattle.chooser.specs.Matrix.{cell, maxRows, maxSignature, allBelow, fits, choice, choiceBy, noMatrix, signatureOf};
+ghost use Rattle.bits.specs.Bounds.{allBelow};
+ghost use Rattle.chooser.specs.Matrix.{cell, maxRows, maxSignature, fits, choice, choiceBy, noMatrix, signatureOf};
 ghost use Rattle.chooser.specs.Pairing.{pairOf, There, Sound, Room, Put, keeps, Keeps};
 
 mod pairs;
@@ -61,20 +62,6 @@ fn no_choice() -> Choice
     }
 }
 
-// Whether every entry lies within a row.
-fn all_below(scan: &[u16], width: usize) -> bool
-    ensures { λ r. ⌜ r ≡ allBelow width (now (scan .entry)) ⌝ }
-{
-    let mut i = 0;
-    while i < scan.len() {
-        if width <= scan[i] as usize {
-            return false;
-        }
-        i += 1;
-    }
-    true
-}
-
 // Whether there are so many rows of so many numbers, and every entry lies within a row.
 fn fitting(work: &[u16], width: usize, rows: usize, scan: &[u16]) -> bool
     ensures { λ r. ⌜ r ≡ fits (now (work .entry)) width rows (now (scan .entry)) ⌝ }
@@ -91,7 +78,7 @@ fn fitting(work: &[u16], width: usize, rows: usize, scan: &[u16]) -> bool
     if work.len() / width < rows {
         return false;
     }
-    all_below(scan, width)
+    bits::all_below(scan, width)
 }
 
 // The entries of an array from a place on, the places after them 0.

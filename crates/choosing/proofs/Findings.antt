@@ -29,11 +29,12 @@ use Rattle.bits.proofs.Answers.{never-gives, refused-same, unless-onward, onwar
 use Rattle.job.specs.Layout.{maxFaults}
 use Rattle.job.specs.declared.Job.{Job}
 use Rattle.reading.specs.Reading.{reading}
-use Rattle.tables.specs.Family.{Family, familyOf, eachBelow, sameTables}
+use Rattle.bits.specs.Bounds.{eachBelow, allBelow}
+use Rattle.tables.specs.Family.{Family, familyOf, sameTables}
 use Rattle.tables.specs.Operations.{noCounts}
 use Rattle.tables.specs.declared.Counts.{Counts}
 use Rattle.tables.specs.declared.Delivery.{Delivery}
-use Rattle.tables.proofs.Families.{SameFamily, each-same, Delivers}
+use Rattle.tables.proofs.Families.{SameFamily, Delivers}
 use Rattle.spectra.specs.Listed.{Entry, coefOf, familySpectra, places, entryAt, entriesAt}
 use Rattle.spectra.specs.Operations.{tablesChecked, tableFamily, fromTables, filledFrom, polarityOk}
 use Rattle.spectra.specs.Rows.{rowsOf}
@@ -47,9 +48,9 @@ use Rattle.method.proofs.Firsts.{firstPair-same}
 use Rattle.method.proofs.Names.{agree-named, signature-named}
 use Rattle.method.proofs.Pairs.{by-test}
 use Rattle.chooser.specs.Matrix as chooser
-use Rattle.chooser.specs.Matrix.{cell, maxRows, allBelow, fits, choiceOver, signatureOf}
+use Rattle.chooser.specs.Matrix.{cell, maxRows, fits, choiceOver, signatureOf}
 use Rattle.chooser.specs.declared.Choice as picked
-use Rattle.chooser.proofs.Places.{members-below}
+use Rattle.bits.proofs.Bounds.{each-same, members-below}
 use Rattle.chooser.proofs.Relation.{choice-needed}
 use Rattle.choosing.specs.Choosing.{needed, scanOrder, scanEntries, Finding, findingBy, finding, chosenFrom, chosenOf, AtExit, found, atExit, countsIn, verdictNumber, verdictPair}
 use Rattle.choosing.specs.Looking.{mark, Filled, unchosen, chosenBy, chosenFor, chosenIn}

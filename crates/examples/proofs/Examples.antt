@@ -14,7 +14,6 @@ use Rattle.spectra.specs.Spectrum.{inside, sumTo, subsetSum, coefficient, spect
 use Rattle.gates.specs.Answers.{answers, answer}
 use Rattle.gates.specs.Values.{inputValue, bridged}
 use Rattle.tables.specs.Circuit.{gateValue, ownValue, valuesTo, fixedBy, fixingOf, circuitEntry}
-use Rattle.tables.specs.Family.{eachBelow}
 use Rattle.bits.specs.Passing.{passing}
 use Rattle.method.specs.Method.{without, someBelow, agree, somePair, useful, full, takes, drops, signature, pairWith, pairFrom}
 use Rattle.choosing.specs.Choosing.{scanTo, outputsAt, entriesOf, chosenFrom}
@@ -59,7 +58,7 @@ unfolding
     fromOutput
     fromGates
     wholeJob
-    block eachBelow outputsAt entriesOf maxSignature zeros inputsWord gatesWord faultsWord signatureWord digits decimal numbersText circuitLines
+    block outputsAt entriesOf maxSignature zeros inputsWord gatesWord faultsWord signatureWord digits decimal numbersText circuitLines
     answers answer inputValue gateValue ownValue valuesTo bridged fixedBy fixingOf circuitEntry
     passing without someBelow agree somePair useful full takes drops signature pairWith pairFrom scanTo chosenFrom onesIn ones
     reading bytesTo bytesOf tabulate packed entry zeroFrom tableOk spectrumOf sameNumbers isSpectrum undoneOf inside sumTo subsetSum coefficient spectrum recovered

@@ -12,7 +12,8 @@ use mathlib.Core.Bool.{Bool}
 use mathlib.Core.List.{[]}
 use lib.Dec.{ltb, ltb→lt}
 use lib.ListN.{getD}
-use Rattle.bits.proofs.Below.{allBelow, all-below, equal-below}
+use Rattle.bits.specs.Bounds.{eachBelow}
+use Rattle.bits.proofs.Below.{each-below, equal-below}
 use Rattle.job.specs.Record.{gateKind}
 use Rattle.job.specs.declared.BinaryKind.the-variants.{And, Or, Nand, Nor, Xor, Xnor}
 use Rattle.job.specs.declared.UnaryKind.the-variants.{Buf, Not}
@@ -62,7 +63,7 @@ bitsAt kind k = ltb (getD (getD answers kind []) k 0) 2
 pub answers-lt : (kind : ℕ) → kind < 8 → (k : ℕ) → k < 4 → getD (getD answers kind []) k 0 < 2
 unfolding answers
 answers-lt kind h k l =
-    ltb→lt (getD (getD answers kind []) k 0) 2 (all-below (bitsAt kind) 4 (all-below (λ kind. allBelow (bitsAt kind) 4) 8 tt kind h) k l)
+    ltb→lt (getD (getD answers kind []) k 0) 2 (each-below (bitsAt kind) 4 (each-below (λ kind. eachBelow 4 (bitsAt kind)) 8 tt kind h) k l)
 
 pub kind-lt : (g : Gate) → gateKind g < 8
 kind-lt (Binary And a b) = omega arith

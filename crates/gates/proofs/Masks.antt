@@ -16,7 +16,8 @@ use borrow.Author.Tests.{lt-ltb}
 use lib.Dec.{ltb, eqb, ltb→lt, eqb→eq}
 use lib.ListN.{List·getD-eq-default}
 use lib.Pow.{pow-add}
-use Rattle.bits.proofs.Below.{lt-or-ge, allBelow, all-below, equal-below}
+use Rattle.bits.specs.Bounds.{eachBelow}
+use Rattle.bits.proofs.Below.{lt-or-ge, each-below, equal-below}
 use Rattle.gates.specs.Polynomial.{maskOf}
 use Rattle.bits.specs.Sizes.{tableBytes}
 
@@ -28,7 +29,7 @@ mask-rest n h = List·getD-eq-default (128 ∷ 192 ∷ 240 ∷ []) 255 h
 
 pub mask-lt : (n : ℕ) → maskOf n < 256
 mask-lt n =
-    ⊎-elim (λ h. ltb→lt (maskOf n) 256 (all-below (λ n. ltb (maskOf n) 256) 3 tt n h)) (λ h. rw (mask-rest n h) (omega arith)) (lt-or-ge n 3)
+    ⊎-elim (λ h. ltb→lt (maskOf n) 256 (each-below (λ n. ltb (maskOf n) 256) 3 tt n h)) (λ h. rw (mask-rest n h) (omega arith)) (lt-or-ge n 3)
 
 pub full-digit : (b k : ℕ) → b < 2 → k < 8 → 255 * b / 2 ^ k % 2 ≡ b
 full-digit = equal-below (λ b k. 255 * b / 2 ^ k % 2) (λ b k. b) 2 8 tt
@@ -50,7 +51,7 @@ mask-digit n m l = ⊎-elim few many (lt-or-ge n 3)
     few : n < 3 → maskOf n / 2 ^ (7 - m % 8) % 2 ≡ cond (ltb m (2 ^ n)) 1 0
     few h =
         eqb→eq (maskOf n / 2 ^ (7 - m % 8) % 2) (cond (ltb m (2 ^ n)) 1 0)
-        (all-below (keepTest n) (8 * tableBytes n) (all-below (λ n. allBelow (keepTest n) (8 * tableBytes n)) 3 tt n h) m l)
+        (each-below (keepTest n) (8 * tableBytes n) (each-below (λ n. eachBelow (8 * tableBytes n) (keepTest n)) 3 tt n h) m l)
 
     many : 3 ≤ n → maskOf n / 2 ^ (7 - m % 8) % 2 ≡ cond (ltb m (2 ^ n)) 1 0
     many h = mask-full n (7 - m % 8) h (omega arith) ∙ rw (lt-ltb m (2 ^ n) (rw whole at l))

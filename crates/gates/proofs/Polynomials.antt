@@ -18,7 +18,8 @@ use lib.Dec.{eqb}
 use lib.ListN.{getD}
 use mir.Syntax.{w8}
 use mir.Val.{Fits}
-use Rattle.bits.proofs.Below.{allBelow, all-below, equal-below}
+use Rattle.bits.specs.Bounds.{eachBelow}
+use Rattle.bits.proofs.Below.{each-below, equal-below}
 use Rattle.bits.proofs.Digits.{digit-lt, digit-and, digit-xor}
 use Rattle.gates.specs.Answers.{answers, answer}
 use Rattle.gates.specs.Polynomial.{step, polynomialWith, polynomialOf}
@@ -95,13 +96,13 @@ digit-polynomial row mask k h l =
 -- on single bits, by one test computed at all kinds and bits
 abbrev bitTest : ℕ → ℕ → Bool
 unfolding polynomialWith answer
-bitTest kind b = allBelow (λ x. allBelow (λ y. eqb (step (polynomialWith (λ c. bitAnd c b) (getD answers kind [])) x y) (b * answer kind x y)) 2) 2
+bitTest kind b = eachBelow 2 (λ x. eachBelow 2 (λ y. eqb (step (polynomialWith (λ c. bitAnd c b) (getD answers kind [])) x y) (b * answer kind x y)))
 
 step-bits : (kind b x y : ℕ) → kind < 8 → b < 2 → x < 2 → y < 2 → step (polynomialWith (λ c. bitAnd c b) (getD answers kind [])) x y ≡ b * answer kind x y
 unfolding polynomialWith answer
 step-bits kind b x y hk hb hx hy =
     equal-below (λ x y. step (polynomialWith (λ c. bitAnd c b) (getD answers kind [])) x y) (λ x y. b * answer kind x y) 2 2
-    (all-below (bitTest kind) 2 (all-below (λ kind. allBelow (bitTest kind) 2) 8 tt kind hk) b hb) x y hx hy
+    (each-below (bitTest kind) 2 (each-below (λ kind. eachBelow 2 (bitTest kind)) 8 tt kind hk) b hb) x y hx hy
 
 pub step-digit : (kind mask x y k : ℕ) → kind < 8 → k < 8
     → step (polynomialOf (getD answers kind []) mask) x y / 2 ^ k % 2 ≡ mask / 2 ^ k % 2 * answer kind (x / 2 ^ k % 2) (y / 2 ^ k % 2)

@@ -18,6 +18,7 @@ use lib.Dec.{leb}
 use lib.ListN.{length, drop, length-append}
 use Rattle.bits.specs.Answer.{Answer, Fills, Leaves, leaves, outcome}
 use Rattle.bits.specs.Answer.Answer.{gives, refused}
+use Rattle.bits.specs.Bounds.{allBelow}
 use Rattle.bits.specs.declared.Outcome.{Outcome}
 use Rattle.bits.specs.declared.Outcome.the-variants.{Done}
 use Rattle.bits.proofs.Answers.{gives-same, never-gives, unless-gives, onward-gives}
@@ -29,7 +30,6 @@ use Rattle.spectra.specs.Operations.{polarityOk, tablesChecked, tableFamily, fr
 use Rattle.spectra.specs.declared.Kind.{Kind}
 use Rattle.spectra.proofs.Families.{Fits, checked-fits, unchecked, checked, circuits-checked, listed-circuits, length-familySpectra}
 use Rattle.locating.specs.Locating.{indicesOk, preparedBy}
-use Rattle.locating.specs.Scanning.{indicesBelow}
 use Rattle.locating.proofs.Indices.{entries-below}
 
 module _ (n faults : ℕ) (s : List ℕ) (kind : Kind) (k : ℕ) (indices : List ℕ) (paired : Bool) (work : List ℕ) {circuits : ℕ}
@@ -55,11 +55,11 @@ module _ (n faults : ℕ) (s : List ℕ) (kind : Kind) (k : ℕ) (indices : List
       small : k < 2 ^ n
       small = subst (λ (x : ℕ). k < x) e h
 
-      pub prepared-index : indicesBelow n indices ≡ false → record { answer = refused 16; memory = work } ≡ leaves whole work
+      pub prepared-index : allBelow (2 ^ n) indices ≡ false → record { answer = refused 16; memory = work } ≡ leaves whole work
       unfolding preparedBy
       prepared-index u = kept whole 16 work (onto ∙ simp (lt-ltb k (2 ^ n) small, entries-below n indices ∙ u))
 
-      module _ (u : indicesBelow n indices ≡ true) where
+      module _ (u : allBelow (2 ^ n) indices ≡ true) where
         pub prepared-readings : paired ≡ false → record { answer = refused 17; memory = work } ≡ leaves whole work
         unfolding preparedBy
         prepared-readings d = kept whole 17 work (onto ∙ simp (lt-ltb k (2 ^ n) small, entries-below n indices ∙ u, d))
@@ -93,7 +93,7 @@ module _ (n circuits : ℕ) (s : List ℕ) (kind : Kind) (k : ℕ) (indices : Li
 
   pub record Prepared (after : List ℕ) : Type 0 where
     pub fits : Fits n circuits s
-    pub below : indicesBelow n indices ≡ true
+    pub below : allBelow (2 ^ n) indices ≡ true
     pub pairs : paired ≡ true
     pub answer : prepared ≡ gives (record { value = tt; filled = spectra })
     pub stands : after ≡ spectra ++ drop (length spectra) work

@@ -13,7 +13,7 @@ ghost use Rattle.bits.specs.Passing.{passing};
 ghost use Rattle.spectra.specs.Listed.{entriesAt};
 ghost use Rattle.spectra.specs.Operations.{sameNumbers, fromTables};
 ghost use Rattle.locating.specs.Locating.{preparedBy, locatedFrom, locatedOf, locatedTold, location};
-ghost use Rattle.locating.specs.Scanning.{indicesBelow, numbersAt, workAgrees, locationOf, Readable};
+ghost use Rattle.locating.specs.Scanning.{numbersAt, workAgrees, locationOf, Readable};
 use bits::Outcome;
 use bits::Refusal;
 use spectra::Kind;
@@ -26,22 +26,6 @@ pub enum Located {
     Several(usize, usize),
     Nowhere,
     Refused(Refusal),
-}
-
-// Whether all indices are below the number of coefficients of n inputs.
-fn indices_ok(indices: &[u16], n: usize) -> bool
-    requires { ⌜ n ≤ 15 ⌝ }
-    ensures { λ r. ⌜ r ≡ indicesBelow n (now (indices .entry)) ⌝ }
-{
-    let size = bits::table_size(n);
-    let mut i = 0;
-    while i < indices.len() {
-        if size <= indices[i] as usize {
-            return false;
-        }
-        i += 1;
-    }
-    true
 }
 
 // Whether the numbers of the work at the indices, from the place `start` on, are the readings.
@@ -133,10 +117,11 @@ pub fn prepare(
     if let Outcome::Refused(cause) = checked {
         return Outcome::Refused(cause);
     }
-    if bits::table_size(n) <= polarity {
+    let size = bits::table_size(n);
+    if size <= polarity {
         return Outcome::Refused(Refusal::Polarity);
     }
-    if !indices_ok(indices, n) {
+    if !bits::all_below(indices, size) {
         return Outcome::Refused(Refusal::Index);
     }
     if !paired {

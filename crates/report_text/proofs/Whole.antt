@@ -37,7 +37,7 @@ use Rattle.method.specs.Method.{Pair}
 use Rattle.method.specs.Method.Pair.{nobody, pair}
 use Rattle.chooser.specs.Matrix.{signatureOf}
 use Rattle.chooser.specs.declared.Signature.{Signature}
-use Rattle.chooser.proofs.Places.{members-below, entry-below}
+use Rattle.bits.proofs.Bounds.{members-below, entry-below}
 use Rattle.choosing.specs.Choosing.{Finding, AtExit, signatureIn, alikePair, findingBy, chosenFrom, chosenOf, found, atExit, countsIn, verdictNumber, verdictPair}
 use Rattle.choosing.specs.Choosing.Finding.{chosen, alike}
 use Rattle.choosing.specs.declared.Purpose.the-variants.{Isolating}

@@ -1,7 +1,5 @@
 -- Laws of the listed circuits as tables (specs/Family.antt), and what a call of `tables` delivers.
 --
---   each-all, all-each   a test that holds of every number below a bound
---   each-same            equal tests
 --   tables-entries       circuits with equal tables have equal entries
 --   entries-tables       and conversely
 --   ValidFamily          what the laws of spectra and signatures ask of a family
@@ -12,23 +10,23 @@
 --   tables-deliver       what a successful call of `tables` delivers
 --   delivery-unread      with room for the most tables it refuses only what reading refuses
 use Prim.Native.Nat.{ℕ, zero, suc, _+_, _*_, _^_, _≤_, _<_}
-use native.Mathlib.Nat.{not-suc-le-zero, eq-or-lt-of-le, le-of-suc-le-suc, mul-le-mul}
+use native.Mathlib.Nat.{mul-le-mul}
 use native.Mathlib.Omega.{arith}
-use mathlib.Core.Path.{_≡_, refl, sym, ap, ap₂, _∙_}
-use mathlib.Core.Bool.{Bool, true, _&&_}
+use mathlib.Core.Path.{_≡_, refl, sym, ap, _∙_}
+use mathlib.Core.Bool.{Bool, true}
 use mathlib.Core.List.{List, _++_}
-use mathlib.Core.Logic.{⊎-elim}
 use borrow.Author.Tests.{eq-eqb, eqb-true, le-leb}
 use lib.Dec.{eqb, leb}
 use lib.ListN.{length, take, drop, length-append}
 use lib.Seq.{take-at}
 use Rattle.bits.specs.Answer.{Answer, Fills, number, outcome}
 use Rattle.bits.specs.Answer.Answer.{gives, refused}
+use Rattle.bits.specs.Bounds.{eachBelow}
 use Rattle.bits.specs.Sizes.{tableBytes}
 use Rattle.bits.specs.declared.Outcome.the-variants.{Done, Refused}
 use Rattle.bits.specs.declared.Refusal.{Refusal}
+use Rattle.bits.proofs.Bounds.{each-all, all-each}
 use Rattle.bits.proofs.Answers.{gives-same, never-gives, refused-same, unless-gives, onward-gives}
-use Rattle.bits.proofs.Tests.{and-l, and-r, and-i}
 use Rattle.job.specs.Check.{Valid}
 use Rattle.job.specs.Layout.{maxInputs, maxFaults}
 use Rattle.job.specs.Record.{faultAt, lines}
@@ -36,7 +34,7 @@ use Rattle.job.specs.declared.Job.{Job}
 use Rattle.reading.specs.Reading.{reading}
 use Rattle.reading.proofs.Validity.{reading-valid}
 use Rattle.tables.specs.Circuit.{circuitEntry, fixingOf, valuesTo, free}
-use Rattle.tables.specs.Family.{Family, familyOf, eachBelow, sameTables}
+use Rattle.tables.specs.Family.{Family, familyOf, sameTables}
 use Rattle.tables.specs.Operations.{tablesOf, tablesTo, countsOf, Delivered, delivered}
 use Rattle.tables.specs.Work.{maxTableBytes, lineValue}
 use Rattle.tables.specs.declared.Counts.{Counts}
@@ -46,23 +44,6 @@ use Rattle.tables.proofs.Space.{tableBytes-most}
 use Rattle.tables.proofs.Values.{line-bit}
 
 -- ---- equal tables
-
-pub each-all : (n : ℕ) (test : ℕ → Bool) → eachBelow n test ≡ true → (i : ℕ) → i < n → test i ≡ true
-unfolding eachBelow
-each-all zero test t i h = absurd (not-suc-le-zero h)
-each-all (suc n) test t i h =
-    ⊎-elim (λ e. ap test e ∙ and-r (eachBelow n test) (test n) t) (λ l. each-all n test (and-l (eachBelow n test) (test n) t) i l)
-    (eq-or-lt-of-le (le-of-suc-le-suc h))
-
-pub all-each : (n : ℕ) (test : ℕ → Bool) → ((i : ℕ) → i < n → test i ≡ true) → eachBelow n test ≡ true
-unfolding eachBelow
-all-each zero test h = refl
-all-each (suc n) test h = and-i (all-each n test (λ i l. h i (omega arith))) (h n (omega arith))
-
-pub each-same : (n : ℕ) (p q : ℕ → Bool) → ((i : ℕ) → i < n → p i ≡ q i) → eachBelow n p ≡ eachBelow n q
-unfolding eachBelow
-each-same zero p q h = refl
-each-same (suc n) p q h = ap₂ _&&_ (each-same n p q (λ i l. h i (omega arith))) (h n (omega arith))
 
 module _ (F : Family) (a b : ℕ) where
   abbrev same-output : ℕ → Bool

@@ -3,11 +3,11 @@
 --
 --   Family       how many inputs, circuits and outputs there are, and the entry of a circuit and an output at an input number
 --   familyOf     the family of a job's circuits
---   eachBelow    a test holds of every number below a bound
 --   sameTables   two circuits have equal tables
-use Prim.Native.Nat.{ℕ, zero, suc, _+_, _^_}
-use mathlib.Core.Bool.{Bool, true, _&&_}
+use Prim.Native.Nat.{ℕ, _+_, _^_}
+use mathlib.Core.Bool.{Bool}
 use lib.Dec.{eqb}
+use Rattle.bits.specs.Bounds.{eachBelow}
 use Rattle.job.specs.declared.Job.{Job}
 use Rattle.tables.specs.Circuit.{circuitEntry}
 
@@ -20,10 +20,6 @@ pub record Family : Type 0 where
 -- "The listed circuits are 0 to f, the good one included"; a job has one output, number 0
 abbrev pub familyOf : Job → Family
 familyOf j = record { inputs = j .inputs; circuits = j .«fault_count» + 1; outputs = 1; entry = λ c o m. circuitEntry j c m }
-
-unfoldable pub eachBelow : ℕ → (ℕ → Bool) → Bool
-eachBelow zero test = true
-eachBelow (suc n) test = eachBelow n test && test n
 
 -- at every output, for every input number
 abbrev pub sameTables : Family → ℕ → ℕ → Bool

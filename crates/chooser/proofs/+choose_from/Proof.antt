@@ -15,7 +15,7 @@ use Rattle.chooser.proofs.Cells.{place-fits}
 use Rattle.chooser.proofs.KeptEntries.{keeps-short}
 use Rattle.chooser.proofs.Recursion.{sought-falls, keeps-none, keeps-step, keeps-start, rest-sound, rest-there, put-room, put-keeps}
 use Rattle.chooser.proofs.Soundness.{equal-alike, leaves-sound, leaves-there}
-use Rattle.chooser.proofs.Places.{entry-below}
+use Rattle.bits.proofs.Bounds.{entry-below}
 use Rattle.chooser.proofs.choose_from.Reads as choose-from
 use Rattle.chooser.proofs.choose_from.Kinds as choose-from-kinds
 use Rattle.chooser.proofs.+choose_from.Lts-choose_from as choose-from-lts

@@ -1,12 +1,12 @@
 -- `agrees` meets its contract: the numbers passed are the readings.
 use native.Mathlib.Omega.{arith}
-use Prim.Native.Nat.{_-_}
+use Prim.Native.Nat.{_-_, _^_}
 use lib.ListN.{length}
 use denote.Ref.{now}
 use borrow.Author.Count.{falls}
 use Rattle.spectra.proofs.Recovery.{Comparing}
 use Rattle.locating.specs.Scanning.{numbersAt}
-use Rattle.locating.proofs.Indices.{index-below}
+use Rattle.bits.proofs.Bounds.{entry-below}
 use Rattle.locating.proofs.Comparison.{compared-none, compared-stop, compared-more, compared-all}
 use Rattle.locating.proofs.agrees.Statement.{statement}
 use Rattle.locating.proofs.agrees.Tie as tie
@@ -30,13 +30,13 @@ cast-if1 : tie.Need-cast-if1 Inv-loop μ-loop
 cast-if1 c = omega (arith, c .shared-slice-known .given (c .before .before .loop .i))
 
 add-if1 : tie.Need-add-if1 Inv-loop μ-loop
-add-if1 c = omega (arith, index-below (c .before .before .before .args .n) (now (c .before .before .before .args .indices)) (c .before .before .loop .i) (c .before .before .before .pre .0 .below) (c .before .loop-test .taken), c .before .before .before .pre .1)
+add-if1 c = omega (arith, entry-below (2 ^ (c .before .before .before .args .n)) (now (c .before .before .before .args .indices)) (c .before .before .loop .i) (c .before .before .before .pre .0 .below) (c .before .loop-test .taken), c .before .before .before .pre .1)
 
 mul-if1-2 : tie.Need-mul-if1-2 Inv-loop μ-loop
-mul-if1-2 c = omega (arith, index-below (c .before .before .before .args .n) (now (c .before .before .before .args .indices)) (c .before .before .loop .i) (c .before .before .before .pre .0 .below) (c .before .loop-test .taken), c .before .before .before .pre .1)
+mul-if1-2 c = omega (arith, entry-below (2 ^ (c .before .before .before .args .n)) (now (c .before .before .before .args .indices)) (c .before .before .loop .i) (c .before .before .before .pre .0 .below) (c .before .loop-test .taken), c .before .before .before .pre .1)
 
 shared-slice-read-if1-2 : tie.Need-shared-slice-read-if1-2 Inv-loop μ-loop
-shared-slice-read-if1-2 c = omega (arith, index-below (c .before .before .before .before .args .n) (now (c .before .before .before .before .args .indices)) (c .before .before .before .loop .i) (c .before .before .before .before .pre .0 .below) (c .before .before .loop-test .taken), c .before .before .before .before .pre .1)
+shared-slice-read-if1-2 c = omega (arith, entry-below (2 ^ (c .before .before .before .before .args .n)) (now (c .before .before .before .before .args .indices)) (c .before .before .before .loop .i) (c .before .before .before .before .pre .0 .below) (c .before .before .loop-test .taken), c .before .before .before .before .pre .1)
 
 mul-if1-3 : tie.Need-mul-if1-3 Inv-loop μ-loop
 mul-if1-3 c = omega arith

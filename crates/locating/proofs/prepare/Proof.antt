@@ -1,17 +1,17 @@
 -- `prepare` meets its contract: each way out is one law.
-use Prim.Native.Nat.{_^_, _≤_}
+use Prim.Native.Nat.{ℕ, _^_, _≤_}
 use native.Mathlib.Nat.{le-trans}
 use mathlib.Core.Bool.{true}
 use mathlib.Core.Path.{_≡_, sym, ap, _∙_}
 use denote.Ref.{now}
 use borrow.Author.Tests.{not-true, not-false}
 use Rattle.bits.specs.Answer.{outcome}
+use Rattle.bits.specs.Bounds.{allBelow}
 use Rattle.bits.specs.Answer.Answer.{gives}
 use Rattle.bits.proofs.TableSizes.{table-size-exact, fifteen-few}
 use Rattle.job.proofs.Sizes.{most-inputs}
 use Rattle.spectra.specs.Operations.{tablesChecked}
 use Rattle.spectra.proofs.Families.{checked-fits}
-use Rattle.locating.specs.Scanning.{indicesBelow}
 use Rattle.locating.proofs.Preparation.{prepared-unchecked, prepared-polarity, prepared-index, prepared-readings, prepared-filled}
 use Rattle.locating.proofs.prepare.Statement.{statement}
 use Rattle.locating.proofs.prepare.Tie as tie
@@ -44,18 +44,21 @@ few c = let a = c .before .before .before .before .before .before .before .befor
 sized : (c : tie.After-table-size) → c .table-size .result ≡ 2 ^ (c .before .before .before .before .before .before .before .before .args .counts .inputs)
 sized c = table-size-exact (fifteen-few (few c)) (c .table-size .ensures)
 
+at-size : (c : tie.After-table-size) → allBelow (c .table-size .result) (now (c .before .before .before .before .before .before .before .before .args .indices)) ≡ allBelow (2 ^ (c .before .before .before .before .before .before .before .before .args .counts .inputs)) (now (c .before .before .before .before .before .before .before .before .args .indices))
+at-size c = ap (λ (x : ℕ). allBelow x (now (c .before .before .before .before .before .before .before .before .args .indices))) (sized c)
+
 returns-2 : tie.Need-returns-2
 returns-2 c = let a = c .before .before .before .before .before .before .before .before .before .args in prepared-polarity (a .counts .inputs) (a .counts .faults) (now (a .tables)) (a .kind) (a .polarity) (now (a .indices)) (a .paired) (now (a .work)) (c .before .before .before .before .before .circuits-of .ensures) (passed (c .before)) (sized (c .before)) (c .if1 .taken)
 
-indices-ok-requires : tie.Need-indices-ok-requires
-indices-ok-requires c κs = few (c .before)
+all-below-requires : tie.Need-all-below-requires
+all-below-requires c κs = tt
 
 returns-3 : tie.Need-returns-3
-returns-3 c = let a = c .before .before .before .before .before .before .before .before .before .before .before .args in prepared-index (a .counts .inputs) (a .counts .faults) (now (a .tables)) (a .kind) (a .polarity) (now (a .indices)) (a .paired) (now (a .work)) (c .before .before .before .before .before .before .before .circuits-of .ensures) (passed (c .before .before .before)) (sized (c .before .before .before)) (c .before .before .if1 .left) (sym (c .before .indices-ok .ensures) ∙ not-true (c .before .indices-ok .result) (c .if2 .taken))
+returns-3 c = let a = c .before .before .before .before .before .before .before .before .before .before .before .args in prepared-index (a .counts .inputs) (a .counts .faults) (now (a .tables)) (a .kind) (a .polarity) (now (a .indices)) (a .paired) (now (a .work)) (c .before .before .before .before .before .before .before .circuits-of .ensures) (passed (c .before .before .before)) (sized (c .before .before .before)) (c .before .before .if1 .left) (sym (c .before .all-below .ensures ∙ at-size (c .before .before .before)) ∙ not-true (c .before .all-below .result) (c .if2 .taken))
 
 -- the indices are below the number of coefficients
-below : (c : tie.Else2) → let a = c .before .before .before .before .before .before .before .before .before .before .before .args in indicesBelow (a .counts .inputs) (now (a .indices)) ≡ true
-below c = sym (c .before .indices-ok .ensures) ∙ not-false (c .before .indices-ok .result) (c .if2 .left)
+below : (c : tie.Else2) → let a = c .before .before .before .before .before .before .before .before .before .before .before .args in allBelow (2 ^ (a .counts .inputs)) (now (a .indices)) ≡ true
+below c = sym (c .before .all-below .ensures ∙ at-size (c .before .before .before)) ∙ not-false (c .before .all-below .result) (c .if2 .left)
 
 returns-4 : tie.Need-returns-4
 returns-4 c = let a = c .before .before .before .before .before .before .before .before .before .before .before .before .args in prepared-readings (a .counts .inputs) (a .counts .faults) (now (a .tables)) (a .kind) (a .polarity) (now (a .indices)) (a .paired) (now (a .work)) (c .before .before .before .before .before .before .before .before .circuits-of .ensures) (passed (c .before .before .before .before)) (sized (c .before .before .before .before)) (c .before .before .before .if1 .left) (below (c .before)) (not-true (a .paired) (c .if3 .taken))
@@ -80,7 +83,7 @@ prepare-spec =
     enum-told
     table-size-requires
     returns-2
-    indices-ok-requires
+    all-below-requires
     returns-3
     returns-4
     fill-requires

@@ -13,7 +13,7 @@ use Rattle.chooser.specs.Pairing.{pairOf, clear}
 use Rattle.chooser.proofs.Cells.{place-fits}
 use Rattle.chooser.proofs.Clearness.{clearing-all, clearing-none}
 use Rattle.chooser.proofs.Recursion.{Seeking, sought-none, seeking-start, seeking-stop, seeking-next, seeking-all}
-use Rattle.chooser.proofs.Places.{entry-below}
+use Rattle.bits.proofs.Bounds.{entry-below}
 use Rattle.chooser.proofs.pairs.next.Statement.{statement}
 use Rattle.chooser.proofs.pairs.next.Tie as tie
 

@@ -1,28 +1,27 @@
--- `chooser::all_below` meets its contract: the entries passed lie within a row.
+-- `bits::all_below` meets its contract: the numbers passed are below the bound.
 use Prim.Native.Nat.{_-_}
-use native.Mathlib.Numerals.{add-one-le}
+use native.Mathlib.Omega.{arith}
 use mir.Syntax.{w16}
 use mir.Facts.{fits-widen}
 use lib.ListN.{length}
 use denote.Ref.{now}
 use borrow.Author.Count.{falls}
 use borrow.Author.Needs.{scaled-fits}
-use Rattle.chooser.proofs.Cells.{place-fits}
-use Rattle.chooser.proofs.Fits.{Bounding, bounding-none, bounding-stop, bounding-next, bounding-all}
-use Rattle.chooser.proofs.all_below.Statement.{statement}
-use Rattle.chooser.proofs.all_below.Tie as tie
+use Rattle.bits.proofs.Bounds.{Bounding, bounding-none, bounding-stop, bounding-next, bounding-all}
+use Rattle.bits.proofs.all_below.Statement.{statement}
+use Rattle.bits.proofs.all_below.Tie as tie
 
 abbrev Inv-loop : tie.InvT-loop
-Inv-loop scan width i₀ i = Bounding width scan i
+Inv-loop list bound i₀ i = Bounding bound list i
 
 abbrev μ-loop : tie.MeasureT-loop
-μ-loop scan width i₀ i = length scan - i
+μ-loop list bound i₀ i = length list - i
 
 loop-holds : tie.Need-loop-holds Inv-loop μ-loop
-loop-holds c = bounding-none (c .args .width) (now (c .args .scan))
+loop-holds c = bounding-none (c .args .bound) (now (c .args .list))
 
 mul-if1 : tie.Need-mul-if1 Inv-loop μ-loop
-mul-if1 c = scaled-fits _ (length (now (c .before .before .args .scan))) 2 (c .loop-test .taken) (c .before .before .good .0 .1)
+mul-if1 c = scaled-fits _ (length (now (c .before .before .args .list))) 2 (c .loop-test .taken) (c .before .before .good .0 .1)
 
 shared-slice-read-if1 : tie.Need-shared-slice-read-if1 Inv-loop μ-loop
 shared-slice-read-if1 c = c .before .loop-test .taken
@@ -34,7 +33,7 @@ returns : tie.Need-returns Inv-loop μ-loop
 returns c = bounding-stop (c .before .before .before .loop .inv) (c .before .before .loop-test .taken) (c .if1 .taken)
 
 add-i : tie.Need-add-i Inv-loop μ-loop
-add-i c = place-fits 1 (c .before .before .before .before .good .0 .1) (add-one-le (c .before .before .loop-test .taken))
+add-i c = omega arith
 
 loop-less : tie.Need-loop-less Inv-loop μ-loop
 loop-less c = falls _ _ (c .before .before .loop-test .taken)
