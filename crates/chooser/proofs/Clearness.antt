@@ -16,8 +16,7 @@ use lib.Dec.{eqb}
 use lib.ListN.{getD}
 use Rattle.bits.specs.Sets.{has, lowest, later, maxMembers}
 use Rattle.bits.proofs.Membership.{has-none, set-some, set-lowest, lowest-below, set-later, later-word}
-use Rattle.bits.proofs.Tests.{and-l, and-i, clash}
-use Rattle.method.proofs.Pairs.{by-test}
+use Rattle.bits.proofs.Tests.{and-l, and-i, clash, by-test}
 use Rattle.chooser.specs.Pairing.{pairOf, Listed, There, Sound, equalAt, clear}
 use Rattle.chooser.proofs.CommonPairs.{none-meets}
 use Rattle.chooser.proofs.Soundness.{low-first, low-pair, alike-low, pair-listed, listed-pair, sound-meets}

@@ -1,21 +1,16 @@
 -- Some pair passes a test (specs/Pairing.antt, `meets`).
 --
---   same-test      tests that imply each other are equal
 --   meets-some     where some pair passes, there is one, the lower row first
 --   some-meets     where there is one, some pair passes
 --   none-meets     where none does, no pair passes
 --   meets-same     what is the same of every two rows meets alike
 use Prim.Native.Nat.{ℕ, _<_}
-use mathlib.Core.Path.{_≡_, sym, _∙_}
+use mathlib.Core.Path.{_≡_}
 use mathlib.Core.Bool.{Bool, true, false, _&&_}
-use Rattle.bits.proofs.Tests.{clash}
 use Rattle.method.specs.Method.{someBelow, somePair}
-use Rattle.method.proofs.Pairs.{by-test, somePair-some, some-somePair, none-somePair}
+use Rattle.method.proofs.Pairs.{somePair-some, some-somePair, none-somePair}
 use Rattle.chooser.specs.Matrix.{maxRows}
 use Rattle.chooser.specs.Pairing.{meets}
-
-pub same-test : {s t : Bool} → (s ≡ true → t ≡ true) → (t ≡ true → s ≡ true) → s ≡ t
-same-test {s} {t} f g = by-test s (λ p. p ∙ sym (f p)) (λ p. by-test t (λ q. absurd (clash (g q) p)) (λ q. p ∙ sym q))
 
 -- the coefficients have no part in it
 abbrev none : ℕ → ℕ → ℕ

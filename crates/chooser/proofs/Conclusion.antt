@@ -21,12 +21,11 @@ use lib.ListN.{length, getD, drop}
 use Rattle.bits.specs.Sets.{has, lowest}
 use Rattle.bits.proofs.Below.{lt-or-ge}
 use Rattle.bits.proofs.Membership.{has-none, set-some, set-lowest}
-use Rattle.bits.proofs.Tests.{and-l, and-r, and-i, clash}
+use Rattle.bits.proofs.Tests.{and-l, and-r, and-i, clash, by-test, by-cond, same-test}
 use Rattle.method.specs.Method.{without, agree, full, takes, drops, signature, firstPair, Pair}
 use Rattle.method.specs.Method.Pair.{nobody, pair}
 use Rattle.method.proofs.Agreement.{agree-without}
 use Rattle.method.proofs.Firsts.{firstPair-nobody, nobody-firstPair, firstPair-pair}
-use Rattle.method.proofs.Pairs.{by-test, by-cond}
 use Rattle.method.proofs.Signatures.{signature-tell}
 use Rattle.method.proofs.Takes.{takes-agree}
 use Rattle.chooser.specs.Matrix.{maxRows, cell, differ, fits, signatureOf, choiceBy, choiceOver, choice, noMatrix}
@@ -36,7 +35,6 @@ use Rattle.chooser.specs.declared.Signature.{Signature}
 use Rattle.chooser.specs.declared.Untold.the-variants.{Nobody}
 use Rattle.chooser.specs.declared.Untold.the-variants as two
 use Rattle.chooser.proofs.KeptEntries.{signature-keeps}
-use Rattle.chooser.proofs.CommonPairs.{same-test}
 use Rattle.chooser.proofs.Soundness.{pair-below, pair-listed, listed-pair, low-first}
 
 -- ---- the first pair

@@ -15,16 +15,16 @@ use mathlib.Core.List.{List, [], _∷_, _++_, append-nil, append-assoc}
 use borrow.Author.Tests.{ltb-true, lt-ltb}
 use lib.Dec.{ltb}
 use lib.ListN.{length, length-append}
-use Rattle.bits.proofs.Tests.{and-l, and-r, and-i}
+use Rattle.bits.proofs.Tests.{and-l, and-r, and-i, by-test, same-test}
 use Rattle.method.specs.Method.{agree, somePair, useful, full, takes, drops, signature}
 use Rattle.method.proofs.Agreement.{agree-append}
 use Rattle.method.proofs.Bound.{takes-bounded}
 use Rattle.method.proofs.Drops.{drops-goes, drops-stays}
-use Rattle.method.proofs.Pairs.{by-test, somePair-some, some-somePair}
+use Rattle.method.proofs.Pairs.{somePair-some, some-somePair}
 use Rattle.method.proofs.Takes.{takes-useful, takes-idle}
 use Rattle.chooser.specs.Matrix.{maxRows, maxSignature}
 use Rattle.chooser.specs.Pairing.{meets, equalAt, clear, puts, keeps}
-use Rattle.chooser.proofs.CommonPairs.{same-test, meets-some, some-meets, meets-same}
+use Rattle.chooser.proofs.CommonPairs.{meets-some, some-meets, meets-same}
 
 -- the needed pairs of so many rows
 abbrev pub rowsOf : ℕ → (ℕ → ℕ → Bool) → ℕ → ℕ → Bool

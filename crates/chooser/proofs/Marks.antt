@@ -20,11 +20,9 @@ use lib.Seq.{getD-set-same, getD-set-other}
 use Rattle.bits.specs.Sets.{has, joined, maxMembers}
 use Rattle.bits.proofs.Below.{lt-or-ge}
 use Rattle.bits.proofs.Membership.{either, has-none, has-xor, set-joined, joined-word}
-use Rattle.bits.proofs.Tests.{and-l, and-r, and-i, clash}
-use Rattle.method.proofs.Pairs.{by-test}
+use Rattle.bits.proofs.Tests.{and-l, and-r, and-i, clash, by-test, same-test}
 use Rattle.chooser.specs.Matrix.{maxRows, differ}
 use Rattle.chooser.specs.Pairing.{pairOf, base, maxMarks, Counted, Marked, Paired, There, Sound}
-use Rattle.chooser.proofs.CommonPairs.{same-test}
 
 -- the default of a list of zeros is 0 too
 zero-at : (n i : ℕ) → _≡_ {A = ℕ} (getD (replicate n 0) i 0) 0

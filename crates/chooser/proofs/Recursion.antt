@@ -25,7 +25,7 @@ use lib.ListN.{length, drop, getD, set, length-drop, length-set, drop-of-length-
 use lib.Seq.{drop-cons, drop-drop, getD-drop, lt-length-set, getD-set-same, drop-set-lt}
 use Rattle.method.specs.Method.{agree}
 use Rattle.method.proofs.Bound.{agree-alike}
-use Rattle.method.proofs.Pairs.{by-cond}
+use Rattle.bits.proofs.Tests.{by-cond}
 use Rattle.chooser.specs.Matrix.{maxSignature}
 use Rattle.chooser.specs.Pairing.{pairOf, There, Sound, Leaves, meets, equalAt, clear, puts, keeps, seek, Goes, Stays, Room, Keeps}
 use Rattle.chooser.proofs.CommonPairs.{meets-same}

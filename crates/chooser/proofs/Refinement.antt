@@ -21,11 +21,9 @@ use lib.ListN.{length, getD, set, length-set}
 use lib.Seq.{getD-set-same, getD-set-other}
 use Rattle.bits.specs.Sets.{has, lowest, later, joined, maxMembers}
 use Rattle.bits.proofs.Membership.{either, has-none, has-and, has-xor, set-some, set-lowest, lowest-below, set-later, later-word, set-joined, joined-word, less-falls}
-use Rattle.bits.proofs.Tests.{and-l, and-r, and-i, clash}
-use Rattle.method.proofs.Pairs.{by-test}
+use Rattle.bits.proofs.Tests.{and-l, and-r, and-i, clash, by-test, same-test}
 use Rattle.chooser.specs.Matrix.{maxRows}
 use Rattle.chooser.specs.Pairing.{pairOf, Listed, Within, There, Sound, Having, Narrowed, Leaves, equalAt}
-use Rattle.chooser.proofs.CommonPairs.{same-test}
 use Rattle.chooser.proofs.Soundness.{pair-listed, listed-within, some-word}
 
 -- ---- the rows that have a number

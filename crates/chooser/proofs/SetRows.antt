@@ -20,12 +20,12 @@ use lib.Dec.{eqb}
 use lib.ListN.{getD}
 use Rattle.bits.specs.Sets.{has, lowest}
 use Rattle.bits.proofs.Membership.{has-none, has-and, has-or, set-some, set-lowest, union-word}
-use Rattle.bits.proofs.Tests.{and-l, and-r, and-i, clash}
+use Rattle.bits.proofs.Tests.{and-l, and-r, and-i, clash, by-test, same-test}
 use Rattle.method.specs.Method.{someBelow}
-use Rattle.method.proofs.Pairs.{by-test, someBelow-some, some-someBelow}
+use Rattle.method.proofs.Pairs.{someBelow-some, some-someBelow}
 use Rattle.chooser.specs.Matrix.{maxRows}
 use Rattle.chooser.specs.Pairing.{pairOf, Listed, Sound, meets}
-use Rattle.chooser.proofs.CommonPairs.{same-test, none-meets}
+use Rattle.chooser.proofs.CommonPairs.{none-meets}
 use Rattle.chooser.proofs.Soundness.{positive, pair-below, sound-meets}
 
 pub record Union (sets : ℕ → ℕ) (all c : ℕ) : Type 0 where

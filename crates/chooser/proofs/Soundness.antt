@@ -24,11 +24,11 @@ use lib.ListN.{getD, List·getD-eq-default}
 use Rattle.bits.specs.Sets.{has, lowest}
 use Rattle.bits.proofs.Below.{lt-or-ge}
 use Rattle.bits.proofs.Membership.{has-none, sets-equal, set-lowest}
-use Rattle.bits.proofs.Tests.{and-l, and-r, and-i, clash}
+use Rattle.bits.proofs.Tests.{and-l, and-r, and-i, clash, same-test}
 use Rattle.method.proofs.Bound.{Alike}
 use Rattle.chooser.specs.Matrix.{maxRows}
 use Rattle.chooser.specs.Pairing.{pairOf, Listed, Within, There, Sound, Leaves, meets, equalAt}
-use Rattle.chooser.proofs.CommonPairs.{some-meets, same-test}
+use Rattle.chooser.proofs.CommonPairs.{some-meets}
 
 pub some-word : (set k : ℕ) → has set k ≡ true → 0 < set
 some-word set k t = ⊎-elim (λ e. absurd (clash t (ap (λ (n : ℕ). has n k) e ∙ has-none k))) (λ h. h) (eq-zero-or-pos set)

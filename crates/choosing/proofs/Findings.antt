@@ -46,7 +46,7 @@ use Rattle.method.specs.Method.Pair.{nobody, pair}
 use Rattle.method.proofs.Congruence.{agree-same, signature-same}
 use Rattle.method.proofs.Firsts.{firstPair-same}
 use Rattle.method.proofs.Names.{agree-named, signature-named}
-use Rattle.method.proofs.Pairs.{by-test}
+use Rattle.bits.proofs.Tests.{by-test}
 use Rattle.chooser.specs.Matrix as chooser
 use Rattle.chooser.specs.Matrix.{cell, maxRows, fits, choiceOver, signatureOf}
 use Rattle.chooser.specs.declared.Choice as picked

@@ -1,3 +1,4 @@
+pub mod ASample
 pub mod Arrays
 pub mod Bound
 pub mod Entries

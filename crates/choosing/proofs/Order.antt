@@ -37,7 +37,7 @@ use Rattle.bits.specs.Sizes.{tableSizeOf}
 use Rattle.bits.proofs.TableSizes.{table-size-exact}
 use Rattle.bits.proofs.Below.{lt-or-ge}
 use Rattle.bits.specs.Passing.{passing}
-use Rattle.method.proofs.Pairs.{by-test}
+use Rattle.bits.proofs.Tests.{by-test}
 use Rattle.bits.specs.Tabulation.{Tabulates}
 use Rattle.choosing.specs.Choosing.{scanTo, scanOrder}
 use Rattle.choosing.specs.Looking.{maxPlaces, maxOrders, Few, summed, ofOrder, placeOf, Placed, Listed}

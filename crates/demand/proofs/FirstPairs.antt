@@ -10,7 +10,7 @@ use Prim.Native.Nat.{ℕ, _^_, _<_}
 use native.Mathlib.Omega.{arith}
 use mathlib.Core.Path.{_≡_, refl, sym, _∙_}
 use mathlib.Core.Bool.{Bool, true, _&&_}
-use Rattle.bits.proofs.Tests.{clash}
+use Rattle.bits.proofs.Tests.{clash, by-test}
 use Rattle.tables.specs.Family.{Family, sameTables}
 use Rattle.tables.proofs.Families.{ValidFamily, tables-entries, entries-tables}
 use Rattle.spectra.specs.Listed.{coefOf}
@@ -18,7 +18,7 @@ use Rattle.spectra.specs.declared.Kind.{Kind}
 use Rattle.method.specs.Method.{Pair, agree, full}
 use Rattle.method.specs.Method.Pair.{nobody, pair}
 use Rattle.method.proofs.Firsts.{firstPair-nobody, firstPair-pair}
-use Rattle.method.proofs.Pairs.{by-test, all-full}
+use Rattle.method.proofs.Pairs.{all-full}
 use Rattle.choosing.specs.Choosing.{needed, alikePair, scanEntries}
 use Rattle.choosing.specs.declared.Purpose.the-variants.{Isolating}
 use Rattle.choosing.proofs.Equality.{alike-tables}

@@ -15,7 +15,7 @@ use mathlib.Core.Logic.{⊎-elim}
 use mathlib.Core.List.{List, [], _∷_, _++_}
 use lib.ListN.{length, length-append}
 use Rattle.bits.specs.Passing.{passing}
-use Rattle.method.proofs.Pairs.{by-test}
+use Rattle.bits.proofs.Tests.{by-test}
 use Rattle.locating.specs.Locating.{Location, location}
 use Rattle.locating.specs.Locating.Location.{alone, several, nowhere}
 

@@ -14,11 +14,10 @@ use mathlib.Core.Logic.{⊎-elim}
 use mathlib.Core.List.{List, [], _∷_, map}
 use lib.Dec.{eqb}
 use Rattle.bits.proofs.Below.{lt-or-ge}
-use Rattle.bits.proofs.Tests.{clash}
+use Rattle.bits.proofs.Tests.{clash, by-test}
 use Rattle.spectra.specs.Operations.{sameNumbers}
 use Rattle.spectra.proofs.Acceptance.{sameNumbers-refl, sameNumbers-true}
 use Rattle.method.specs.Method.{agree}
-use Rattle.method.proofs.Pairs.{by-test}
 
 pub sameNumbers-eq : (l m : List ℕ) → l ≡ m → sameNumbers l m ≡ true
 sameNumbers-eq l m e = ap (sameNumbers l) (sym e) ∙ sameNumbers-refl l

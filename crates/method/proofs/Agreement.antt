@@ -15,9 +15,9 @@ use mathlib.Core.Bool.{Bool, true, _&&_, and-assoc}
 use mathlib.Core.List.{List, [], _∷_, _++_}
 use borrow.Author.Tests.{eqb-true, eq-eqb}
 use lib.Dec.{eqb}
-use Rattle.bits.proofs.Tests.{and-l, and-r, and-i, clash}
+use Rattle.bits.proofs.Tests.{and-l, and-r, and-i, clash, by-test}
 use Rattle.method.specs.Method.{without, agree, full}
-use Rattle.method.proofs.Pairs.{by-test, full-all, all-full}
+use Rattle.method.proofs.Pairs.{full-all, all-full}
 
 module _ {E : Type 0} (coef : ℕ → E → ℕ) where
   pub agree-refl : (l : List E) (a : ℕ) → agree coef l a a ≡ true

@@ -20,9 +20,9 @@ use mathlib.Core.List.{List, [], _∷_, _++_}
 use borrow.Author.Tests.{not-true}
 use lib.Dec.{eqb}
 use lib.ListN.{length, length-append}
-use Rattle.bits.proofs.Tests.{and-l, and-r, clash}
+use Rattle.bits.proofs.Tests.{and-l, and-r, clash, by-test, by-cond}
 use Rattle.method.specs.Method.{someBelow, agree, useful, takes}
-use Rattle.method.proofs.Pairs.{by-test, by-cond, someBelow-some, some-someBelow, somePair-some}
+use Rattle.method.proofs.Pairs.{someBelow-some, some-someBelow, somePair-some}
 use Rattle.method.proofs.Agreement.{agree-refl, agree-sym, agree-trans, agree-first, agree-at}
 
 pub record Alike (r : ℕ → ℕ → Bool) : Type 0 where

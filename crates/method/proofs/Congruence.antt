@@ -13,7 +13,7 @@ use mathlib.Core.List.{List, [], _∷_, _++_, List·Memᴰ, List·Memᴰ·head, 
 use lib.Dec.{eqb}
 use lib.ListN.{length}
 use Rattle.method.specs.Method.{without, someBelow, agree, somePair, useful, full, takes, drops, signature}
-use Rattle.method.proofs.Pairs.{by-cond}
+use Rattle.bits.proofs.Tests.{by-cond}
 use Rattle.method.proofs.Takes.{takes-from}
 use Rattle.method.proofs.Drops.{without-from}
 

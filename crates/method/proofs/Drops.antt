@@ -21,9 +21,9 @@ use mathlib.Core.Bool.{Bool, true, false, cond}
 use mathlib.Core.Logic.{⊎-elim}
 use mathlib.Core.List.{List, [], _∷_, _++_, List·Memᴰ, List·Memᴰ·head, List·Memᴰ·tail, List·Memᴰ·cases-cons}
 use lib.ListN.{length}
-use Rattle.bits.proofs.Tests.{clash}
+use Rattle.bits.proofs.Tests.{clash, by-test, by-cond}
 use Rattle.method.specs.Method.{without, agree, full, drops}
-use Rattle.method.proofs.Pairs.{by-test, by-cond, full-all}
+use Rattle.method.proofs.Pairs.{full-all}
 use Rattle.method.proofs.Agreement.{agree-without, full-more}
 
 module _ {E : Type 0} where

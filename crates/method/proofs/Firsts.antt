@@ -10,10 +10,9 @@ use native.Mathlib.Omega.{arith}
 use mathlib.Core.Path.{_≡_, refl, sym, ap, ap₂, subst, _∙_}
 use mathlib.Core.Bool.{Bool, true, false, cond}
 use mathlib.Core.Logic.{_⊎_, inl, inr, ⊎-elim}
-use Rattle.bits.proofs.Tests.{clash}
+use Rattle.bits.proofs.Tests.{clash, by-cond}
 use Rattle.method.specs.Method.{Pair, pairWith, pairFrom, firstPair}
 use Rattle.method.specs.Method.Pair.{nobody, pair}
-use Rattle.method.proofs.Pairs.{by-cond}
 
 -- what holds of a number holds of one that is not below it, if it holds of those above
 up-from : (P : ℕ → Type 0) {b y : ℕ} → b ≤ y → P b → (b < y → P y) → P y

@@ -1,9 +1,9 @@
+pub mod ASample
 pub mod Agreement
 pub mod Bound
 pub mod Congruence
 pub mod Drops
 pub mod Firsts
-pub mod JobA
 pub mod Names
 pub mod Pairs
 pub mod Signatures

@@ -1,8 +1,5 @@
 -- Tests over the numbers below a bound, over the needed pairs, and what it is to be full.
 --
---   by-test            a statement that holds whether a test holds or fails
---   by-cond            the same of what a test chooses
---   or-cases           one side of a disjunction that holds
 --   someBelow-some     a test that holds below a bound holds of some number there
 --   some-someBelow     it holds below the bound if it holds of one number there
 --   somePair-some      a test that holds of some pair holds of a needed pair a < b < rows
@@ -15,25 +12,13 @@
 use Prim.Native.Nat.{ℕ, zero, suc, _<_}
 use native.Mathlib.Nat.{not-suc-le-zero, eq-or-lt-of-le, le-of-suc-le-suc}
 use native.Mathlib.Omega.{arith}
-use mathlib.Core.Path.{_≡_, refl, sym, ap, _∙_}
-use mathlib.Core.Bool.{Bool, true, false, not, cond, _&&_, _||_, true≢false}
-use mathlib.Core.Logic.{_⊎_, inl, inr, ⊎-elim}
+use mathlib.Core.Path.{_≡_, sym, ap, _∙_}
+use mathlib.Core.Bool.{Bool, true, false, not, _&&_, _||_, true≢false}
+use mathlib.Core.Logic.{⊎-elim}
 use mathlib.Core.List.{List}
 use borrow.Author.Tests.{not-true, not-false}
-use Rattle.bits.proofs.Tests.{and-l, and-r, and-i, clash}
+use Rattle.bits.proofs.Tests.{and-l, and-r, and-i, or-cases, clash, by-test}
 use Rattle.method.specs.Method.{someBelow, agree, somePair, full}
-
-pub by-test : {P : Type 0} (t : Bool) → (t ≡ true → P) → (t ≡ false → P) → P
-by-test true p q = p refl
-by-test false p q = q refl
-
-pub by-cond : {X : Type 0} (P : X → Type 0) (t : Bool) (x y : X) → (t ≡ true → P x) → (t ≡ false → P y) → P (cond t x y)
-by-cond P true x y p q = p refl
-by-cond P false x y p q = q refl
-
-pub or-cases : (a b : Bool) → a || b ≡ true → (a ≡ true) ⊎ (b ≡ true)
-or-cases true b e = inl refl
-or-cases false b e = inr e
 
 module _ (test : ℕ → Bool) where
   pub someBelow-some : (n : ℕ) → someBelow n test ≡ true → (k : ℕ) × (k < n) × (test k ≡ true)

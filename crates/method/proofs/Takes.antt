@@ -13,9 +13,9 @@ use mathlib.Core.Logic.{_⊎_, inl, inr, ⊎-elim}
 use mathlib.Core.List.{List, [], _∷_, _++_, List·Memᴰ, List·Memᴰ·head, List·Memᴰ·tail, List·Memᴰ·append-cases, List·Memᴰ·eq-of-singleton}
 use borrow.Author.Tests.{not-false}
 use lib.Dec.{eqb}
-use Rattle.bits.proofs.Tests.{and-l, and-r, and-i, clash}
+use Rattle.bits.proofs.Tests.{and-l, and-r, and-i, clash, by-cond}
 use Rattle.method.specs.Method.{agree, useful, full, takes}
-use Rattle.method.proofs.Pairs.{by-cond, somePair-none}
+use Rattle.method.proofs.Pairs.{somePair-none}
 use Rattle.method.proofs.Agreement.{agree-first, agree-at, agree-both, full-more}
 
 and-false : (a b : Bool) → a ≡ true → a && b ≡ false → b ≡ false

@@ -15,7 +15,7 @@ use borrow.Author.Tests.{ltb-false}
 use lib.Dec.{ltb}
 use lib.ListN.{length, length-append}
 use Rattle.tables.specs.declared.Counts.{Counts}
-use Rattle.method.proofs.Pairs.{by-cond}
+use Rattle.bits.proofs.Tests.{by-cond}
 use Rattle.report_text.specs.Text.{digits, decimal, numbersText, inputsWord, gatesWord, faultsWord, signatureWord, refusedWord, alikeWord, countsLine, signatureLine, circuitLine, circuitLines, refusedLine, alikeLine}
 
 -- ---- a number's digits
