@@ -3,6 +3,7 @@ pub mod Below
 pub mod Bits
 pub mod Blocks
 pub mod Bounds
+pub mod Building
 pub mod Bytes
 pub mod Digits
 pub mod FieldParser

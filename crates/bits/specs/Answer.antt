@@ -12,11 +12,11 @@ use mathlib.Core.Bool.{Bool, true, false}
 use mathlib.Core.List.{List, _++_}
 use lib.ListN.{length, drop}
 use Rattle.bits.specs.declared.Refusal.{Refusal}
-use Rattle.bits.specs.declared.Refusal.the-variants.{BytesEnd, Inputs, Gates, GateLine, OneLine, Output, FaultLine, FaultPair, Spare, Memory, Circuit, Table, Polarity, NoSpectrum, Alike, Index, Readings, Faults}
+use Rattle.bits.specs.declared.Refusal.the-variants.{BytesEnd, Inputs, Gates, GateLine, OneLine, Output, FaultLine, FaultPair, Spare, Memory, Circuit, Table, Polarity, NoSpectrum, Alike, Index, Readings, Faults, LooseGate}
 use Rattle.bits.specs.declared.Outcome.{Outcome}
 use Rattle.bits.specs.declared.Outcome.the-variants.{Done, Refused}
 
--- "Refusal by operation": the number of each cause
+-- "Refusal by operation", and the numbers that document 02 adds: the number of each cause
 abbrev pub number : Refusal → ℕ
 number BytesEnd = 1
 number Inputs = 2
@@ -36,6 +36,7 @@ number Alike = 15
 number Index = 16
 number Readings = 17
 number Faults = 18
+number LooseGate = 19
 
 pub data Answer (A : Type 0) : Type 0 where
   gives : A → Answer A

@@ -2,6 +2,7 @@ pub mod Answer
 pub mod Bits
 pub mod Blocks
 pub mod Bounds
+pub mod Building
 pub mod Field
 pub mod Packed
 pub mod Parser

@@ -40,6 +40,7 @@ pub enum Refusal {
     Index,
     Readings,
     Faults,
+    LooseGate,
 }
 
 impl Refusal {
@@ -66,6 +67,7 @@ impl Refusal {
             Refusal::Index => 16,
             Refusal::Readings => 17,
             Refusal::Faults => 18,
+            Refusal::LooseGate => 19,
         }
     }
 }

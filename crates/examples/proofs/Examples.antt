@@ -3,8 +3,10 @@ use mathlib.Core.Path.{_≡_, refl}
 use mathlib.Core.Bool.{true}
 use Rattle.bits.specs.Bits.{bitsOf, valueFrom, valueOf, stringOf, bytesTo, bytesOf}
 use Rattle.bits.specs.Blocks.{block}
+use Rattle.bits.specs.Building.{builtTo}
 use Rattle.bits.specs.Field.{spareOnly}
 use Rattle.bits.specs.Parser.{field}
+use Rattle.job.specs.Dependence.{depends, loose, noneLoose}
 use Rattle.job.specs.Layout.{maxInputs, maxGates, maxFaults, inputCountBits, gateCountBits, gateKindBits, lineBits, faultCountBits, faultKindBits}
 use Rattle.job.specs.Record.{noGates, noFaults, emptyJob}
 use Rattle.reading.specs.Reading.{entryFields, gate, fault, entriesFrom, spare, fromEnd, fromFaults, fromFaultCount, fromOutput, fromGates, wholeJob, reading}
@@ -44,6 +46,10 @@ unfolding
     lineBits
     faultCountBits
     faultKindBits
+    builtTo
+    depends
+    loose
+    noneLoose
     noGates
     noFaults
     emptyJob

@@ -34,7 +34,7 @@ use Rattle.horncurlew.specs.declared.ChoiceAnswer.{ChoiceAnswer}
 use Rattle.horncurlew.specs.declared.LocationAnswer.{LocationAnswer}
 
 abbrev pub version : ℕ
-version = 1
+version = 2
 
 abbrev pub kindOf : ℕ → Kind
 kindOf zero = Rm

@@ -1,4 +1,4 @@
-// The operations for programs in C and Rust: include/horncurlew.h declares them. Answers are numbers: document 01's
+// The operations for programs in C and Rust: include/horncurlew.h declares them. Answers are numbers: the documents'
 // number of a refusal, 0 for success, then the values, unused places 0. A kind is 0 for RM and any other number for
 // MRM; a purpose 0 for isolating and any other number for detecting.
 ghost use mathlib.Core.Path.{_≡_};
@@ -23,7 +23,7 @@ use tables::Counts;
 use writing::Written;
 
 // Raised with every change of an exported function, struct or number; HORNCURLEW_VERSION in include/horncurlew.h is the same number.
-const VERSION: usize = 1;
+const VERSION: usize = 2;
 
 // The counts of a job.
 #[repr(C)]

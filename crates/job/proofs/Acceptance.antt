@@ -44,4 +44,4 @@ checked-valid j v =
     let faults : faultsChecked j (j .«fault_count») 0 ≡ gives tt =
     faults-pass j (j .«fault_count») 0 (λ k l. v .fault-line k (omega arith)) (λ k l. v .fault-order k (omega arith))
     in
-    simp (some, few, gates-few, gates, output, faults-few, faults)
+    simp (some, few, gates-few, gates, output, v .tight, faults-few, faults)

@@ -1,6 +1,10 @@
+pub mod ASample
 pub mod Acceptance
+pub mod Dependence
+pub mod Marking
 pub mod Numbers
 pub mod Record
 pub mod Sizes
+pub mod Tightness
 pub mod Unused
 pub mod Validity

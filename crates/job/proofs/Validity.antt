@@ -14,6 +14,7 @@ use Rattle.bits.specs.Answer.Answer.{gives}
 use Rattle.bits.proofs.Answers.{unless-gives, onward-gives}
 use Rattle.bits.proofs.Tests.{and-l, and-r}
 use Rattle.job.specs.Check.{Valid, checked, inputsOk, gateCountOk, gateOk, gatesChecked, outputOk, faultCountOk, faultLineOk, faultOrderOk, faultsChecked}
+use Rattle.job.specs.Dependence.{noLoose}
 use Rattle.job.specs.Layout.{maxInputs, maxGates, maxFaults}
 use Rattle.job.specs.Record.{gateAt, faultAt, lines}
 use Rattle.job.specs.declared.Job.{Job}
@@ -42,13 +43,15 @@ valid j e =
     let g = unless-gives (gateCountOk (j .«gate_count»)) 3 _ (n .1) in
     let gs = onward-gives (gatesChecked j (j .«gate_count») 0) _ (g .1) in
     let o = unless-gives (outputOk (lines j) (j .output)) 6 _ (gs .2) in
-    let f = unless-gives (faultCountOk (j .«fault_count»)) 18 (faultsChecked j (j .«fault_count») 0) (o .1) in
+    let t = unless-gives (noLoose j) 19 _ (o .1) in
+    let f = unless-gives (faultCountOk (j .«fault_count»)) 18 (faultsChecked j (j .«fault_count») 0) (t .1) in
     record {
       some = leb-true 1 (j .inputs) (and-l (leb 1 (j .inputs)) (leb (j .inputs) maxInputs) (n .0));
       few = leb-true (j .inputs) maxInputs (and-r (leb 1 (j .inputs)) (leb (j .inputs) maxInputs) (n .0));
       gates-few = leb-true (j .«gate_count») maxGates (g .0);
       gate = λ q h. gates-passed j (j .«gate_count») 0 (gs .1) q (omega arith) (omega arith);
       output = ltb-true (j .output) (lines j) (o .0);
+      tight = t .0;
       faults-few = leb-true (j .«fault_count») maxFaults (f .0);
       fault-line = λ i h. faults-passed j (j .«fault_count») 0 (f .1) i (omega arith) (omega arith) .0;
       fault-order = λ i h. faults-passed j (j .«fault_count») 0 (f .1) i (omega arith) (omega arith) .1;

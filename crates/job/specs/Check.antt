@@ -1,4 +1,5 @@
--- Believed: the tests that document 01, "Refusal by operation", makes of a circuit and its faults, each with its number. Reading and writing share them.
+-- Believed: the tests that document 01, "Refusal by operation", and document 02 make of a circuit and its faults, each with its number. Reading and
+-- writing share them. Test 19 is in Dependence.antt.
 --
 --   inputsOk, gatesOk, .., faultsOk   the tests 2, 3, 4, 6, 18, 7, 8
 --   checked                           the first refusal of a record, in the order of writing
@@ -9,6 +10,7 @@ use mathlib.Core.Bool.{Bool, true, _&&_}
 use lib.Dec.{leb, ltb}
 use Rattle.bits.specs.Answer.{Answer, unless, onward}
 use Rattle.bits.specs.Answer.Answer.{gives}
+use Rattle.job.specs.Dependence.{noLoose}
 use Rattle.job.specs.Layout.{maxInputs, maxGates, maxFaults}
 use Rattle.job.specs.Record.{gateA, gateB, gateAt, faultAt, lines}
 use Rattle.job.specs.declared.Gate.{Gate}
@@ -58,15 +60,17 @@ faultsChecked j (suc left) i =
     unless (faultLineOk (j .inputs) (lines j) (faultAt j i)) 7
     (unless (faultOrderOk (faultAt j i)) 8 (faultsChecked j left (suc i)))
 
--- "Writing a record checks 2, 3, 4 per gate in turn, 6, then 18 .., then 7 and 8 per fault in turn"
+-- "Writing a record checks 2, 3, 4 per gate in turn, 6, then 18 .., then 7 and 8 per fault in turn"; 19 "checked after 6, before the fault count;
+-- writing has it at the same place"
 unfoldable pub checked : Job → Answer (Unit {0})
 checked j =
     unless (inputsOk (j .inputs)) 2
     (unless (gateCountOk (j .«gate_count»)) 3
     (onward (gatesChecked j (j .«gate_count») 0) (λ _.
     unless (outputOk (lines j) (j .output)) 6
+    (unless (noLoose j) 19
     (unless (faultCountOk (j .«fault_count»)) 18
-    (faultsChecked j (j .«fault_count») 0)))))
+    (faultsChecked j (j .«fault_count») 0))))))
 
 pub record Valid (j : Job) : Type 0 where
   pub some : 1 ≤ j .inputs
@@ -74,6 +78,7 @@ pub record Valid (j : Job) : Type 0 where
   pub gates-few : j .«gate_count» ≤ maxGates
   pub gate : (q : ℕ) → q < j .«gate_count» → gateOk (j .inputs + q) (gateAt j q) ≡ true
   pub output : j .output < lines j
+  pub tight : noLoose j ≡ true
   pub faults-few : j .«fault_count» ≤ maxFaults
   pub fault-line : (i : ℕ) → i < j .«fault_count» → faultLineOk (j .inputs) (lines j) (faultAt j i) ≡ true
   pub fault-order : (i : ℕ) → i < j .«fault_count» → faultOrderOk (faultAt j i) ≡ true

@@ -1,3 +1,5 @@
 pub mod Check
+pub mod Dependence
 pub mod Layout
+pub mod Marks
 pub mod Record

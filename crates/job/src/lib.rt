@@ -5,6 +5,7 @@
 // value that a list gives past its end.
 ghost use mathlib.Core.Path.{_≡_};
 ghost use Rattle.job.specs.Check.{faultLineOk};
+ghost use Rattle.job.specs.Dependence.{noLoose};
 ghost use Rattle.job.specs.Record.{gateKind, gateA, gateB, gateOf, faultKind, faultA, faultB, faultOf, emptyJob};
 
 // "circuits with 1 to 8 inputs, 0 to 64 gates, one output and 0 to 63 single faults"
@@ -224,4 +225,36 @@ pub fn empty_job() -> Job
             fault: Fault::Stuck(0, false),
         }; MAX_FAULTS],
     }
+}
+
+// Room for a mark a line: a line is a byte, a gate's own line a byte and a gate's number.
+const MARKS: usize = 256 + MAX_GATES;
+
+// Refusal 19: every gate's line is an output or read by a later gate. From the last gate down, so that one pass is
+// enough.
+pub fn no_loose(job: Job) -> bool
+    ensures { λ r. ⌜ r ≡ noLoose job ⌝ }
+{
+    let n = job.inputs as usize;
+    let mut read = [false; MARKS];
+    read[job.output as usize] = true;
+    let mut q = bits::least(job.gate_count as usize, MAX_GATES);
+    while 0 < q {
+        q -= 1;
+        if !read[n + q] {
+            return false;
+        }
+        let entry = job.gates[q];
+        let gate = entry.gate;
+        match gate {
+            Gate::Unary(_, a) => {
+                read[a as usize] = true;
+            }
+            Gate::Binary(_, a, b) => {
+                read[a as usize] = true;
+                read[b as usize] = true;
+            }
+        }
+    }
+    true
 }

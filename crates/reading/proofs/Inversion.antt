@@ -25,6 +25,7 @@ use Rattle.bits.specs.Parser.{Parser, Parsed, parsed}
 use Rattle.bits.proofs.Answers.{gives-same, never-gives, unless-gives, andThen-gives, check-then, field-then}
 use Rattle.bits.proofs.Bits.{AllBits, bits-stringOf}
 use Rattle.job.specs.Check.{inputsOk, gateCountOk, outputOk, faultLineOk}
+use Rattle.job.specs.Dependence.{noneLoose, noLoose}
 use Rattle.job.specs.Layout.{inputCountBits, gateCountBits, gateKindBits, lineBits, faultCountBits, faultKindBits}
 use Rattle.job.specs.Record.{gateOf, faultOf, lines, emptyJob, noGates, noFaults}
 use Rattle.job.specs.declared.FaultEntry.{FaultEntry}
@@ -155,6 +156,7 @@ pub record Parts (bits : List ℕ) (j : Job) : Type 0 where
   pub gates : EntriesTaken (λ q. GateTaken (j .inputs + q)) (j .«gate_count») 0 noGates before-gates (j .gates) after-gates
   pub output-text : after-gates ≡ bitsOf lineBits (j .output) ++ (bitsOf faultCountBits (j .«fault_count») ++ before-faults)
   pub output-ok : outputOk (lines j) (j .output) ≡ true
+  pub tight : noLoose j ≡ true
   pub fault-count-fits : j .«fault_count» < 2 ^ faultCountBits
   pub faults : EntriesTaken (λ _. FaultTaken (j .inputs) (lines j)) (j .«fault_count») 0 noFaults before-faults (j .faults) spare-bits
   pub spare-ok : spareOnly spare-bits ≡ true
@@ -188,6 +190,7 @@ wholeJob-parts bits q h e =
     let gt = gates-give n g noGates r₂ (gs .0) (t₂ .bits-left) (gs .1) in
     field-then lineBits (gs .0 .rest) _ (gt .bits-left) (gs .2) λ line r₃ t₃ e.
     check-then (outputOk (n + g) line) 6 r₃ _ e λ output-ok e.
+    check-then (noneLoose n (take g (gs .0 .value)) (line ∷ [])) 19 r₃ _ e λ tight e.
     field-then faultCountBits r₃ _ (t₃ .bits-left) e λ f r₄ t₄ e.
     let fs = andThen-gives (entriesFrom (λ _. fault n (n + g)) f 0 noFaults r₄) _ e in
     let ft = faults-give n (n + g) f noFaults r₄ (fs .0) (t₄ .bits-left) (fs .1) in
@@ -204,6 +207,7 @@ wholeJob-parts bits q h e =
       gates = gt;
       output-text = t₃ .text ∙ ap (λ (x : List ℕ). bitsOf lineBits line ++ x) (t₄ .text);
       output-ok = output-ok;
+      tight = tight;
       fault-count-fits = t₄ .fits;
       faults = ft;
       spare-ok = end .0;

@@ -1,3 +1,4 @@
+pub mod ASample
 pub mod Consequences
 pub mod Entries
 pub mod EntryFields

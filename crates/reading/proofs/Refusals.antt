@@ -1,7 +1,7 @@
 -- Which numbers reading refuses with (specs/Reading.antt).
 --
---   reading-refused   1 to 9
-use Prim.Native.Nat.{ℕ, zero, suc, _+_, _≤_}
+--   reading-refused   each has one or two digits, and is not 0
+use Prim.Native.Nat.{ℕ, zero, suc, _+_, _≤_, _<_}
 use native.Mathlib.Omega.{arith}
 use mathlib.Core.Path.{_≡_, subst}
 use mathlib.Core.Bool.{Bool, true, false, _&&_}
@@ -14,14 +14,14 @@ use Rattle.bits.specs.Bits.{stringOf, valueOf}
 use Rattle.bits.specs.Field.{spareOnly}
 use Rattle.bits.specs.Parser.{Parser, Parsed, parsed, field, check, andThen}
 use Rattle.job.specs.Check.{inputsOk, gateCountOk, outputOk, faultLineOk}
+use Rattle.job.specs.Dependence.{noLoose}
 use Rattle.job.specs.Layout.{inputCountBits, gateCountBits, gateKindBits, lineBits, faultCountBits, faultKindBits}
 use Rattle.job.specs.Record.{faultOf, lines, emptyJob}
 use Rattle.job.specs.declared.Job.{Job}
 use Rattle.reading.specs.Reading.{entryFields, unaryLinesOk, gate, faultLinesOk, fault, entriesFrom, spare, withGates, withOutput, withFaultCount, withFaults, withCounts, fromEnd, fromFaults, fromFaultCount, fromOutput, fromGates, wholeJob, valueRead, reading}
 
--- reading's numbers are 1 to 9
 abbrev Number : ℕ → Type 0
-Number i = (1 ≤ i) × (i ≤ 9)
+Number i = (1 ≤ i) × (i < 100)
 
 abbrev Known : {A : Type 0} → Answer A → Type 0
 Known (gives a) = Unit {0}
@@ -85,8 +85,9 @@ unfolding fromOutput fromFaultCount
 fromOutput-known j bits =
     field-then lineBits bits _ λ line r₁.
     check-then (outputOk (lines j) line) 6 r₁ _ (omega arith, omega arith) λ r₂.
-    field-then faultCountBits r₂ _ λ f r₃.
-    fromFaults-known (withFaultCount (withOutput j line) f) r₃
+    check-then (noLoose (withOutput j line)) 19 r₂ _ (omega arith, omega arith) λ r₃.
+    field-then faultCountBits r₃ _ λ f r₄.
+    fromFaults-known (withFaultCount (withOutput j line) f) r₄
 
 fromGates-known : (j : Job) (bits : List ℕ) → Known (fromGates j bits)
 unfolding fromGates
@@ -112,5 +113,5 @@ reading-known : (s : List ℕ) → Known (reading s)
 unfolding reading
 reading-known s = value-known (wholeJob (stringOf s)) (wholeJob-known (stringOf s))
 
-pub reading-refused : (s : List ℕ) {i : ℕ} → reading s ≡ refused i → (1 ≤ i) × (i ≤ 9)
+pub reading-refused : (s : List ℕ) {i : ℕ} → reading s ≡ refused i → (1 ≤ i) × (i < 100)
 reading-refused s e = subst (λ (a : Answer Job). Known a) e (reading-known s)

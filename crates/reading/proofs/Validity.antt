@@ -1,6 +1,7 @@
 -- What holds of every record that reading gives (specs/Reading.antt).
 --
 --   reading-valid     it is as the checks of a record demand
+--   reading-tight     so it has no loose gate
 --   reading-lengths   its lists have their fixed lengths
 --   reading-checked   the checks of a record, which writing makes, do not refuse it
 use Prim.Native.Nat.{ℕ, zero, suc, _+_, _≤_, _<_}
@@ -17,6 +18,7 @@ use Rattle.bits.specs.Answer.Answer.{gives}
 use Rattle.bits.specs.Bits.{stringOf}
 use Rattle.bits.proofs.Tests.{and-l, and-r}
 use Rattle.job.specs.Check.{Valid, checked, gateOk, faultLineOk, faultOrderOk}
+use Rattle.job.specs.Dependence.{noLoose}
 use Rattle.job.specs.Layout.{maxInputs, maxGates, maxFaults}
 use Rattle.job.specs.Record.{faultOf, lines, unusedGate, unusedFault, noGates, noFaults}
 use Rattle.job.specs.declared.FaultEntry.{FaultEntry}
@@ -77,6 +79,7 @@ parts-valid bits j p =
           (gate-good (j .inputs)) (j .«gate_count») noGates (p .before-gates) (j .gates) (p .after-gates) (p .gates)
           (rw length-noGates gates-few) unusedGate;
       output = ltb-true (j .output) (lines j) (p .output-ok);
+      tight = p .tight;
       faults-few = faults-few;
       fault-line = λ i h. fault i h .0;
       fault-order = λ i h. fault i h .1;
@@ -84,6 +87,9 @@ parts-valid bits j p =
 
 pub reading-valid : (s : List ℕ) (j : Job) → reading s ≡ gives j → Valid j
 reading-valid s j e = parts-valid (stringOf s) j (reading-parts s j e)
+
+pub reading-tight : (s : List ℕ) (j : Job) → reading s ≡ gives j → noLoose j ≡ true
+reading-tight s j e = reading-valid s j e .tight
 
 pub reading-lengths : (s : List ℕ) (j : Job) → reading s ≡ gives j → (length (j .gates) ≡ maxGates) × (length (j .faults) ≡ maxFaults)
 reading-lengths s j e =

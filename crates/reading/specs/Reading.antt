@@ -16,6 +16,7 @@ use Rattle.bits.specs.Bits.{stringOf}
 use Rattle.bits.specs.Field.{spareOnly}
 use Rattle.bits.specs.Parser.{Parser, Parsed, parsed, field, check, give, _>>=_, _>>_}
 use Rattle.job.specs.Check.{inputsOk, gateCountOk, outputOk, faultLineOk}
+use Rattle.job.specs.Dependence.{noLoose}
 use Rattle.job.specs.Layout.{inputCountBits, gateCountBits, gateKindBits, lineBits, faultCountBits, faultKindBits}
 use Rattle.job.specs.Record.{gateOf, faultOf, lines, emptyJob}
 use Rattle.job.specs.declared.FaultEntry.{FaultEntry}
@@ -108,11 +109,12 @@ fromFaultCount j = do
   f ← field faultCountBits
   fromFaults (withFaultCount j f)
 
--- "output line (7)"; "6, output line not below n+g"
+-- "output line (7)"; "6, output line not below n+g"; "19: a loose gate; checked after 6, before the fault count"
 unfoldable pub fromOutput : Job → Parser Job
 fromOutput j = do
   line ← field lineBits
   check (outputOk (lines j) line) 6
+  check (noLoose (withOutput j line)) 19
   fromFaultCount (withOutput j line)
 
 -- "per gate a kind (3), line a (7), line b (7)"; "Gate number q, from 0, drives line n+q"

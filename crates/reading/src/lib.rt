@@ -46,7 +46,7 @@ fn refused(cause: Refusal) -> Reading
     }
 }
 
-// The record that the bytes give, or the first refusal among 1 to 9.
+// The record that the bytes give, or the first refusal among 1 to 9 and 19.
 pub fn read(s: &[u8]) -> Reading
     ensures { λ r. ⌜ told r ≡ due (reading (now (s .entry))) ⌝ }
 {
@@ -149,6 +149,9 @@ fn read_output(s: &[u8], at: Cursor, before: Job) -> Reading
     }
     let mut job = before;
     job.output = line as u8;
+    if !job::no_loose(job) {
+        return refused(Refusal::LooseGate);
+    }
     read_fault_count(s, c, job)
 }
 

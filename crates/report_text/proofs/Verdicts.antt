@@ -77,6 +77,7 @@ number-some refusals.Alike = omega arith
 number-some refusals.Index = omega arith
 number-some refusals.Readings = omega arith
 number-some refusals.Faults = omega arith
+number-some refusals.LooseGate = omega arith
 
 pub verdict-printed : (v : Verdict) (counts : Counts) (signature : Signature) (memory : List ℕ)
     → verdictText v counts signature memory

@@ -58,11 +58,11 @@ record Prints (c : AtExit) (text : List ℕ) : Type 0 where
   ready : c .number ≡ 0 → Printable Done (c .counts) (c .signature) (length (c .memory))
 
 -- with any counts, for a refusal tells none
-prints-refused : (counts : Counts) (i : ℕ) (work : List ℕ) → 1 ≤ i → i ≤ 18 → Prints (atExit counts (refused i) work) (refusedLine i)
+prints-refused : (counts : Counts) (i : ℕ) (work : List ℕ) → 1 ≤ i → i < 100 → Prints (atExit counts (refused i) work) (refusedLine i)
 prints-refused counts i work some few =
     record {
       told = refused-printed i _ some;
-      short = refused-short i (omega arith);
+      short = refused-short i few;
       ready = λ e. absurd (omega arith);
     }
 
@@ -119,7 +119,7 @@ module _ (j : Job) (v : Valid j) where
     abbrev Answered : Answer (Fills Finding) → Type 0
     Answered r = Prints (atExit (countsOf j) r work) (chosenText (countsOf j) F r)
 
-    by-unless : (t : Bool) (k : ℕ) (r : Answer (Fills Finding)) → 1 ≤ k → k ≤ 18 → Answered r → Answered (unless t k r)
+    by-unless : (t : Bool) (k : ℕ) (r : Answer (Fills Finding)) → 1 ≤ k → k < 100 → Answered r → Answered (unless t k r)
     by-unless true k r some few h = h
     by-unless false k r some few h = prints-refused (countsOf j) k work some few
 
@@ -139,7 +139,7 @@ module _ (s work : List ℕ) where
 
   prints-read : (a : Answer Job) → reading s ≡ a
       → Prints (atExit (countsIn a) (onward a (λ j. chosenFrom Isolating (familyOf j) Mrm 0 (length work))) work) (reportBy a (length work))
-  prints-read (refused i) r = let known = reading-refused s r in prints-refused (countsIn (refused i)) i work (known .0) (omega (arith, known .1))
+  prints-read (refused i) r = let known = reading-refused s r in prints-refused (countsIn (refused i)) i work (known .0) (known .1)
   prints-read (gives j) r = prints-chosen j (reading-valid s j r) work
 
   prints-isolated : Prints isolated (reportText s (length work))

@@ -4,9 +4,7 @@
 --   answer-bit       an answer is 0 or 1
 --   cond-bit         a choice of two bits is a bit
 --   own-bit          the value that a line has by itself is 0 or 1
---   length-values    there are l values below line l
---   value-at         the last of the values below line l + 1 is line l's own, as the fixing leaves it
---   value-kept       a line's value is the same among the values below any later line
+--   value-at         among the values below a later line, line l's is its own, as the fixing leaves it
 --   line-own         the value of a line, by the values below it
 --   line-operand     a value below a line is the value of that line
 --   line-bit         the value of a line is 0 or 1, if the fixing keeps that
@@ -16,14 +14,13 @@
 use Prim.Native.Nat.{ℕ, zero, suc, _+_, _-_, _*_, _^_, _/_, _≤_, _<_}
 use native.Mathlib.Nat.{mod-lt}
 use native.Mathlib.Omega.{arith}
-use native.Mathlib.Decide.{decLt}
 use mathlib.Core.Path.{_≡_, refl, sym, ap, _∙_}
 use mathlib.Core.Bool.{Bool, true, false, cond, _&&_}
 use mathlib.Core.List.{List, [], _∷_}
 use borrow.Author.Tests.{lt-ltb, le-ltb, ltb-true}
 use lib.Dec.{ltb}
-use lib.ListN.{length, getD, length-append, List·getD-append}
-use lib.Seq.{getD-at}
+use lib.ListN.{getD}
+use Rattle.bits.proofs.Building.{built-at}
 use Rattle.bits.proofs.Tests.{and-l, and-r}
 use Rattle.job.specs.Check.{Valid}
 use Rattle.job.specs.Record.{gateKind, gateA, gateB, gateAt, lines}
@@ -62,39 +59,18 @@ own-bit j m l values =
     (mod-lt (m / 2 ^ l) (omega arith))
     (answer-bit (gateKind (gateAt j (l - j .inputs))) _ _)
 
-module _ (fix : Fixing) (j : Job) (m : ℕ) where
-  pub length-values : (l : ℕ) → length (valuesTo fix j m l) ≡ l
-  unfolding valuesTo
-  length-values zero = refl
-  length-values (suc l) =
-      omega (arith, length-append (valuesTo fix j m l) (fix l (ownValue j m l (valuesTo fix j m l)) ∷ []), length-values l)
-
-  pub value-at : (l : ℕ) → getD (valuesTo fix j m (suc l)) l 0 ≡ fix l (ownValue j m l (valuesTo fix j m l))
-  unfolding valuesTo
-  value-at l = getD-at (valuesTo fix j m l) (fix l (ownValue j m l (valuesTo fix j m l))) [] 0 l (length-values l)
-
-  pub value-kept : (l k : ℕ) → l < k → getD (valuesTo fix j m k) l 0 ≡ getD (valuesTo fix j m (suc l)) l 0
-  unfolding valuesTo
-  value-kept l zero h = absurd (omega arith)
-  value-kept l (suc k) h = go (decLt l k) (value-kept l k)
-    where
-      go : Dec (l < k) → (l < k → getD (valuesTo fix j m k) l 0 ≡ getD (valuesTo fix j m (suc l)) l 0)
-          → getD (valuesTo fix j m (suc k)) l 0 ≡ getD (valuesTo fix j m (suc l)) l 0
-      go (yes below) kept =
-          List·getD-append (valuesTo fix j m k) (fix k (ownValue j m k (valuesTo fix j m k)) ∷ []) 0 l (omega (arith, length-values k))
-          ∙ kept below
-      go (no last) kept =
-          let e : k ≡ l = omega arith in
-          ap (λ (n : ℕ). getD (valuesTo fix j m (suc n)) l 0) e
+value-at : (fix : Fixing) (j : Job) (m k l : ℕ) → l < k → getD (valuesTo fix j m k) l 0 ≡ fix l (ownValue j m l (valuesTo fix j m l))
+unfolding valuesTo
+value-at fix j m k l h = built-at (λ l values. fix l (ownValue j m l values)) 0 k l h
 
 module _ (fix : ℕ → Fixing) (j : Job) (m : ℕ) where
   pub line-own : (l : ℕ) → l < lines j → lineValue fix j l m ≡ fix m l (ownValue j m l (valuesTo (fix m) j m l))
   unfolding lineValue
-  line-own l h = value-kept (fix m) j m l (lines j) h ∙ value-at (fix m) j m l
+  line-own l h = value-at (fix m) j m (lines j) l h
 
   pub line-operand : (l a : ℕ) → l ≤ lines j → a < l → getD (valuesTo (fix m) j m l) a 0 ≡ lineValue fix j a m
   unfolding lineValue
-  line-operand l a h below = value-kept (fix m) j m a l below ∙ sym (value-kept (fix m) j m a (lines j) (omega arith))
+  line-operand l a h below = value-at (fix m) j m l a below ∙ sym (value-at (fix m) j m (lines j) a (omega arith))
 
   pub line-bit : ((l v : ℕ) → v < 2 → fix m l v < 2) → (l : ℕ) → l < lines j → lineValue fix j l m < 2
   line-bit bits l h = rw (line-own l h) (bits l (ownValue j m l (valuesTo (fix m) j m l)) (own-bit j m l (valuesTo (fix m) j m l)))

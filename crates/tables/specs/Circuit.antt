@@ -7,9 +7,10 @@
 --   circuitTable   circuit c's packed table
 use Prim.Native.Nat.{ℕ, zero, suc, _-_, _^_}
 use mathlib.Core.Bool.{cond, _||_}
-use mathlib.Core.List.{List, [], _∷_, _++_}
+use mathlib.Core.List.{List}
 use lib.ListN.{getD}
 use lib.Dec.{ltb, eqb}
+use Rattle.bits.specs.Building.{builtTo}
 use Rattle.bits.specs.Packed.{packed}
 use Rattle.job.specs.Record.{gateKind, gateA, gateB, gateAt, faultAt, lines, levelNumber}
 use Rattle.job.specs.declared.Gate.{Gate}
@@ -33,8 +34,7 @@ unfoldable pub ownValue : Job → ℕ → ℕ → List ℕ → ℕ
 ownValue j m l values = cond (ltb l (j .inputs)) (inputValue m l) (gateValue (gateAt j (l - j .inputs)) values)
 
 unfoldable pub valuesTo : Fixing → Job → ℕ → ℕ → List ℕ
-valuesTo fix j m zero = []
-valuesTo fix j m (suc l) = let values = valuesTo fix j m l in values ++ (fix l (ownValue j m l values) ∷ [])
+valuesTo fix j m = builtTo (λ l values. fix l (ownValue j m l values))
 
 -- "A stuck line has its level for everyone who reads it, and for the output if it is that line. A bridge gives both inputs the AND, or the OR,
 -- of their two bits, for every reader and for the output if it is one of them." The second argument is the values of the good circuit's lines.

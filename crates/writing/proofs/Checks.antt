@@ -12,6 +12,7 @@ use borrow.Author.Tests.{lt-ltb, le-leb}
 use Rattle.bits.specs.Answer.{unless}
 use Rattle.bits.specs.Answer.Answer.{gives}
 use Rattle.job.specs.Check.{gateOk, outputOk, faultCountOk, faultLineOk, faultOrderOk, gatesChecked, faultsChecked, checked}
+use Rattle.job.specs.Dependence.{noLoose}
 use Rattle.job.specs.Layout.{maxInputs, maxGates}
 use Rattle.job.specs.Record.{gateA, gateB, gateAt, faultAt, lines}
 use Rattle.job.specs.declared.Job.{Job}
@@ -51,6 +52,8 @@ module _ (j : Job) (count i : ℕ) where
 
 -- the checks past the gates, once those before them have passed
 pub checked-rest : (j : Job) → 1 ≤ j .inputs → j .inputs ≤ maxInputs → j .«gate_count» ≤ maxGates → gatesChecked j (j .«gate_count») 0 ≡ gives tt
-    → checked j ≡ unless (outputOk (lines j) (j .output)) 6 (unless (faultCountOk (j .«fault_count»)) 18 (faultsChecked j (j .«fault_count») 0))
+    → checked j
+    ≡ unless (outputOk (lines j) (j .output)) 6
+    (unless (noLoose j) 19 (unless (faultCountOk (j .«fault_count»)) 18 (faultsChecked j (j .«fault_count») 0)))
 unfolding checked
 checked-rest j some few gates-few gates = simp (le-leb 1 (j .inputs) some, le-leb (j .inputs) maxInputs few, le-leb (j .«gate_count») maxGates gates-few, gates)

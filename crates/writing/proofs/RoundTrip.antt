@@ -27,6 +27,7 @@ use Rattle.bits.proofs.Packed.{Bytes}
 use Rattle.bits.proofs.Tests.{and-l, and-r}
 use Rattle.bits.proofs.SpareBits.{spareCount, stringOf-bytesOf, zeros-spare, bytesOf-spare}
 use Rattle.job.specs.Check.{Valid, checked, gateOk, faultLineOk, faultOrderOk}
+use Rattle.job.specs.Dependence.{gatesOf, noneLoose, outputLines}
 use Rattle.job.specs.Layout.{maxInputs, maxGates, maxFaults, inputCountBits, gateCountBits, gateKindBits, lineBits, faultCountBits, faultKindBits}
 use Rattle.job.specs.Record.{gateKind, gateA, gateB, faultKind, faultA, faultB, lines, emptyJob, reset, noGates, noFaults, unusedGate, unusedFault}
 use Rattle.job.specs.declared.BinaryKind.the-variants.{And, Or, Nand, Nor, Xor, Xnor}
@@ -245,6 +246,17 @@ module _ (j : Job) (v : Valid j) (rest : List ℕ) where
       (j .«fault_count») (j .faults) noFaults rest (omega arith)
       (λ i h. (v .fault-line i h, v .fault-order i h))
 
+-- the entries that are taken are the gates that were written, so that no more of them are loose
+tight-taken : (j : Job) → Valid j → length (j .gates) ≡ maxGates
+    → noneLoose (j .inputs) (take (j .«gate_count») (sets noGates 0 (take (j .«gate_count») (j .gates)))) (outputLines j) ≡ true
+tight-taken j v lg =
+    let gates = gatesOf j in
+    let few = v .gates-few in
+    let many : length gates ≡ j .«gate_count» = length-take-le (j .«gate_count») (j .gates) (omega arith) in
+    ap (λ (es : List GateEntry). noneLoose (j .inputs) es (outputLines j))
+    (ap (λ (k : ℕ). take k (sets noGates 0 gates)) (sym many) ∙ sets-taken gates noGates (omega (arith, length-noGates)))
+    ∙ v .tight
+
 wholeJob-takes : (j : Job) (rest : List ℕ) → Valid j → length (j .gates) ≡ maxGates → length (j .faults) ≡ maxFaults → spareOnly rest ≡ true
     → wholeJob (jobBits j ++ rest) ≡ parsed (reset j) []
 unfolding wholeJob fromGates fromOutput fromFaultCount fromFaults fromEnd spare emptyJob reset
@@ -264,6 +276,7 @@ wholeJob-takes j rest v lg lf spare-ok =
       gates-taken j v from-output lg,
       field-takes lineBits (j .output) from-count (le-trans output all-lines),
       lt-ltb (j .output) (lines j) (v .output),
+      tight-taken j v lg,
       field-takes faultCountBits (j .«fault_count») faults (le-trans (suc-le-suc (v .faults-few)) all-faults),
       faults-taken j v rest lf,
       spare-ok,

@@ -9,6 +9,7 @@ ghost use lib.ListN.{length, take};
 ghost use Rattle.bits.specs.Answer.{outcome, unless, leaves};
 ghost use Rattle.bits.specs.Bits.{bitsOf, bytesOf};
 ghost use Rattle.job.specs.Check.{outputOk, faultCountOk, faultOrderOk, gatesChecked, faultsChecked, checked, Valid};
+ghost use Rattle.job.specs.Dependence.{noLoose};
 ghost use Rattle.job.specs.Layout.{maxGates, maxFaults};
 ghost use Rattle.job.specs.Record.{lines};
 ghost use Rattle.writing.specs.Pen.{inkedBytes, filled, EntryFits, Ready, Puts};
@@ -70,7 +71,7 @@ fn job_bytes(job: Job) -> usize
         / 8
 }
 
-// The first refusal of a record: 2, 3, 4 gate by gate, 6, 18, then 7 and 8 fault by fault.
+// The first refusal of a record: 2, 3, 4 gate by gate, 6, 19, 18, then 7 and 8 fault by fault.
 fn check(job: Job) -> Outcome
     ensures { λ r. ⌜ outcome r ≡ checked job ⌝ }
 {
@@ -91,13 +92,16 @@ fn check(job: Job) -> Outcome
     }
 }
 
-// Refusals 6, 18, then 7 and 8 fault by fault.
+// Refusals 6, 19, 18, then 7 and 8 fault by fault.
 fn check_rest(job: Job) -> Outcome
-    ensures { λ r. ⌜ outcome r ≡ unless (outputOk (lines job) (job .output)) 6 (unless (faultCountOk (job .«fault_count»)) 18 (faultsChecked job (job .«fault_count») 0)) ⌝ }
+    ensures { λ r. ⌜ outcome r ≡ unless (outputOk (lines job) (job .output)) 6 (unless (noLoose job) 19 (unless (faultCountOk (job .«fault_count»)) 18 (faultsChecked job (job .«fault_count») 0))) ⌝ }
 {
     let lines = job.inputs as usize + job.gate_count as usize;
     if lines <= job.output as usize {
         return Outcome::Refused(Refusal::Output);
+    }
+    if !job::no_loose(job) {
+        return Outcome::Refused(Refusal::LooseGate);
     }
     if MAX_FAULTS < job.fault_count as usize {
         return Outcome::Refused(Refusal::Faults);
