@@ -26,7 +26,7 @@ extern "C" {
 /* The version of this header: raised with every change of the job's layout, of a function, a struct or a number below.
  * Where horncurlew_version() gives another number the library isn't the one that this header declares, and nothing else
  * of it may be called. */
-#define HORNCURLEW_VERSION 1
+#define HORNCURLEW_VERSION 2
 
 /* The stack that a call needs, in bytes, with its answer: choosing, locating and the report, and any other call.
  * Measured on x86-64 Linux over the largest jobs, and rounded up (rust/differential/tests/stack.rs measures again, and
@@ -53,7 +53,8 @@ enum {
     HORNCURLEW_ALIKE = 15,       /* two circuits that must be told apart have equal tables */
     HORNCURLEW_INDEX = 16,       /* an index isn't below N */
     HORNCURLEW_READINGS = 17,    /* the numbers of indices and of readings differ */
-    HORNCURLEW_FAULTS = 18       /* a record with more than 63 faults; no call here takes a record */
+    HORNCURLEW_FAULTS = 18,      /* a record with more than 63 faults; no call here takes a record */
+    HORNCURLEW_LOOSE_GATE = 19   /* a loose gate: its line is not the output, nor does the output depend on it */
 };
 
 /* A kind of spectrum: Reed-Muller (sums modulo 2) or, any number but 0, modified Reed-Muller (plain sums). */
@@ -117,7 +118,7 @@ typedef struct {
 size_t horncurlew_version(void);
 
 /* Whether the bytes are a job, and its counts. Refusals, as the fields come: at each field 1 if the bytes end in it;
- * 2; 3; for each gate 4, 5; 6; for each fault 7, 8; after the last field 9. */
+ * 2; 3; for each gate 4, 5; 6; 19, before the fault count is read; for each fault 7, 8; after the last field 9. */
 horncurlew_job_answer horncurlew_check(const uint8_t *bytes, size_t bytes_length);
 
 /* Reads a job and writes it again to out. Refusals: reading's, 10. */

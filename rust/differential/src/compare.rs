@@ -31,22 +31,22 @@ impl Operation {
         Operation::Locate,
     ];
 
-    /// The refusals that document 01 gives it.
+    /// The refusals that the documents give it, in order.
     pub fn refusals(self) -> &'static [usize] {
         match self {
-            Operation::Check => &[1, 2, 3, 4, 5, 6, 7, 8, 9],
-            Operation::Rewrite => &[1, 2, 3, 4, 5, 6, 7, 8, 9, 10],
-            Operation::Table => &[1, 2, 3, 4, 5, 6, 7, 8, 9, 11, 10],
+            Operation::Check => &[1, 2, 3, 4, 5, 6, 19, 7, 8, 9],
+            Operation::Rewrite => &[1, 2, 3, 4, 5, 6, 19, 7, 8, 9, 10],
+            Operation::Table => &[1, 2, 3, 4, 5, 6, 19, 7, 8, 9, 11, 10],
             Operation::Spectrum => &[2, 12, 13, 10],
             Operation::Undo => &[2, 13, 14, 10],
-            Operation::Choose => &[1, 2, 3, 4, 5, 6, 7, 8, 9, 13, 10, 15],
-            Operation::Locate => &[1, 2, 3, 4, 5, 6, 7, 8, 9, 13, 16, 17, 10],
+            Operation::Choose => &[1, 2, 3, 4, 5, 6, 19, 7, 8, 9, 13, 10, 15],
+            Operation::Locate => &[1, 2, 3, 4, 5, 6, 19, 7, 8, 9, 13, 16, 17, 10],
         }
     }
 }
 
 /// The numbers of refusals, and 0 for success.
-pub const NUMBERS: usize = 19;
+pub const NUMBERS: usize = 20;
 
 /// How often each operation answered each number.
 #[derive(Clone, Default)]

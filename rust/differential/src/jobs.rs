@@ -39,6 +39,7 @@ pub fn encode(fields: &[Field]) -> Vec<u8> {
 }
 
 /// A circuit without its faults.
+#[derive(Clone)]
 pub struct Circuit {
     pub inputs: usize,
     pub gates: Vec<Part>,
@@ -46,12 +47,49 @@ pub struct Circuit {
 }
 
 impl Circuit {
-    /// A circuit of any gates that are allowed.
+    /// A circuit of any gates that are allowed, none of them loose: the output is the last gate or, without gates, any
+    /// input.
     pub fn any(random: &mut Random, inputs: usize, gates: usize) -> Circuit {
-        let parts = (0..gates).map(|q| any_gate(random, inputs + q)).collect();
-        let lines = inputs + gates;
-        let output = if random.once_in(4) { random.below(lines) } else { lines - 1 };
-        Circuit { inputs, gates: parts, output: output as u8 }
+        // The gate lines that no gate reads yet.
+        let mut unread: Vec<u8> = Vec::new();
+        let mut parts = Vec::new();
+        for q in 0..gates {
+            let own = inputs + q;
+            let [mut kind, mut a, mut b] = any_gate(random, own);
+            // Each gate to come can join two of them to one.
+            let left = gates - q;
+            let (must_read, must_join) = (unread.len() >= left, unread.len() > left);
+            if must_read {
+                a = take(random, &mut unread);
+            }
+            if must_join {
+                b = take(random, &mut unread);
+                kind %= NOT;
+            }
+            if kind >= NOT {
+                b = a;
+            }
+            unread.retain(|line| *line != a && *line != b);
+            unread.push(own as u8);
+            parts.push([kind, a, b]);
+        }
+        assert!(unread.len() < 2);
+        let output = unread.pop().unwrap_or_else(|| random.below(inputs) as u8);
+        Circuit { inputs, gates: parts, output }
+    }
+
+    /// The circuit with a loose gate: what reads one of its gates, the output too, reads a lower line instead. It has at
+    /// least one gate.
+    pub fn loosened(mut self, random: &mut Random) -> Circuit {
+        let cut = self.inputs + random.below(self.gates.len());
+        let other = random.below(cut) as u8;
+        let read = self.gates.iter_mut().flat_map(|[_, a, b]| [a, b]);
+        for line in read.chain([&mut self.output]) {
+            if usize::from(*line) == cut {
+                *line = other;
+            }
+        }
+        self
     }
 
     /// A circuit of which every input and every gate has a way to the output, the last gate. It has at least as many
@@ -177,6 +215,15 @@ pub fn any_job(random: &mut Random, inputs: usize, gates: usize, faults: usize) 
 pub fn small_job(random: &mut Random) -> Vec<Field> {
     let (inputs, gates, faults) = (1 + random.below(5), random.below(12), random.below(10));
     any_job(random, inputs, gates, faults)
+}
+
+/// A job that would be valid but for a loose gate, mostly of few lines and faults.
+pub fn loose_job(random: &mut Random) -> Vec<Field> {
+    let (inputs, gates, faults) = if random.once_in(10) { (MOST_INPUTS, MOST_GATES, MOST_FAULTS) } else { (5, 11, 9) };
+    let (inputs, gates, faults) = (1 + random.below(inputs), 1 + random.below(gates), random.below(faults + 1));
+    let circuit = Circuit::any(random, inputs, gates).loosened(random);
+    let faults: Vec<_> = (0..faults).map(|_| circuit.any_fault(random)).collect();
+    circuit.fields(&faults)
 }
 
 /// A valid job of any size.

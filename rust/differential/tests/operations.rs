@@ -1,7 +1,7 @@
 //! Every exported operation but the report against the reference, on seeded calls.
 
 use differential::compare::{Comparison, Kind, Operation, Purpose, NUMBERS};
-use differential::jobs::{any_job, encode, full_job, sized_job, small_job, Field};
+use differential::jobs::{any_job, encode, full_job, loose_job, sized_job, small_job, Circuit, Field};
 use differential::random::Random;
 use reference::Located;
 
@@ -199,7 +199,11 @@ fn spectra(to: &mut Comparison) {
 fn every_refusal_of_every_operation() {
     let mut to = Comparison::new(1);
     for turn in 0..50_000 {
-        let fields = if turn % 40 == 0 { sized_job(&mut to.random) } else { small_job(&mut to.random) };
+        let fields = match turn % 40 {
+            0 => sized_job(&mut to.random),
+            1 | 2 => loose_job(&mut to.random),
+            _ => small_job(&mut to.random),
+        };
         let bytes = if turn % 5 < 2 { encode(&fields) } else { damage(&mut to.random, &fields) };
         every_call(&mut to, &bytes);
         spectra(&mut to);
@@ -212,6 +216,45 @@ fn every_refusal_of_every_operation() {
             assert_eq!(count > 0, has, "{operation:?} answered {number} {count} times");
         }
     }
+}
+
+/// Every call with bytes whose refusal by reading is known.
+fn refused_by_reading(to: &mut Comparison, bytes: &[u8], number: u8) {
+    assert_eq!(reference::read(bytes).err(), Some(number), "{bytes:02x?}");
+    every_call(to, bytes);
+}
+
+/// Loose gates in circuits of every size: after an output that is no line, before the fault count is read.
+#[test]
+fn loose_gates_in_turn() {
+    let mut to = Comparison::new(12);
+    let (mut outputs_on_inputs, mut cut_jobs, mut no_outputs) = (0, 0, 0);
+    for _ in 0..4000 {
+        let (inputs, gates) = (1 + to.random.below(8), 1 + to.random.below(64));
+        let tight = Circuit::any(&mut to.random, inputs, gates);
+        let loose = tight.clone().loosened(&mut to.random);
+        let faults: Vec<_> = (0..to.random.below(4)).map(|_| tight.any_fault(&mut to.random)).collect();
+        assert!(reference::read(&tight.bytes(&faults)).is_ok());
+        refused_by_reading(&mut to, &loose.bytes(&faults), 19);
+        outputs_on_inputs += usize::from(usize::from(loose.output) < inputs);
+
+        // The output line ends in the last of these bytes, and mostly the fault count doesn't.
+        let fault_count = 4 + 7 + 17 * gates + 7;
+        let length = fault_count.div_ceil(8);
+        if 8 * length < fault_count + 6 {
+            refused_by_reading(&mut to, &tight.bytes(&faults)[..length], 1);
+            refused_by_reading(&mut to, &loose.bytes(&faults)[..length], 19);
+            cut_jobs += 1;
+        }
+        refused_by_reading(&mut to, &loose.bytes(&faults)[..length - 1], 1);
+
+        let output = loose.lines() + to.random.below(128 - loose.lines());
+        let none = Circuit { output: output as u8, ..loose };
+        refused_by_reading(&mut to, &none.bytes(&faults), 6);
+        no_outputs += 1;
+    }
+    println!("outputs on inputs {outputs_on_inputs}, 19 before 1 {cut_jobs}, 6 before 19 {no_outputs}");
+    assert!([outputs_on_inputs, cut_jobs, no_outputs].iter().all(|count| *count > 0));
 }
 
 #[test]

@@ -1,8 +1,9 @@
 //! The built test program `papers`, on tasks that its stored vectors don't have: what it prints is worked out anew.
 
-use differential::jobs::{encode, full_job, small_job};
+use differential::jobs::{encode, full_job, loose_job, small_job};
 use differential::random::Random;
-use reference::{choose, locate, read, spectrum, table, undo, Chosen, Kind, Located, Purpose};
+use reference::{choose, locate, read, spectrum, table, undo, write, Chosen, Kind, Located, Purpose};
+use reference::{Fault, Gate, Job, MOST_FAULTS, MOST_GATES};
 use std::fmt::{Display, Write as _};
 use std::io::Write as _;
 use std::path::Path;
@@ -39,6 +40,8 @@ fn any_kind(random: &mut Random) -> (&'static str, Kind) {
 struct Tasks {
     tasks: String,
     answers: String,
+    /// How many records with too many faults were refused for a loose gate.
+    loose_before_faults: usize,
 }
 
 impl Tasks {
@@ -118,6 +121,37 @@ impl Tasks {
             self.add(format!("undo {word} {inputs} {polarity}{}", listed(&numbers)), answer);
         }
     }
+
+    /// A record, among them such as no bytes give. All gates but the first are BUF of line 0, all faults but the first
+    /// stuck-at-0 on it.
+    fn record(&mut self, random: &mut Random) {
+        let inputs = if random.once_in(12) { 9 * random.below(2) } else { 1 + random.below(4) };
+        let gates = if random.once_in(12) { 62 + random.below(6) } else { random.below(3) };
+        let output = if random.once_in(3) { random.below(inputs + gates + 2) } else { (inputs + gates).max(1) - 1 };
+        let faults = if random.once_in(3) { 62 + random.below(4) } else { random.below(3) };
+        let [a, b, c, d] = [0; 4].map(|_| random.below(inputs + 1) as u8);
+        let (first_gate, gate_kind) = random.pick(&[(Gate::And(a, b), 0), (Gate::Xor(a, b), 4), (Gate::Not(a), 6)]);
+        let (first_fault, fault_kind) = random.pick(&[(Fault::Stuck(c, true), 1), (Fault::Bridge(c, d, false), 3)]);
+        let mut job = Job {
+            inputs: inputs as u8,
+            gate_count: gates as u8,
+            gates: [Gate::Buf(0); MOST_GATES],
+            output: output as u8,
+            fault_count: faults as u8,
+            faults: [Fault::Stuck(0, false); MOST_FAULTS],
+        };
+        (job.gates[0], job.faults[0]) = (first_gate, first_fault);
+        let room = random.below(17);
+        let written = write(&job, &mut vec![0; room]);
+        self.loose_before_faults += usize::from(faults > MOST_FAULTS && written == Err(19));
+        let numbers = [room as u8, job.inputs, job.gate_count, job.output, job.fault_count];
+        let entries = [gate_kind, a, b, fault_kind, c, d];
+        let answer = match written {
+            Ok(size) => format!("bytes {size}"),
+            Err(number) => format!("refused {number}"),
+        };
+        self.add(format!("record{}{}", hex(&numbers), hex(&entries)), answer);
+    }
 }
 
 #[test]
@@ -125,7 +159,11 @@ fn other_tasks() {
     let mut random = Random::new(50);
     let mut all = Tasks::default();
     for turn in 0..60 {
-        let mut bytes = if turn == 0 { full_job(&mut random, 8, 64, 63) } else { encode(&small_job(&mut random)) };
+        let mut bytes = match turn {
+            0 => full_job(&mut random, 8, 64, 63),
+            _ if turn % 10 == 5 => encode(&loose_job(&mut random)),
+            _ => encode(&small_job(&mut random)),
+        };
         if turn % 8 == 7 {
             bytes.truncate(random.below(bytes.len()));
         }
@@ -135,10 +173,19 @@ fn other_tasks() {
         all.choice(&mut random, &bytes, Purpose::Detecting);
         all.location(&mut random, &bytes);
         all.spectra(&mut random);
+        for _ in 0..10 {
+            all.record(&mut random);
+        }
     }
     for word in ["signature ", "refused 15 ", "refused 1\n", "refused 14\n", "circuit ", "several ", "table "] {
         assert!(all.answers.contains(word), "no task is answered with {word}");
     }
+    // Of writing a record.
+    for word in [2, 3, 4, 6, 19, 18, 7, 8, 10].map(|number| format!("refused {number}\n")) {
+        assert!(all.answers.contains(&word), "no task is answered with {word}");
+    }
+    assert!(all.answers.contains("bytes "), "no record is written");
+    assert!(all.loose_before_faults > 0);
     let found = printed(&all.tasks);
     for (place, (line, expected)) in found.lines().zip(all.answers.lines()).enumerate() {
         assert_eq!(line, expected, "line {place} of the answers");

@@ -1,6 +1,6 @@
 //! The report's text against the reference's.
 
-use differential::jobs::{encode, full_job, sized_job, small_job};
+use differential::jobs::{encode, full_job, loose_job, sized_job, small_job};
 use differential::random::Random;
 use horncurlew::{NoReport, LARGEST_REPORT};
 use reference::{choose, Chosen, Kind, Purpose};
@@ -32,7 +32,11 @@ fn compare(random: &mut Random, bytes: &[u8], work: usize, room: usize) {
 fn texts_of_jobs() {
     let mut random = Random::new(20);
     for turn in 0..4000 {
-        let fields = if turn % 20 == 0 { sized_job(&mut random) } else { small_job(&mut random) };
+        let fields = match turn % 20 {
+            0 => sized_job(&mut random),
+            10 => loose_job(&mut random),
+            _ => small_job(&mut random),
+        };
         let mut bytes = encode(&fields);
         if turn % 3 == 0 {
             let bit = random.below(8 * bytes.len());

@@ -126,7 +126,7 @@ fn example_files() {
             count += 1;
         }
     }
-    assert!(count >= 5, "only {count} examples in {}", folder.display());
+    assert!(count >= 6, "only {count} examples in {}", folder.display());
 }
 
 #[test]

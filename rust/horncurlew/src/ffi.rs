@@ -12,7 +12,7 @@ use crate::{Entry, OtherVersion};
 use std::sync::OnceLock;
 
 /// The version of the library that this module was written for: HORNCURLEW_VERSION of the header.
-pub(crate) const VERSION: usize = 1;
+pub(crate) const VERSION: usize = 2;
 
 /// The most entries that a signature can have: one less than there are circuits.
 pub(crate) const MOST_ENTRIES: usize = 63;
@@ -226,10 +226,10 @@ mod tests {
     fn other_versions() {
         assert_eq!(compare(VERSION), Ok(Library(())));
         assert_eq!(library(), Ok(Library(())));
-        for version in [0, VERSION + 1, VERSION + 256, usize::MAX] {
+        for version in [0, VERSION - 1, VERSION + 1, VERSION + 256, usize::MAX] {
             let other = compare(version).expect_err("another version");
             let words = format!(
-                "the linked library horncurlew has version {version}, and this crate is for version 1: \
+                "the linked library horncurlew has version {version}, and this crate is for version 2: \
                  build both from one source"
             );
             assert_eq!(other.to_string(), words);

@@ -7,7 +7,7 @@
 //!
 //! The library allocates nothing: the caller lends the memory for results. A refused call writes nothing, but for
 //! circuits that are alike, which leaves the spectra in the lent work. A call that succeeds writes the places that it
-//! names from the start, and no others. Numbers of refusals are document 01's; [`Refusal`] names them.
+//! names from the start, and no others. Numbers of refusals are the documents'; [`Refusal`] names them.
 //!
 //! ```
 //! use horncurlew::{choose, locate, Kind, Location, Purpose};
@@ -247,8 +247,8 @@ fn done(number: usize) -> Result<(), Refusal> {
 
 /// Whether the bytes are a job, and its counts.
 ///
-/// Refusals, as the fields come: at each field 1 if the bytes end in it; 2; 3; for each gate 4, 5; 6; for each fault
-/// 7, 8; after the last field 9.
+/// Refusals, as the fields come: at each field 1 if the bytes end in it; 2; 3; for each gate 4, 5; 6; 19, before the
+/// fault count is read; for each fault 7, 8; after the last field 9.
 pub fn check(bytes: &[u8]) -> Result<Counts, Refusal> {
     let answer = ffi::library()?.check(bytes);
     done(answer.number)?;

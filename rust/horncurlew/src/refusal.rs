@@ -4,7 +4,7 @@ use crate::OtherVersion;
 use std::error::Error;
 use std::fmt;
 
-/// Why a call gave no result: document 01's refusals by name, and what can come of a library that isn't this crate's.
+/// Why a call gave no result: the documents' refusals by name, and what can come of a library that isn't this crate's.
 #[derive(Clone, Copy, Debug, PartialEq, Eq, Hash)]
 #[non_exhaustive]
 pub enum Refusal {
@@ -44,6 +44,9 @@ pub enum Refusal {
     Readings,
     /// A record with more than 63 faults. No call here takes a record.
     Faults,
+    /// A loose gate: its line is neither the output nor read, directly or through other gates, by the gate that drives
+    /// the output.
+    LooseGate,
     /// A number that this crate doesn't know.
     Unknown(usize),
     /// The library wasn't called: its version isn't the one that this crate was written for.
@@ -51,8 +54,8 @@ pub enum Refusal {
 }
 
 impl Refusal {
-    /// Document 01's refusals, 1 to 18.
-    pub const ALL: [Refusal; 18] = [
+    /// The documents' refusals, 1 to 19.
+    pub const ALL: [Refusal; 19] = [
         Refusal::BytesEnd,
         Refusal::Inputs,
         Refusal::Gates,
@@ -71,6 +74,7 @@ impl Refusal {
         Refusal::Index,
         Refusal::Readings,
         Refusal::Faults,
+        Refusal::LooseGate,
     ];
 
     /// The refusal of a number that isn't 0.
@@ -118,6 +122,10 @@ impl fmt::Display for Refusal {
             Refusal::Index => "an index isn't below the number of coefficients",
             Refusal::Readings => "the numbers of indices and of readings differ",
             Refusal::Faults => "there are more than 63 faults",
+            Refusal::LooseGate => {
+                "a gate is loose: its line is neither the output nor read, directly or through other gates, by the \
+                 output's gate"
+            }
             Refusal::Unknown(_) => "a number that this crate doesn't know",
             Refusal::Version(other) => return other.fmt(f),
         };
@@ -143,7 +151,7 @@ mod tests {
 
     #[test]
     fn unknown_numbers() {
-        for number in [0, 19, 20, 255, 256, 256 + 9, usize::MAX] {
+        for number in [0, 20, 21, 255, 256, 256 + 9, usize::MAX] {
             let refusal = Refusal::of(number);
             assert_eq!(refusal, Refusal::Unknown(number));
             assert_eq!(refusal.number(), Some(number));

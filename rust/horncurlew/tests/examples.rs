@@ -1,4 +1,4 @@
-//! Document 01's examples through the safe crate.
+//! Document 01's examples through the safe crate, and a loose gate.
 
 use horncurlew::Kind::{Mrm, Rm};
 use horncurlew::Purpose::{Detecting, Isolating};
@@ -7,6 +7,8 @@ use horncurlew::{Choice, Counts, Entry, Kind, Location, NoChoice, Purpose, Refus
 
 const JOB_A: [u8; 12] = [0x20, 0x20, 0x00, 0x10, 0x41, 0x80, 0x00, 0x20, 0x00, 0x20, 0x40, 0x80];
 const JOB_P10: [u8; 8] = [0x20, 0x20, 0x00, 0x10, 0x40, 0xc0, 0x00, 0x80];
+/// Job A with an OR of its inputs that nobody reads: examples/loose_gate.job.
+const LOOSE: [u8; 14] = [0x20, 0x40, 0x00, 0x12, 0x00, 0x08, 0x20, 0xc0, 0x00, 0x10, 0x00, 0x10, 0x20, 0x40];
 
 fn spectrum_of(inputs: usize, table: &[u8], kind: Kind, polarity: usize) -> Vec<u16> {
     let mut out = vec![0; 1 << inputs];
@@ -28,6 +30,15 @@ fn p1_to_p3_reading() {
     assert_eq!(check(&[0x10, 0, 0]), Ok(Counts { inputs: 1, gates: 0, faults: 0 }));
     assert_eq!(signature(&[0x10, 0, 0], Isolating, Mrm), []);
     assert_eq!(check(&[0x10, 0, 0, 0]), Err(Refusal::Spare));
+}
+
+#[test]
+fn loose_gate() {
+    assert_eq!(check(&LOOSE), Err(Refusal::LooseGate));
+    assert_eq!(choose(&LOOSE, Isolating, Mrm, 0, &mut [0; 16]), Err(NoChoice::Refused(Refusal::LooseGate)));
+    // Without the fault count, then without the output line.
+    assert_eq!(check(&LOOSE[..7]), Err(Refusal::LooseGate));
+    assert_eq!(check(&LOOSE[..6]), Err(Refusal::BytesEnd));
 }
 
 #[test]

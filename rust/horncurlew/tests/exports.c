@@ -203,8 +203,8 @@ static void test_report(void) {
 }
 
 int main(void) {
-    same("version", TOLD(horncurlew_version()), "1");
-    same("the header's version", TOLD(HORNCURLEW_VERSION), "1");
+    same("version", TOLD(horncurlew_version()), "2");
+    same("the header's version", TOLD(HORNCURLEW_VERSION), "2");
     test_check();
     test_rewrite();
     test_table();

@@ -1,4 +1,4 @@
-/* Calls every function of horncurlew.h but the report's; ends with 0 if each answers as document 01 says of job A. */
+/* Calls every function of horncurlew.h but the report's; ends with 0 if each answers as the documents say of job A. */
 #include "horncurlew.h"
 
 #include <stdio.h>
@@ -17,6 +17,8 @@ int main(void) {
     /* An AND of two inputs; line 0 stuck at 0, line 0 at 1, line 1 at 1. */
     static const uint8_t job[12] = {0x20, 0x20, 0x00, 0x10, 0x41, 0x80, 0x00, 0x20, 0x00, 0x20, 0x40, 0x80};
     static const uint8_t alike[8] = {0x20, 0x20, 0x00, 0x10, 0x40, 0xc0, 0x00, 0x80};
+    /* With an OR of its inputs that nobody reads, up to the output line. */
+    static const uint8_t loose[7] = {0x20, 0x40, 0x00, 0x12, 0x00, 0x08, 0x20};
     uint16_t work[16], numbers[8];
     uint8_t out[HORNCURLEW_LONGEST_JOB];
 
@@ -26,6 +28,8 @@ int main(void) {
     expect(counts.number == 0 && counts.inputs == 2 && counts.gates == 1 && counts.faults == 3, "check");
     counts = horncurlew_check(NULL, 0);
     expect(counts.number == HORNCURLEW_BYTES_END && counts.inputs == 0, "check of no bytes");
+    counts = horncurlew_check(loose, sizeof loose);
+    expect(counts.number == HORNCURLEW_LOOSE_GATE && counts.inputs == 0, "check of a loose gate");
 
     horncurlew_length_answer length = horncurlew_rewrite(job, sizeof job, out, sizeof out);
     expect(length.number == 0 && length.length == 12 && memcmp(job, out, 12) == 0, "rewrite");

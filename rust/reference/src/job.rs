@@ -80,6 +80,9 @@ pub fn read(bytes: &[u8]) -> Result<Job, Refusal> {
     if output >= lines {
         return Err(refusal::OUTPUT);
     }
+    if has_loose_gate(inputs, &gates[..gate_count.into()], output) {
+        return Err(refusal::LOOSE_GATE);
+    }
     let fault_count = fields.take(6)? as u8;
     let mut faults = [Fault::Stuck(0, false); MOST_FAULTS];
     for fault in &mut faults[..usize::from(fault_count)] {
@@ -90,7 +93,7 @@ pub fn read(bytes: &[u8]) -> Result<Job, Refusal> {
 }
 
 /// The gate in a field of 3 + 7 + 7 bits, driving line `own`.
-#[inline]
+#[inline(always)]
 fn read_gate(field: u32, own: u8) -> Result<Gate, Refusal> {
     let (a, b) = ((field >> 7) as u8 & 127, field as u8 & 127);
     if a >= own || b >= own {
@@ -112,8 +115,26 @@ fn read_gate(field: u32, own: u8) -> Result<Gate, Refusal> {
     })
 }
 
+/// Whether some gate's line is neither the output nor read, directly or through other gates, by the gate that drives
+/// the output. Every gate reads lines below its own. An output that is an input has no gate, and uses none.
+fn has_loose_gate(inputs: u8, gates: &[Gate], output: u8) -> bool {
+    // What reads a line stands above it: when a gate's turn comes, from the last one down, its line is reached from the
+    // output or never will be.
+    let mut reached = [false; 256];
+    reached[usize::from(output)] = true;
+    for (q, gate) in gates.iter().enumerate().rev() {
+        if !reached[usize::from(inputs) + q] {
+            return true;
+        }
+        let (_, a, b) = gate.fields();
+        reached[usize::from(a)] = true;
+        reached[usize::from(b)] = true;
+    }
+    false
+}
+
 /// The fault in a field of 2 + 7 + 7 bits.
-#[inline]
+#[inline(always)]
 fn read_fault(field: u32, inputs: u8, lines: u8) -> Result<Fault, Refusal> {
     let (a, b) = ((field >> 7) as u8 & 127, field as u8 & 127);
     let kind = field >> 14;
@@ -149,8 +170,9 @@ struct Fields<'a> {
 }
 
 impl Fields<'_> {
-    /// The next `width` bits, 1 to 25.
-    #[inline]
+    /// The next `width` bits, 1 to 25. Inlined always, as the two functions of a field above: reading takes half as long
+    /// again where the compiler decides.
+    #[inline(always)]
     fn take(&mut self, width: usize) -> Result<u32, Refusal> {
         let end = self.at + width;
         if end > 8 * self.bytes.len() {
@@ -221,6 +243,9 @@ fn check(job: &Job) -> Result<usize, Refusal> {
     }
     if job.output >= lines {
         return Err(refusal::OUTPUT);
+    }
+    if has_loose_gate(inputs, &job.gates[..job.gate_count.into()], job.output) {
+        return Err(refusal::LOOSE_GATE);
     }
     if usize::from(job.fault_count) > MOST_FAULTS {
         return Err(refusal::FAULTS);

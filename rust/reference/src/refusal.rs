@@ -1,6 +1,6 @@
-//! The refusals, by document 01's numbers.
+//! The refusals, by the documents' numbers.
 
-/// The number of a refusal, 1 to 18.
+/// The number of a refusal, 1 to 19.
 pub type Refusal = u8;
 
 /// The bytes end inside a field.
@@ -39,3 +39,6 @@ pub const INDEX: Refusal = 16;
 pub const READINGS: Refusal = 17;
 /// A record with more than 63 faults.
 pub const FAULTS: Refusal = 18;
+/// A loose gate: its line is neither the output nor read, directly or through other gates, by the gate that
+/// drives the output.
+pub const LOOSE_GATE: Refusal = 19;

@@ -1,4 +1,4 @@
-//! A slow and literal model of document 01, compared with the library on random jobs, whole and damaged.
+//! A slow and literal model of the documents, compared with the library on random jobs, whole and damaged.
 
 use reference::{choose, locate, read, report, spectrum, table, undo, write};
 use reference::{Chosen, Fault, Gate, Job, Kind, Located, Purpose};
@@ -65,6 +65,9 @@ fn model_read(bytes: &[u8]) -> Result<Job, u8> {
     if job.output >= n + g {
         return Err(6);
     }
+    if model_loose(&job) {
+        return Err(19);
+    }
     job.fault_count = bits.field(6)?;
     for c in 0..job.fault_count {
         let (kind, a, b) = (bits.field(2)?, bits.field(7)?, bits.field(7)?);
@@ -90,6 +93,41 @@ fn model_read(bytes: &[u8]) -> Result<Job, u8> {
     Ok(job)
 }
 
+/// The kind of a gate, line a and line b.
+fn gate_fields(gate: Gate) -> (u8, u8, u8) {
+    match gate {
+        Gate::And(a, b) => (0, a, b),
+        Gate::Or(a, b) => (1, a, b),
+        Gate::Nand(a, b) => (2, a, b),
+        Gate::Nor(a, b) => (3, a, b),
+        Gate::Xor(a, b) => (4, a, b),
+        Gate::Xnor(a, b) => (5, a, b),
+        Gate::Not(a) => (6, a, a),
+        Gate::Buf(a) => (7, a, a),
+    }
+}
+
+/// Adds the lines that the gate of a line reads, directly or through other gates.
+fn add_read(job: &Job, line: u8, found: &mut Vec<u8>) {
+    if line < job.inputs {
+        return;
+    }
+    let (_, a, b) = gate_fields(job.gates[usize::from(line - job.inputs)]);
+    for read in [a, b] {
+        if !found.contains(&read) {
+            found.push(read);
+            add_read(job, read, found);
+        }
+    }
+}
+
+/// Whether some gate's line is neither the output nor read by the gate that drives the output.
+fn model_loose(job: &Job) -> bool {
+    let mut read = Vec::new();
+    add_read(job, job.output, &mut read);
+    (job.inputs..job.inputs + job.gate_count).any(|line| line != job.output && !read.contains(&line))
+}
+
 /// The bytes of a record in order, or the refusal other than 10.
 fn model_write(job: &Job) -> Result<Vec<u8>, u8> {
     let n = usize::from(job.inputs);
@@ -103,16 +141,7 @@ fn model_write(job: &Job) -> Result<Vec<u8>, u8> {
     let mut bits = String::new();
     bits += &format!("{n:04b}{g:07b}");
     for q in 0..g {
-        let (kind, a, b) = match job.gates[q] {
-            Gate::And(a, b) => (0, a, b),
-            Gate::Or(a, b) => (1, a, b),
-            Gate::Nand(a, b) => (2, a, b),
-            Gate::Nor(a, b) => (3, a, b),
-            Gate::Xor(a, b) => (4, a, b),
-            Gate::Xnor(a, b) => (5, a, b),
-            Gate::Not(a) => (6, a, a),
-            Gate::Buf(a) => (7, a, a),
-        };
+        let (kind, a, b) = gate_fields(job.gates[q]);
         if usize::from(a) >= n + q || usize::from(b) >= n + q {
             return Err(4);
         }
@@ -120,6 +149,9 @@ fn model_write(job: &Job) -> Result<Vec<u8>, u8> {
     }
     if usize::from(job.output) >= n + g {
         return Err(6);
+    }
+    if model_loose(job) {
+        return Err(19);
     }
     if job.fault_count > 63 {
         return Err(18);
@@ -317,20 +349,37 @@ impl Random {
         (self.next() % limit as u64) as usize
     }
 
-    fn gate(&mut self, own: usize) -> Gate {
-        // Lines near its own make deep circuits.
-        let mut line = || if self.below(2) == 0 { self.below(own) } else { own - 1 - self.below(own.min(4)) } as u8;
-        let (a, b) = (line(), line());
-        match self.below(9) {
+    /// A line below a gate's own; lines near it make deep circuits.
+    fn line(&mut self, own: usize) -> u8 {
+        let line = if self.below(2) == 0 { self.below(own) } else { own - 1 - self.below(own.min(4)) };
+        line as u8
+    }
+
+    fn take(&mut self, lines: &mut Vec<u8>) -> u8 {
+        let place = self.below(lines.len());
+        lines.swap_remove(place)
+    }
+
+    /// The gate of line `own`. `unread` are the gate lines that no gate reads yet; each of the gates that are left, this
+    /// one among them, can join two of them to one.
+    fn gate(&mut self, own: usize, left: usize, unread: &mut Vec<u8>) -> Gate {
+        let (must_read, must_join) = (unread.len() >= left, unread.len() > left);
+        let a = if must_read { self.take(unread) } else { self.line(own) };
+        let b = if must_join { self.take(unread) } else { self.line(own) };
+        let gate = match self.below(if must_join { 7 } else { 9 }) {
             0 => Gate::And(a, b),
             1 => Gate::Or(a, b),
             2 => Gate::Nand(a, b),
             3 => Gate::Nor(a, b),
             4 => Gate::Xnor(a, b),
-            5 => Gate::Not(a),
-            6 => Gate::Buf(a),
-            _ => Gate::Xor(a, b),
-        }
+            5 | 6 => Gate::Xor(a, b),
+            7 => Gate::Not(a),
+            _ => Gate::Buf(a),
+        };
+        let (_, a, b) = gate_fields(gate);
+        unread.retain(|line| *line != a && *line != b);
+        unread.push(own as u8);
+        gate
     }
 
     fn fault(&mut self, inputs: usize, lines: usize) -> Fault {
@@ -342,7 +391,7 @@ impl Random {
         }
     }
 
-    /// A job; with `distinct`, faults that are alike are left out.
+    /// A job without loose gates; with `distinct`, faults that are alike are left out.
     fn job(&mut self, inputs: usize, gates: usize, faults: usize, distinct: bool) -> Job {
         let mut job = Job {
             inputs: inputs as u8,
@@ -352,11 +401,12 @@ impl Random {
             fault_count: 0,
             faults: [Fault::Stuck(0, false); 63],
         };
+        let mut unread = Vec::new();
         for q in 0..gates {
-            job.gates[q] = self.gate(inputs + q);
+            job.gates[q] = self.gate(inputs + q, gates - q, &mut unread);
         }
         let lines = inputs + gates;
-        job.output = (lines - 1 - if self.below(4) == 0 { self.below(lines) } else { 0 }) as u8;
+        job.output = unread.first().copied().unwrap_or(self.below(inputs) as u8);
         let mut tables = vec![model_table(&job, 0)];
         for _ in 0..4 * faults {
             if usize::from(job.fault_count) == faults {
@@ -509,7 +559,7 @@ fn small_jobs() {
 #[test]
 fn damaged_jobs() {
     let mut random = Random(2);
-    let mut seen = [0; 19];
+    let mut seen = [0; 20];
     for _ in 0..6000 {
         let job = random.small_job();
         let mut bytes = model_write(&job).unwrap();
@@ -517,7 +567,7 @@ fn damaged_jobs() {
         seen[model_read(&bytes).err().unwrap_or(0) as usize] += 1;
         compare(&mut random, &bytes);
     }
-    assert!(seen[..10].iter().all(|count| *count > 0), "{seen:?}");
+    assert!((0..10).chain([19]).all(|number| seen[number] > 0), "{seen:?}");
 }
 
 #[test]
@@ -549,7 +599,7 @@ fn any_bytes() {
 #[test]
 fn records() {
     let mut random = Random(5);
-    let mut seen = [0; 19];
+    let mut seen = [0; 20];
     for _ in 0..6000 {
         let mut job = random.small_job();
         for _ in 0..random.below(3) {
@@ -579,7 +629,7 @@ fn records() {
         }
         seen[expected.err().unwrap_or(0) as usize] += 1;
     }
-    assert!([0, 2, 3, 4, 6, 18, 7, 8].iter().all(|number| seen[*number] > 0), "{seen:?}");
+    assert!([0, 2, 3, 4, 6, 19, 18, 7, 8].iter().all(|number| seen[*number] > 0), "{seen:?}");
 }
 
 fn compare_table(entries: &[bool], kind: Kind, k: usize) {

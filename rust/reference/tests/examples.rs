@@ -115,7 +115,8 @@ fn more_bytes_than_any_job_are_9() {
 fn longest_job_has_no_spare_bit() {
     let mut job = read(&[0x80, 0, 0]).unwrap();
     job.gate_count = 64;
-    job.gates = [Gate::Xnor(7, 7); 64];
+    // A chain of gates, each read by the next.
+    job.gates = std::array::from_fn(|q| Gate::Xnor(7 + q as u8, 7));
     job.output = 71;
     job.fault_count = 63;
     job.faults = [Fault::Bridge(6, 7, false); 63];

@@ -1,0 +1,166 @@
+//! Loose gates, refusal 19, in reading bytes and in writing records.
+
+use reference::{read, report, write, Fault, Gate, Job};
+
+/// A gate's kind, line a and line b.
+type Fields = [u8; 3];
+
+const AND: u8 = 0;
+const OR: u8 = 1;
+const XOR: u8 = 4;
+const NOT: u8 = 6;
+const BUF: u8 = 7;
+
+fn gate([kind, a, b]: Fields) -> Gate {
+    match kind {
+        AND => Gate::And(a, b),
+        OR => Gate::Or(a, b),
+        XOR => Gate::Xor(a, b),
+        NOT => Gate::Not(a),
+        BUF => Gate::Buf(a),
+        _ => panic!("no gate of kind {kind} here"),
+    }
+}
+
+/// The record of a circuit without faults.
+fn record(inputs: u8, gates: &[Fields], output: u8) -> Job {
+    let mut job = Job {
+        inputs,
+        gate_count: gates.len() as u8,
+        gates: [Gate::Buf(0); 64],
+        output,
+        fault_count: 0,
+        faults: [Fault::Stuck(0, false); 63],
+    };
+    for (place, fields) in job.gates.iter_mut().zip(gates) {
+        *place = gate(*fields);
+    }
+    job
+}
+
+fn written(job: &Job) -> Result<usize, u8> {
+    write(job, &mut [0; 300])
+}
+
+/// The bits of a circuit, up to the output line.
+fn bits(inputs: u8, gates: &[Fields], output: u8) -> String {
+    let mut bits = format!("{inputs:04b}{:07b}", gates.len());
+    for [kind, a, b] in gates {
+        bits += &format!("{kind:03b}{a:07b}{b:07b}");
+    }
+    bits + &format!("{output:07b}")
+}
+
+/// Bits as bytes, with zero bits up to a whole byte.
+fn bytes(bits: &str) -> Vec<u8> {
+    let byte = |bits: &[u8]| bits.iter().enumerate().fold(0, |byte, (i, bit)| byte | (bit - b'0') << (7 - i));
+    bits.as_bytes().chunks(8).map(byte).collect()
+}
+
+/// The refusal of a circuit without faults, or 0: the same in reading and in writing.
+fn number(inputs: u8, gates: &[Fields], output: u8) -> u8 {
+    let reading = read(&bytes(&(bits(inputs, gates, output) + "000000"))).err();
+    assert_eq!(reading, written(&record(inputs, gates, output)).err());
+    reading.unwrap_or(0)
+}
+
+#[test]
+fn the_outputs_own_gate() {
+    assert_eq!(number(2, &[[AND, 0, 1]], 2), 0);
+    assert_eq!(number(1, &[[NOT, 0, 0]], 1), 0);
+}
+
+#[test]
+fn read_through_other_gates() {
+    assert_eq!(number(2, &[[AND, 0, 1], [NOT, 2, 2], [OR, 3, 0]], 4), 0);
+    assert_eq!(number(2, &[[AND, 0, 1], [OR, 0, 1], [XOR, 2, 3]], 4), 0);
+    let chain: Vec<Fields> = (7..71).map(|line| [XOR, line, line]).collect();
+    assert_eq!(number(8, &chain, 71), 0);
+}
+
+#[test]
+fn read_by_nobody() {
+    // The last gate, the first one, one between.
+    assert_eq!(number(2, &[[AND, 0, 1], [OR, 0, 1]], 2), 19);
+    assert_eq!(number(2, &[[AND, 0, 1], [OR, 0, 1]], 3), 19);
+    assert_eq!(number(2, &[[AND, 0, 1], [OR, 0, 1], [NOT, 2, 2]], 4), 19);
+    let mut chain: Vec<Fields> = (7..71).map(|line| [BUF, line, line]).collect();
+    assert_eq!(number(8, &chain, 70), 19);
+    chain[63] = [BUF, 69, 69];
+    assert_eq!(number(8, &chain, 71), 19);
+    // All but the last.
+    chain[63] = [BUF, 0, 0];
+    assert_eq!(number(8, &chain, 71), 19);
+}
+
+#[test]
+fn read_by_loose_gates_only() {
+    assert_eq!(number(2, &[[AND, 0, 1], [OR, 0, 1], [NOT, 3, 3]], 2), 19);
+    assert_eq!(number(2, &[[AND, 0, 1], [NOT, 2, 2], [OR, 0, 1]], 4), 19);
+    // A gate that reads the output is none that the output reads.
+    assert_eq!(number(2, &[[AND, 0, 1], [NOT, 2, 2]], 2), 19);
+}
+
+#[test]
+fn output_on_an_input_line() {
+    assert_eq!(number(2, &[[AND, 0, 1]], 0), 19);
+    assert_eq!(number(2, &[[AND, 0, 1], [NOT, 2, 2]], 1), 19);
+    assert_eq!(number(2, &[], 0), 0);
+    assert_eq!(number(8, &[], 7), 0);
+}
+
+#[test]
+fn unused_inputs() {
+    assert_eq!(number(3, &[[BUF, 1, 1]], 3), 0);
+    assert_eq!(number(8, &[[AND, 2, 5], [NOT, 8, 8]], 9), 0);
+}
+
+#[test]
+fn read_without_influence() {
+    assert_eq!(number(2, &[[AND, 0, 1], [XOR, 2, 2]], 3), 0);
+    // An AND of a line with 0.
+    assert_eq!(number(2, &[[XOR, 0, 0], [OR, 0, 1], [AND, 2, 3]], 4), 0);
+}
+
+#[test]
+fn after_6() {
+    assert_eq!(number(2, &[[AND, 0, 1], [OR, 0, 1]], 3), 19);
+    assert_eq!(number(2, &[[AND, 0, 1], [OR, 0, 1]], 4), 6);
+    assert_eq!(number(2, &[[AND, 0, 1], [OR, 0, 1]], 127), 6);
+}
+
+#[test]
+fn before_the_fault_count_is_read() {
+    // 35 bits, of which the fifth byte ends inside the fault count.
+    let cut = |output| bytes(&bits(2, &[[AND, 0, 1]], output));
+    assert_eq!(cut(2).len(), 5);
+    assert_eq!(read(&cut(2)), Err(1));
+    assert_eq!(read(&cut(1)), Err(19));
+    assert_eq!(report(&cut(1)), b"refused 19\n");
+    // Inside the output line nothing is known of it yet.
+    assert_eq!(read(&cut(2)[..4]), Err(1));
+    assert_eq!(read(&cut(1)[..4]), Err(1));
+}
+
+#[test]
+fn before_all_that_follows() {
+    // A fault on no line, a stuck fault of two lines, a spare bit.
+    for (rest, number) in [("000001 01 1111111 1111111", 7), ("000001 00 0000000 0000001", 8), ("000000 1", 9)] {
+        let job = |output| bytes(&(bits(2, &[[AND, 0, 1]], output) + &rest.replace(' ', "")));
+        assert_eq!(read(&job(2)), Err(number));
+        assert_eq!(read(&job(1)), Err(19));
+    }
+}
+
+#[test]
+fn before_18_in_a_record() {
+    for (output, number) in [(2, 18), (1, 19), (3, 6)] {
+        let mut job = record(2, &[[AND, 0, 1]], output);
+        job.fault_count = 64;
+        assert_eq!(written(&job), Err(number));
+    }
+    // Unused gates are not looked at.
+    let mut job = record(2, &[[AND, 0, 1]], 2);
+    job.gates[1] = Gate::Or(0, 1);
+    assert_eq!(written(&job), Ok(6));
+}
