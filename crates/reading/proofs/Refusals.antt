@@ -1,18 +1,22 @@
 -- Which numbers reading refuses with (specs/Reading.antt).
 --
---   reading-refused   each has one or two digits, and is not 0
+--   reading-refused   1 to 9 and 19
+--   refused-digits    so each has one or two digits, and is not 0
 use Prim.Native.Nat.{ℕ, zero, suc, _+_, _≤_, _<_}
 use native.Mathlib.Omega.{arith}
-use mathlib.Core.Path.{_≡_, subst}
-use mathlib.Core.Bool.{Bool, true, false, _&&_}
+use mathlib.Core.Path.{_≡_, refl, subst}
+use mathlib.Core.Bool.{Bool, true, false, _&&_, _||_}
+use mathlib.Core.Logic.{_⊎_, inl, inr, ⊎-elim}
 use mathlib.Core.List.{List, []}
-use lib.Dec.{leb, ltb}
+use borrow.Author.Tests.{leb-true, eqb-true}
+use lib.Dec.{leb, ltb, eqb}
 use lib.ListN.{length, take, drop, set}
 use Rattle.bits.specs.Answer.{Answer, unless}
 use Rattle.bits.specs.Answer.Answer.{gives, refused}
 use Rattle.bits.specs.Bits.{stringOf, valueOf}
 use Rattle.bits.specs.Field.{spareOnly}
 use Rattle.bits.specs.Parser.{Parser, Parsed, parsed, field, check, andThen}
+use Rattle.bits.proofs.Tests.{and-l, and-r, or-cases}
 use Rattle.job.specs.Check.{inputsOk, gateCountOk, outputOk, faultLineOk}
 use Rattle.job.specs.Dependence.{noLoose}
 use Rattle.job.specs.Layout.{inputCountBits, gateCountBits, gateKindBits, lineBits, faultCountBits, faultKindBits}
@@ -20,8 +24,11 @@ use Rattle.job.specs.Record.{faultOf, lines, emptyJob}
 use Rattle.job.specs.declared.Job.{Job}
 use Rattle.reading.specs.Reading.{entryFields, unaryLinesOk, gate, faultLinesOk, fault, entriesFrom, spare, withGates, withOutput, withFaultCount, withFaults, withCounts, fromEnd, fromFaults, fromFaultCount, fromOutput, fromGates, wholeJob, valueRead, reading}
 
+abbrev isReadings : ℕ → Bool
+isReadings i = (leb 1 i && leb i 9) || eqb i 19
+
 abbrev Number : ℕ → Type 0
-Number i = (1 ≤ i) × (i < 100)
+Number i = isReadings i ≡ true
 
 abbrev Known : {A : Type 0} → Answer A → Type 0
 Known (gives a) = Unit {0}
@@ -38,7 +45,7 @@ known-unless false k r h more = h
 field-then : {B : Type 0} (w : ℕ) (bits : List ℕ) (f : ℕ → Parser B) → ((v : ℕ) (rest : List ℕ) → Known (f v rest)) → Known (andThen (field w bits) f)
 unfolding field
 field-then w bits f more =
-    known-then (field w bits) f (known-unless (leb w (length bits)) 1 (parsed (valueOf (take w bits)) (drop w bits)) (omega arith, omega arith) tt) more
+    known-then (field w bits) f (known-unless (leb w (length bits)) 1 (parsed (valueOf (take w bits)) (drop w bits)) refl tt) more
 
 check-then : {B : Type 0} (t : Bool) (k : ℕ) (bits : List ℕ) (f : Parser B) → Number k → ((rest : List ℕ) → Known (f rest)) → Known (andThen (check t k bits) (λ _. f))
 check-then t k bits f h more = known-then (check t k bits) (λ _. f) (known-unless t k (parsed tt bits) h tt) (λ _ rest. more rest)
@@ -51,15 +58,15 @@ gate-known : (own : ℕ) (bits : List ℕ) → Known (gate own bits)
 unfolding gate
 gate-known own bits =
     known-then (entryFields gateKindBits bits) _ (entryFields-known gateKindBits bits) λ e r₁.
-    check-then (ltb (e .a) own && ltb (e .b) own) 4 r₁ _ (omega arith, omega arith) λ r₂.
-    check-then (unaryLinesOk (e .kind) (e .a) (e .b)) 5 r₂ _ (omega arith, omega arith) λ r₃. tt
+    check-then (ltb (e .a) own && ltb (e .b) own) 4 r₁ _ refl λ r₂.
+    check-then (unaryLinesOk (e .kind) (e .a) (e .b)) 5 r₂ _ refl λ r₃. tt
 
 fault-known : (n count : ℕ) (bits : List ℕ) → Known (fault n count bits)
 unfolding fault
 fault-known n count bits =
     known-then (entryFields faultKindBits bits) _ (entryFields-known faultKindBits bits) λ e r₁.
-    check-then (faultLineOk n count (faultOf (e .kind) (e .a) (e .b))) 7 r₁ _ (omega arith, omega arith) λ r₂.
-    check-then (faultLinesOk (e .kind) (e .a) (e .b)) 8 r₂ _ (omega arith, omega arith) λ r₃. tt
+    check-then (faultLineOk n count (faultOf (e .kind) (e .a) (e .b))) 7 r₁ _ refl λ r₂.
+    check-then (faultLinesOk (e .kind) (e .a) (e .b)) 8 r₂ _ refl λ r₃. tt
 
 entries-known : {A : Type 0} (p : ℕ → Parser A) → ((i : ℕ) (bits : List ℕ) → Known (p i bits)) → (left i : ℕ) (entries : List A) (bits : List ℕ)
     → Known (entriesFrom p left i entries bits)
@@ -71,7 +78,7 @@ entries-known p each (suc left) i entries bits =
 fromEnd-known : (j : Job) (bits : List ℕ) → Known (fromEnd j bits)
 unfolding fromEnd spare
 fromEnd-known j bits =
-    known-then (unless (spareOnly bits) 9 (parsed tt [])) _ (known-unless (spareOnly bits) 9 (parsed tt []) (omega arith, omega arith) tt) λ _ rest. tt
+    known-then (unless (spareOnly bits) 9 (parsed tt [])) _ (known-unless (spareOnly bits) 9 (parsed tt []) refl tt) λ _ rest. tt
 
 fromFaults-known : (j : Job) (bits : List ℕ) → Known (fromFaults j bits)
 unfolding fromFaults
@@ -84,8 +91,8 @@ fromOutput-known : (j : Job) (bits : List ℕ) → Known (fromOutput j bits)
 unfolding fromOutput fromFaultCount
 fromOutput-known j bits =
     field-then lineBits bits _ λ line r₁.
-    check-then (outputOk (lines j) line) 6 r₁ _ (omega arith, omega arith) λ r₂.
-    check-then (noLoose (withOutput j line)) 19 r₂ _ (omega arith, omega arith) λ r₃.
+    check-then (outputOk (lines j) line) 6 r₁ _ refl λ r₂.
+    check-then (noLoose (withOutput j line)) 19 r₂ _ refl λ r₃.
     field-then faultCountBits r₃ _ λ f r₄.
     fromFaults-known (withFaultCount (withOutput j line) f) r₄
 
@@ -100,9 +107,9 @@ wholeJob-known : (bits : List ℕ) → Known (wholeJob bits)
 unfolding wholeJob
 wholeJob-known bits =
     field-then inputCountBits bits _ λ n r₁.
-    check-then (inputsOk n) 2 r₁ _ (omega arith, omega arith) λ r₂.
+    check-then (inputsOk n) 2 r₁ _ refl λ r₂.
     field-then gateCountBits r₂ _ λ g r₃.
-    check-then (gateCountOk g) 3 r₃ _ (omega arith, omega arith) λ r₄.
+    check-then (gateCountOk g) 3 r₃ _ refl λ r₄.
     fromGates-known (withCounts emptyJob n g) r₄
 
 value-known : {A : Type 0} (r : Answer (Parsed A)) → Known r → Known (valueRead r)
@@ -113,5 +120,11 @@ reading-known : (s : List ℕ) → Known (reading s)
 unfolding reading
 reading-known s = value-known (wholeJob (stringOf s)) (wholeJob-known (stringOf s))
 
-pub reading-refused : (s : List ℕ) {i : ℕ} → reading s ≡ refused i → (1 ≤ i) × (i < 100)
-reading-refused s e = subst (λ (a : Answer Job). Known a) e (reading-known s)
+pub reading-refused : (s : List ℕ) {i : ℕ} → reading s ≡ refused i → ((1 ≤ i) × (i ≤ 9)) ⊎ (i ≡ 19)
+reading-refused s {i} e =
+    ⊎-elim (λ h. inl (leb-true 1 i (and-l (leb 1 i) (leb i 9) h), leb-true i 9 (and-r (leb 1 i) (leb i 9) h))) (λ h. inr (eqb-true i 19 h))
+    (or-cases (leb 1 i && leb i 9) (eqb i 19) (subst (λ (a : Answer Job). Known a) e (reading-known s)))
+
+pub refused-digits : (s : List ℕ) {i : ℕ} → reading s ≡ refused i → (1 ≤ i) × (i < 100)
+refused-digits s {i} e =
+    ⊎-elim (λ h. let some = h .0 in let few = h .1 in (omega arith, omega arith)) (λ h. (omega arith, omega arith)) (reading-refused s e)

@@ -24,7 +24,7 @@ use Rattle.job.specs.Layout.{maxFaults}
 use Rattle.job.specs.declared.Job.{Job}
 use Rattle.job.proofs.Sizes.{most-inputs}
 use Rattle.reading.specs.Reading.{reading}
-use Rattle.reading.proofs.Refusals.{reading-refused}
+use Rattle.reading.proofs.Refusals.{refused-digits}
 use Rattle.reading.proofs.Validity.{reading-valid}
 use Rattle.tables.specs.Family.{Family, familyOf}
 use Rattle.tables.specs.Operations.{countsOf}
@@ -139,7 +139,7 @@ module _ (s work : List ℕ) where
 
   prints-read : (a : Answer Job) → reading s ≡ a
       → Prints (atExit (countsIn a) (onward a (λ j. chosenFrom Isolating (familyOf j) Mrm 0 (length work))) work) (reportBy a (length work))
-  prints-read (refused i) r = let known = reading-refused s r in prints-refused (countsIn (refused i)) i work (known .0) (known .1)
+  prints-read (refused i) r = let known = refused-digits s r in prints-refused (countsIn (refused i)) i work (known .0) (known .1)
   prints-read (gives j) r = prints-chosen j (reading-valid s j r) work
 
   prints-isolated : Prints isolated (reportText s (length work))

@@ -118,17 +118,15 @@ fn read_gate(field: u32, own: u8) -> Result<Gate, Refusal> {
 /// Whether some gate's line is neither the output nor read, directly or through other gates, by the gate that drives
 /// the output. Every gate reads lines below its own. An output that is an input has no gate, and uses none.
 fn has_loose_gate(inputs: u8, gates: &[Gate], output: u8) -> bool {
-    // What reads a line stands above it: when a gate's turn comes, from the last one down, its line is reached from the
-    // output or never will be.
-    let mut reached = [false; 256];
-    reached[usize::from(output)] = true;
-    for (q, gate) in gates.iter().enumerate().rev() {
-        if !reached[usize::from(inputs) + q] {
+    // The output and the lines reached from it, a bit each. What reads a line stands above it: when a gate's turn
+    // comes, from the last one down, its line is reached or never will be.
+    let mut reached = 1u128 << output;
+    for (gate, line) in gates.iter().zip(inputs..inputs + gates.len() as u8).rev() {
+        if reached >> line & 1 == 0 {
             return true;
         }
         let (_, a, b) = gate.fields();
-        reached[usize::from(a)] = true;
-        reached[usize::from(b)] = true;
+        reached |= 1 << a | 1 << b;
     }
     false
 }
