@@ -2,6 +2,7 @@
 --
 --   block-ext      blocks of equal lists are equal
 --   block-append   a block behind a block
+--   block-blocks   blocks side by side are one block
 --   length-block   lists of one length together have so many times that length
 --   block-at       element j of list i stands at i × length + j
 --   block-list     and the whole list from there on
@@ -28,6 +29,13 @@ block-append a (suc b) f =
     let e : suc (a + b) ≡ a + suc b = omega arith in
     sym (append-assoc (block a f) (block b (λ i. f (a + i))) (f (a + b)))
     ∙ ap (λ (l : List ℕ). l ++ f (a + b)) (block-append a b f) ∙ ap (λ (k : ℕ). block k f) e
+
+pub block-blocks : (a b : ℕ) (f : ℕ → List ℕ) → block a (λ i. block b (λ j. f (i * b + j))) ≡ block (a * b) f
+unfolding block
+block-blocks zero b f = ap (λ (k : ℕ). block k f) (sym (zero-mul b))
+block-blocks (suc a) b f =
+    ap (λ (l : List ℕ). l ++ block b (λ j. f (a * b + j))) (block-blocks a b f)
+    ∙ block-append (a * b) b f ∙ ap (λ (k : ℕ). block k f) (sym (suc-mul a b))
 
 pub length-block : (w : ℕ) (f : ℕ → List ℕ) → ((i : ℕ) → length (f i) ≡ w) → (c : ℕ) → length (block c f) ≡ c * w
 unfolding block

@@ -20,7 +20,7 @@ ghost use Rattle.bits.specs.Field.{fieldAt, from, maxPlace, maxWidth, sp
 
 pub mod sets;
 
-// The causes for which an operation refuses, in the order of their numbers in document 01, 1 to 18.
+// The causes for which an operation refuses, in the order of their numbers in documents 01 and 02.
 pub enum Refusal {
     BytesEnd,
     Inputs,
@@ -41,6 +41,7 @@ pub enum Refusal {
     Readings,
     Faults,
     LooseGate,
+    OutputNumber,
 }
 
 impl Refusal {
@@ -68,6 +69,7 @@ impl Refusal {
             Refusal::Readings => 17,
             Refusal::Faults => 18,
             Refusal::LooseGate => 19,
+            Refusal::OutputNumber => 20,
         }
     }
 }

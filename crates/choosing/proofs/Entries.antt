@@ -1,6 +1,6 @@
 -- The entries in the order of looking (specs/Choosing.antt).
 --
---   entries-one              with one output they are the indices' entries
+--   entries-within           the entries of indices below a bound
 --   entry-looked             every entry of an index below N at an output that there is, is looked at
 --   looked-entry             and no other
 --   agree-looked, looked-agree   rows agree on all entries when their coefficients are the same
@@ -15,15 +15,10 @@ use borrow.Author.Tests.{eq-eqb, eqb-true}
 use lib.Dec.{eqb}
 use Rattle.bits.proofs.Tests.{and-l, and-r, and-i}
 use Rattle.tables.specs.Family.{Family}
-use Rattle.spectra.specs.Listed.{Entry, entryAt, entriesAt}
+use Rattle.spectra.specs.Listed.{Entry}
 use Rattle.method.specs.Method.{agree}
 use Rattle.choosing.specs.Choosing.{scanOrder, outputsAt, entriesOf, scanEntries}
 use Rattle.choosing.proofs.Indices.{scan-has, scan-below}
-
-pub entries-one : (l : List ℕ) → entriesOf 1 l ≡ entriesAt l
-unfolding entriesOf outputsAt
-entries-one [] = refl
-entries-one (i ∷ l) = ap (λ (m : List Entry). entryAt i ∷ m) (entries-one l)
 
 outputs-has : (i outputs o : ℕ) → o < outputs → List·Memᴰ (record { index = i; output = o }) (outputsAt i outputs)
 unfolding outputsAt
@@ -73,6 +68,10 @@ entries-only outputs (x ∷ l) m =
     (λ p. let r = entries-only outputs l p in record { member = List·Memᴰ·tail (r .member); output = r .output })
     (List·Memᴰ·append-cases (outputsAt x outputs) m)
 
+pub entries-within : (outputs : ℕ) (l : List ℕ) (size : ℕ) → ((i : ℕ) → List·Memᴰ i l → i < size) → {e : Entry} → List·Memᴰ e (entriesOf outputs l)
+    → (e .index < size) × (e .output < outputs)
+entries-within outputs l size h m = let r = entries-only outputs l m in (h _ (r .member), r .output)
+
 -- ---- rows that agree on a list
 
 module _ {E : Type 0} (coef : ℕ → E → ℕ) where
@@ -98,7 +97,7 @@ module _ (F : Family) where
   entry-looked e h l = entries-has (F .outputs) (scanOrder (F .inputs)) (e .output) (scan-has (F .inputs) (e .index) h) l
 
   pub looked-entry : {e : Entry} → List·Memᴰ e (scanEntries F) → (e .index < 2 ^ (F .inputs)) × (e .output < F .outputs)
-  looked-entry m = let r = entries-only (F .outputs) (scanOrder (F .inputs)) m in (scan-below (F .inputs) (r .member), r .output)
+  looked-entry m = entries-within (F .outputs) (scanOrder (F .inputs)) (2 ^ (F .inputs)) (λ i p. scan-below (F .inputs) p) m
 
   module _ (coef : ℕ → Entry → ℕ) (a b : ℕ) where
     pub agree-looked : agree coef (scanEntries F) a b ≡ true → (e : Entry) → e .index < 2 ^ (F .inputs) → e .output < F .outputs → coef a e ≡ coef b e

@@ -25,7 +25,7 @@ pub alike-tables : (kind : Kind) (k : ℕ) (F : Family) → ValidFamily F → k 
 alike-tables kind k F v h a b =
     same-tests (agree (coefOf kind k F) (scanEntries F) a b) (sameTables F a b)
     (λ t. entries-tables F a b
-    (λ o m l. coefficients-unique kind (F .inputs) k (F .entry a o) (F .entry b o) (λ m _. v .bit a o m) (λ m _. v .bit b o m) h
+    (λ o m l. coefficients-unique kind (F .inputs) k (F .entry a o) (F .entry b o) (λ m _. v .bit a o m l) (λ m _. v .bit b o m l) h
     (λ j g. agree-looked F (coefOf kind k F) a b t (record { index = j; output = o }) g l) m))
     (λ t. looked-agree F (coefOf kind k F) a b
     (λ e _ l. coefficient-ext kind (F .inputs) k (F .entry a (e .output)) (F .entry b (e .output)) (e .index) h

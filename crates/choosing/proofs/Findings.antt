@@ -10,11 +10,11 @@
 --   job-unread        reading's refusals
 --   job-chosen        from the tables of a job's circuits it is choosing for the job
 use Prim.Native.Nat.{ℕ, zero, suc, _+_, _*_, _^_, _≤_, _<_}
-use native.Mathlib.Nat.{mul-one}
+use native.Mathlib.Nat.{mul-assoc, mul-comm, mul-le-mul}
 use native.Mathlib.Omega.{arith}
 use mathlib.Core.Path.{_≡_, refl, sym, ap, ap₂, subst, _∙_}
-use mathlib.Core.Bool.{Bool, true, not, cond, _&&_}
-use mathlib.Core.List.{List, [], _∷_, _++_, map}
+use mathlib.Core.Bool.{Bool, true, not, _&&_}
+use mathlib.Core.List.{List, [], _∷_, _++_, List·Memᴰ}
 use borrow.Author.Tests.{le-leb, ltb-true, ne-eqb}
 use lib.Dec.{leb, eqb}
 use lib.ListN.{length, getD, take, drop, length-append}
@@ -26,7 +26,6 @@ use Rattle.bits.specs.declared.Outcome.the-variants as outcomes
 use Rattle.bits.specs.declared.Refusal.{Refusal}
 use Rattle.bits.specs.Tabulation.{Tabulates}
 use Rattle.bits.proofs.Answers.{never-gives, refused-same, unless-onward, onward-onward}
-use Rattle.job.specs.Layout.{maxFaults}
 use Rattle.job.specs.declared.Job.{Job}
 use Rattle.reading.specs.Reading.{reading}
 use Rattle.bits.specs.Bounds.{eachBelow, allBelow}
@@ -35,12 +34,13 @@ use Rattle.tables.specs.Operations.{noCounts}
 use Rattle.tables.specs.declared.Counts.{Counts}
 use Rattle.tables.specs.declared.Delivery.{Delivery}
 use Rattle.tables.proofs.Families.{SameFamily, Delivers}
-use Rattle.spectra.specs.Listed.{Entry, coefOf, familySpectra, places, entryAt, entriesAt}
+use Rattle.spectra.specs.Codes.{codeOf, codesOf}
+use Rattle.spectra.specs.Listed.{Entry, coefOf, familySpectra, places}
 use Rattle.spectra.specs.Operations.{tablesChecked, tableFamily, fromTables, filledFrom, polarityOk}
 use Rattle.spectra.specs.Rows.{rowsOf}
 use Rattle.spectra.specs.declared.Kind.{Kind}
 use Rattle.spectra.proofs.Bounds.{coefficient-ext}
-use Rattle.spectra.proofs.Families.{length-familySpectra, work-index, spectra-same, Given, rows-given, checked-fits, fits-checked, unchecked, circuits-checked, listed-circuits, table-family-valid, Respects, delivered-family}
+use Rattle.spectra.proofs.Families.{length-familySpectra, work-entry, spectra-same, Given, rows-given, table-family-valid, Respects, delivered-family}
 use Rattle.method.specs.Method.{agree, signature, firstPair, Pair}
 use Rattle.method.specs.Method.Pair.{nobody, pair}
 use Rattle.method.proofs.Congruence.{agree-same, signature-same}
@@ -48,17 +48,20 @@ use Rattle.method.proofs.Firsts.{firstPair-same}
 use Rattle.method.proofs.Names.{agree-named, signature-named}
 use Rattle.bits.proofs.Tests.{by-test}
 use Rattle.chooser.specs.Matrix as chooser
-use Rattle.chooser.specs.Matrix.{cell, maxRows, fits, choiceOver, signatureOf}
+use Rattle.chooser.specs.Matrix.{cell, maxRows, fits, choiceOver}
 use Rattle.chooser.specs.declared.Choice as picked
-use Rattle.bits.proofs.Bounds.{each-same, members-below}
+use Rattle.bits.proofs.Bounds.{each-same}
 use Rattle.chooser.proofs.Relation.{choice-needed}
-use Rattle.choosing.specs.Choosing.{needed, scanOrder, scanEntries, Finding, findingBy, finding, chosenFrom, chosenOf, AtExit, found, atExit, countsIn, verdictNumber, verdictPair}
-use Rattle.choosing.specs.Looking.{mark, Filled, unchosen, chosenBy, chosenFor, chosenIn}
+use Rattle.choosing.specs.Choosing.{needed, scanOrder, entriesOf, scanEntries, signatureIn, alikePair, signatureOf, Finding, findingBy, finding, chosenFrom, chosenOf, AtExit, found, atExit, countsIn, verdictNumber, verdictPair}
+use Rattle.choosing.specs.Looking.{mark, Filled, unchosen, chosenBy, decodedFrom, chosenFor, scanCodes, chosenIn}
 use Rattle.choosing.specs.declared.Chosen.{Chosen}
 use Rattle.choosing.specs.declared.Purpose.{Purpose}
 use Rattle.choosing.specs.declared.Purpose.the-variants.{Isolating, Detecting}
 use Rattle.choosing.specs.declared.Verdict.the-variants.{Refused}
-use Rattle.choosing.proofs.Entries.{entries-one, looked-entry}
+use Rattle.choosing.specs.declared.Signature.{Signature}
+use Rattle.choosing.proofs.Bound.{signature-below}
+use Rattle.choosing.proofs.Entries.{entries-within, looked-entry}
+use Rattle.choosing.proofs.EntryNumbers.{length-codes, scan-size, codes-within, decoded-codes}
 use Rattle.choosing.proofs.Equality.{alike-tables}
 use Rattle.choosing.proofs.Indices.{scan-below}
 use Rattle.choosing.proofs.Sizes.{faults-rows}
@@ -73,9 +76,6 @@ mark-needed Detecting (suc a) (suc b) h = sym (ne-eqb (suc a) 0 (λ e. omega ari
 
 -- ---- the method over the work
 
-all-indices : (n : ℕ) → allBelow (2 ^ n) (scanOrder n) ≡ true
-all-indices n = members-below (2 ^ n) (scanOrder n) (λ e m. scan-below n m)
-
 module _ (counts : Counts) (work : List ℕ) (enough : Filled counts (length work)) where
   abbrev n : ℕ
   n = counts .inputs
@@ -83,41 +83,53 @@ module _ (counts : Counts) (work : List ℕ) (enough : Filled counts (length wor
   abbrev rows : ℕ
   rows = counts .faults + 1
 
-  filled-fits : fits work (2 ^ n) rows (scanOrder n) ≡ true
+  abbrev width : ℕ
+  width = counts .outputs * 2 ^ n
+
+  codes-below : allBelow width (scanCodes counts) ≡ true
+  codes-below =
+      codes-within (2 ^ n) (counts .outputs) (entriesOf (counts .outputs) (scanOrder n))
+      (λ e m. entries-within (counts .outputs) (scanOrder n) (2 ^ n) (λ i p. scan-below n p) m)
+
+  filled-fits : fits work width rows (scanCodes counts) ≡ true
   unfolding fits
   filled-fits =
       let few : rows ≤ maxRows = omega (arith, enough .faults-few, faults-rows) in
-      let some : 1 ≤ 2 ^ n = pow-pos n in
+      let some : 1 ≤ width = mul-le-mul (enough .one) (pow-pos n) in
+      let room : rows * width ≤ length work = subst (λ (x : ℕ). x ≤ length work) (mul-assoc rows (counts .outputs) (2 ^ n)) (enough .enough) in
       simp (
         le-leb 1 rows (omega arith),
         le-leb rows maxRows few,
-        le-leb 1 (2 ^ n) some,
-        le-leb (rows * 2 ^ n) (length work) (enough .enough),
-        all-indices n,
+        le-leb 1 width some,
+        le-leb (rows * width) (length work) room,
+        codes-below,
       )
 
   module _ (purpose : Purpose) where
-    told : (p : Pair) (l : List ℕ) → chosenBy counts (chooser.choiceBy p l .untold) (chooser.choiceBy p l .signature) ≡ chosenFor p counts l
+    told : (p : Pair) (l : List ℕ) → chosenBy counts (chooser.choiceBy p l .untold) (decodedFrom (2 ^ n) (chooser.choiceBy p l .signature)) ≡ chosenFor p counts l
     told nobody l = refl
     told (pair a b) l = refl
 
     -- the marks of the purpose tell which pairs are needed
     marked : (marks : List ℕ) → length marks ≡ maxRows → Tabulates maxRows (mark purpose) marks
-        → chooser.choice work (2 ^ n) rows marks (scanOrder n) ≡ choiceOver work (2 ^ n) rows (needed purpose) (scanOrder n)
+        → chooser.choice work width rows marks (scanCodes counts) ≡ choiceOver work width rows (needed purpose) (scanCodes counts)
     marked marks long of =
         let few : rows ≤ maxRows = omega (arith, enough .faults-few, faults-rows) in
-        choice-needed work (2 ^ n) rows marks (scanOrder n) (needed purpose) filled-fits (subst (λ (m : ℕ). rows ≤ m) (sym long) few)
+        choice-needed work width rows marks (scanCodes counts) (needed purpose) filled-fits (subst (λ (m : ℕ). rows ≤ m) (sym long) few)
         (λ a b h k. ap₂ (λ (x y : ℕ). not (eqb x y)) (of a (omega arith)) (of b (omega arith)) ∙ mark-needed purpose a b h)
 
-    pub filled-answer : (c : picked.Choice) (marks : List ℕ) (places : ℕ) (list : List ℕ) → length marks ≡ maxRows → Tabulates maxRows (mark purpose) marks
-        → places ≡ 2 ^ n → list ≡ scanOrder n → c ≡ chooser.choice work places rows marks list
-        → chosenBy counts (c .untold) (c .signature) ≡ chosenIn purpose counts (cell work (2 ^ n))
+    pub filled-answer : (c : picked.Choice) (marks : List ℕ) (count : ℕ) (list : List ℕ) → length marks ≡ maxRows → Tabulates maxRows (mark purpose) marks
+        → count ≡ length (scanCodes counts) → list ≡ scanCodes counts → c ≡ chooser.choice work count rows marks list
+        → chosenBy counts (c .untold) (decodedFrom (2 ^ n) (c .signature)) ≡ chosenIn purpose counts (cell work width)
     unfolding choiceOver
-    filled-answer c marks places list long of p q e =
-        ap (λ (x : picked.Choice). chosenBy counts (x .untold) (x .signature))
-        (e ∙ ap₂ (λ (x : ℕ) (l : List ℕ). chooser.choice work x rows marks l) p q ∙ marked marks long of)
-        ∙ told (firstPair rows (λ a b. needed purpose a b && agree (cell work (2 ^ n)) (scanOrder n) a b))
-        (signature (cell work (2 ^ n)) rows (needed purpose) (scanOrder n))
+    filled-answer c marks count list long of p q e =
+        let wide : count ≡ width =
+        p ∙ length-codes (2 ^ n) (counts .outputs) (scanOrder n) ∙ ap (λ (x : ℕ). x * counts .outputs) (scan-size n) ∙ mul-comm (2 ^ n) (counts .outputs)
+        in
+        ap (λ (x : picked.Choice). chosenBy counts (x .untold) (decodedFrom (2 ^ n) (x .signature)))
+        (e ∙ ap₂ (λ (x : ℕ) (l : List ℕ). chooser.choice work x rows marks l) wide q ∙ marked marks long of)
+        ∙ told (firstPair rows (λ a b. needed purpose a b && agree (cell work width) (scanCodes counts) a b))
+        (signature (cell work width) rows (needed purpose) (scanCodes counts))
 
 -- ---- families with the same entries
 
@@ -175,19 +187,15 @@ abbrev pub exited : Chosen → List ℕ → AtExit
 exited c memory =
     record { number = verdictNumber (c .verdict); pair = verdictPair (c .verdict); counts = c .counts; signature = c .signature; memory = memory }
 
--- the signature's indices, or nothing beside a pair
-exited-found : (p : Pair) (counts : Counts) (l : List ℕ) (memory : List ℕ)
-    → exited (chosenFor p counts l) memory ≡ found counts (findingBy p (entriesAt l)) memory
-exited-found nobody counts l memory =
-    ap (λ (m : List ℕ). record { number = 0; pair = nobody; counts = counts; signature = signatureOf m; memory = memory }) (back l)
-  where
-    back : (l : List ℕ) → l ≡ map (λ (e : Entry). e .index) (entriesAt l)
-    back [] = refl
-    back (i ∷ l) = ap (λ (m : List ℕ). i ∷ m) (back l)
-exited-found (pair a b) counts l memory = refl
+-- the signature's entries, or nothing beside a pair
+exited-found : (p : Pair) (counts : Counts) (l : List Entry) (memory : List ℕ) → ((e : Entry) → List·Memᴰ e l → e .index < 2 ^ (counts .inputs))
+    → exited (chosenFor p counts (codesOf (2 ^ (counts .inputs)) l)) memory ≡ found counts (findingBy p l) memory
+exited-found nobody counts l memory h =
+    ap (λ (x : Signature). record { number = 0; pair = nobody; counts = counts; signature = x; memory = memory })
+    (decoded-codes (2 ^ (counts .inputs)) l h)
+exited-found (pair a b) counts l memory h = refl
 
-module _ (purpose : Purpose) (counts : Counts) (s : List ℕ) (kind : Kind) (k : ℕ) (work : List ℕ) {circuits : ℕ}
-    (listed : circuits ≡ cond (leb (counts .faults) maxFaults) (counts .faults + 1) 0) where
+module _ (purpose : Purpose) (counts : Counts) (s : List ℕ) (kind : Kind) (k : ℕ) (work : List ℕ) where
   abbrev room : ℕ
   room = length work
 
@@ -207,32 +215,19 @@ module _ (purpose : Purpose) (counts : Counts) (s : List ℕ) (kind : Kind) (k :
       (unless-onward (leb (places F) room) 10 (gives (record { value = tt; filled = familySpectra kind k F })) (adds F))
 
   abbrev spectra : Answer (Fills (Unit {0}))
-  spectra = rowsOf (counts .inputs) circuits s kind k room
+  spectra = rowsOf counts s kind k room
 
   -- the family of the tables
   abbrev family : Family
-  family = tableFamily (counts .inputs) (counts .faults + 1) s
+  family = tableFamily counts s
 
   abbrev answer : Answer (Fills Finding)
-  answer = fromTables (counts .inputs) (counts .faults + 1) s choosing
-
-  -- the tables that pass have as many circuits as the counts tell
-  counted : tablesChecked (counts .inputs) circuits s ≡ gives tt → circuits ≡ counts .faults + 1
-  counted e = listed-circuits (counts .faults) listed (checked-fits (counts .inputs) circuits s e .listed)
-
-  answer-from : (a : Answer (Unit {0})) → tablesChecked (counts .inputs) (counts .faults + 1) s ≡ a → onward spectra (adds family) ≡ answer
-  answer-from (refused i) e =
-      let same = circuits-checked (counts .inputs) (counts .faults) s listed in
-      ap (λ (x : Answer (Fills (Unit {0}))). onward x (adds family)) (unchecked (counts .inputs) circuits s (λ F. filledFrom F kind k room) (same ∙ e))
-      ∙ sym (unchecked (counts .inputs) (counts .faults + 1) s choosing e)
-  answer-from (gives tt) e =
-      let same = circuits-checked (counts .inputs) (counts .faults) s listed in
-      ap (λ (x : ℕ). onward (rowsOf (counts .inputs) x s kind k room) (adds family)) (counted (same ∙ e))
-      ∙ onward-onward (tablesChecked (counts .inputs) (counts .faults + 1) s) (λ _. filledFrom family kind k room) (adds family)
-      ∙ ap (λ (x : Answer (Fills Finding)). onward (tablesChecked (counts .inputs) (counts .faults + 1) s) (λ _. x)) (goes-on family)
+  answer = fromTables counts s choosing
 
   answer-onward : onward spectra (adds family) ≡ answer
-  answer-onward = answer-from (tablesChecked (counts .inputs) (counts .faults + 1) s) refl
+  answer-onward =
+      onward-onward (tablesChecked counts s) (λ _. filledFrom family kind k room) (adds family)
+      ∙ ap (λ (x : Answer (Fills Finding)). onward (tablesChecked counts s) (λ _. x)) (goes-on family)
 
   module _ (r : Outcome) (after : List ℕ) (p : record { answer = outcome r; memory = after } ≡ leaves spectra work) where
     unfilled : (x : Answer (Fills (Unit {0}))) → x ≡ spectra → (cause : Refusal) → r ≡ outcomes.Refused cause
@@ -257,30 +252,25 @@ module _ (purpose : Purpose) (counts : Counts) (s : List ℕ) (kind : Kind) (k :
       now : Fills (Unit {0})
       is : spectra ≡ gives now
       done : after ≡ now .filled ++ drop (length (now .filled)) work
-      given : Given (counts .inputs) (counts .faults + 1) s kind k room (now .filled)
+      given : Given counts s kind k room (now .filled)
 
     fully : (x : Answer (Fills (Unit {0}))) → x ≡ spectra → r ≡ outcomes.Done → Full
     fully (refused i) e q =
         absurd (never-gives (sym (ap (λ (x : Leaves (Unit {0})). x .answer) (p ∙ ap (λ (x : Answer (Fills (Unit {0}))). leaves x work) (sym e))) ∙ ap outcome q))
     fully (gives w) e q =
-        let g = rows-given (counts .inputs) circuits s kind k room (sym e) in
         record {
           now = w;
           is = sym e;
           done = ap (λ (x : Leaves (Unit {0})). x .memory) (p ∙ ap (λ (x : Answer (Fills (Unit {0}))). leaves x work) (sym e));
-          given =
-              subst (λ (x : ℕ). Given (counts .inputs) x s kind k room (w .filled))
-              (counted (fits-checked (counts .inputs) circuits s (g .fits))) g;
+          given = rows-given counts s kind k room (sym e);
         }
 
     module _ (q : r ≡ outcomes.Done) where
       full : Full
       full = fully spectra refl q
 
-      length-filled : length (full .now .filled) ≡ (counts .faults + 1) * 2 ^ (counts .inputs)
-      length-filled =
-          ap length (full .given .spectra) ∙ length-familySpectra kind k family
-          ∙ ap (λ (x : ℕ). x * 2 ^ (counts .inputs)) (mul-one (counts .faults + 1))
+      length-filled : length (full .now .filled) ≡ (counts .faults + 1) * counts .outputs * 2 ^ (counts .inputs)
+      length-filled = ap length (full .given .spectra) ∙ length-familySpectra kind k family
 
       pub chosen-room : Filled counts (length after)
       chosen-room =
@@ -288,58 +278,58 @@ module _ (purpose : Purpose) (counts : Counts) (s : List ℕ) (kind : Kind) (k :
           ap length (full .done) ∙ length-append (full .now .filled) _ in
           record {
             inputs-few = full .given .fits .few;
-            faults-few = omega (arith, full .given .fits .listed-few);
+            one = full .given .fits .one;
+            outputs-few = full .given .fits .outputs-few;
+            faults-few = full .given .fits .faults-few;
             enough = omega (arith, length-filled);
           }
 
+      abbrev size : ℕ
+      size = 2 ^ (counts .inputs)
+
       -- the work's numbers are the coefficients
       coef : ℕ → ℕ → ℕ
-      coef = cell after (2 ^ (counts .inputs))
+      coef = cell after (counts .outputs * size)
 
-      coef-at : (c i : ℕ) → c < counts .faults + 1 → i < 2 ^ (counts .inputs) → coef c i ≡ coefOf kind k family c (entryAt i)
+      coef-at : (c : ℕ) (e : Entry) → c < counts .faults + 1 → List·Memᴰ e (scanEntries family) → coef c (codeOf size e) ≡ coefOf kind k family c e
       unfolding coef
-      coef-at c i h l =
-          ap (λ (m : List ℕ). getD m (c * 2 ^ (counts .inputs) + i) 0)
+      coef-at c e h m =
+          ap (λ (l : List ℕ). getD l (c * (counts .outputs * size) + codeOf size e) 0)
           (full .done ∙ ap (λ (x : List ℕ). x ++ drop (length (full .now .filled)) work) (full .given .spectra))
-          ∙ work-index kind k family (drop (length (full .now .filled)) work) refl c i h l
+          ∙ work-entry kind k family (drop (length (full .now .filled)) work) c e h (looked-entry family m .0) (looked-entry family m .1)
 
-      looked : entriesAt (scanOrder (counts .inputs)) ≡ scanEntries family
-      looked = sym (entries-one (scanOrder (counts .inputs)))
+      -- a row's number at an entry
+      abbrev numbered : ℕ → Entry → ℕ
+      numbered c e = coef c (codeOf size e)
 
-      -- a row's coefficient at an index
-      abbrev indexed : ℕ → ℕ → ℕ
-      indexed c i = coefOf kind k family c (entryAt i)
-
-      agree-tables : (a b : ℕ) → a < b → b < counts .faults + 1 → agree coef (scanOrder (counts .inputs)) a b ≡ sameTables family a b
+      agree-tables : (a b : ℕ) → a < b → b < counts .faults + 1 → agree coef (scanCodes counts) a b ≡ sameTables family a b
       agree-tables a b h l =
-          agree-same coef indexed (scanOrder (counts .inputs)) a b
-          (λ e m. coef-at a e (omega arith) (scan-below (counts .inputs) m)) (λ e m. coef-at b e l (scan-below (counts .inputs) m))
-          ∙ sym (agree-named entryAt (coefOf kind k family) (scanOrder (counts .inputs)) a b)
-          ∙ ap (λ (m : List Entry). agree (coefOf kind k family) m a b) looked
-          ∙ alike-tables kind k family (table-family-valid (counts .inputs) (counts .faults + 1) s (full .given .fits)) (full .given .below) a b
+          agree-named (codeOf size) coef (scanEntries family) a b
+          ∙ agree-same numbered (coefOf kind k family) (scanEntries family) a b
+          (λ e m. coef-at a e (omega arith) m) (λ e m. coef-at b e l m)
+          ∙ alike-tables kind k family (table-family-valid counts s (full .given .fits)) (full .given .below) a b
 
-      -- what is found over the work is the finding
-      found-so : findingBy (firstPair (counts .faults + 1) (λ a b. needed purpose a b && agree coef (scanOrder (counts .inputs)) a b))
-          (entriesAt (signature coef (counts .faults + 1) (needed purpose) (scanOrder (counts .inputs))))
-          ≡ finding purpose kind k family
-      found-so =
-          ap₂ findingBy
-          (firstPair-same (counts .faults + 1) (λ a b. needed purpose a b && agree coef (scanOrder (counts .inputs)) a b)
+      -- the signature over the work has the entries' numbers
+      signed-so : signature coef (counts .faults + 1) (needed purpose) (scanCodes counts) ≡ codesOf size (signatureIn purpose kind k family)
+      signed-so =
+          signature-named (codeOf size) coef (counts .faults + 1) (needed purpose) (scanEntries family)
+          ∙ ap (codesOf size)
+          (signature-same numbered (coefOf kind k family) (counts .faults + 1) (needed purpose) (needed purpose) (scanEntries family)
+          (λ c e h m. coef-at c e h m) (λ a b h l. refl))
+
+      paired-so : firstPair (counts .faults + 1) (λ a b. needed purpose a b && agree coef (scanCodes counts) a b) ≡ alikePair purpose family
+      paired-so =
+          firstPair-same (counts .faults + 1) (λ a b. needed purpose a b && agree coef (scanCodes counts) a b)
           (λ a b. needed purpose a b && sameTables family a b)
-          (λ a b h l. ap (λ (t : Bool). needed purpose a b && t) (agree-tables a b h l)))
-          (ap entriesAt
-          (signature-same coef indexed (counts .faults + 1) (needed purpose) (needed purpose) (scanOrder (counts .inputs))
-          (λ c e h m. coef-at c e h (scan-below (counts .inputs) m)) (λ a b h l. refl))
-          ∙ sym (signature-named entryAt (coefOf kind k family) (counts .faults + 1) (needed purpose) (scanOrder (counts .inputs)))
-          ∙ ap (signature (coefOf kind k family) (counts .faults + 1) (needed purpose)) looked)
+          (λ a b h l. ap (λ (t : Bool). needed purpose a b && t) (agree-tables a b h l))
 
-      pub chosen-filled : {c : Chosen} → c ≡ chosenIn purpose counts (cell after (2 ^ (counts .inputs))) → exited c after ≡ atExit counts answer work
+      pub chosen-filled : {c : Chosen} → c ≡ chosenIn purpose counts (cell after (counts .outputs * size)) → exited c after ≡ atExit counts answer work
       unfolding coef
       chosen-filled {c} e =
           ap (λ (x : Chosen). exited x after) e
-          ∙ exited-found (firstPair (counts .faults + 1) (λ a b. needed purpose a b && agree coef (scanOrder (counts .inputs)) a b)) counts
-          (signature coef (counts .faults + 1) (needed purpose) (scanOrder (counts .inputs))) after
-          ∙ ap₂ (found counts) found-so (full .done)
+          ∙ ap₂ (λ (p : Pair) (l : List ℕ). exited (chosenFor p counts l) after) paired-so signed-so
+          ∙ exited-found (alikePair purpose family) counts (signatureIn purpose kind k family) after (λ e m. signature-below purpose kind k family e m .0)
+          ∙ ap (found counts (finding purpose kind k family)) (full .done)
           ∙ ap (λ (x : Answer (Fills Finding)). atExit counts x work)
           (ap (λ (x : Answer (Fills (Unit {0}))). onward x (adds family)) (sym (full .is)) ∙ answer-onward)
 
@@ -353,7 +343,7 @@ module _ (purpose : Purpose) (s : List ℕ) (kind : Kind) (k : ℕ) (work : List
       ∙ ap (λ (x : Answer Job). atExit (countsIn x) (onward x (λ j. chosenFrom purpose (familyOf j) kind k (length work))) work) (sym e)
 
   pub job-chosen : {r : Delivery} {packed : List ℕ} (d : Delivers s r packed)
-      → atExit (r .counts) (fromTables (r .counts .inputs) (r .counts .faults + 1) (take (r .bytes) packed) (λ F. chosenFrom purpose F kind k (length work))) work
+      → atExit (r .counts) (fromTables (r .counts) (take (r .bytes) packed) (λ F. chosenFrom purpose F kind k (length work))) work
       ≡ atExit (countsIn (reading s)) (chosenOf purpose s kind k (length work)) work
   job-chosen {r} {packed} d =
       ap₂ (λ (c : Counts) (x : Answer (Fills Finding)). atExit c x work) (d .counted)

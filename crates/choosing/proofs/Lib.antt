@@ -2,6 +2,7 @@ pub mod ASample
 pub mod Arrays
 pub mod Bound
 pub mod Entries
+pub mod EntryNumbers
 pub mod Equality
 pub mod Findings
 pub mod Indices

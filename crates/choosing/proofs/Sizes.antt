@@ -4,11 +4,12 @@
 --   faults-entries   a signature has room for as many entries as a job has faults
 --   rows-fit         a row's number fits in a byte
 --   places-fit       an index fits in two bytes
+--   entries-fit      so does an entry's number
 use Prim.Native.Nat.{_+_, _^_, _≤_, _<_}
 use lib.Dec.{lit≤, lit<}
-use Rattle.job.specs.Layout.{maxInputs, maxFaults}
+use Rattle.job.specs.Layout.{maxInputs, maxOutputs, maxFaults}
 use Rattle.chooser.specs.Matrix.{maxRows, maxSignature}
-use Rattle.choosing.specs.Looking.{maxPlaces}
+use Rattle.choosing.specs.Looking.{maxPlaces, maxEntries}
 
 pub faults-rows : maxFaults + 1 ≤ maxRows
 unfolding maxFaults maxRows
@@ -25,3 +26,7 @@ rows-fit = lit< tt
 pub places-fit : maxPlaces ≤ 2 ^ 16
 unfolding maxPlaces maxInputs
 places-fit = lit≤ tt
+
+pub entries-fit : maxEntries ≤ 2 ^ 16
+unfolding maxEntries maxOutputs maxPlaces maxInputs
+entries-fit = lit≤ tt

@@ -1,19 +1,21 @@
--- Believed: choosing a signature for listed circuits, and for a job (document 01, "Choosing" and "Refusal by operation").
+-- Believed: choosing a signature for listed circuits, and for a job (document 01, "Choosing" and "Refusal by operation"; document 02, CR 2).
 --
 --   needed        which pairs of circuits a purpose needs told apart
 --   scanOrder     "The order of an index is its number of ones. Indices are looked at by order, then by value."
---   scanEntries   the entries in the order of looking
+--   scanEntries   the entries, "looked at by order, index, then output"
 --   signatureIn   the signature of the method
 --   alikePair     the first needed pair with equal tables
 --   finding       the signature, or the pair
 --   chosenFrom    what choosing finds and fills for listed circuits, given the length of the lent work
 --   chosenOf      the same for a job
+--   signatureOf   entries as the signature that is answered
 --   atExit        what a call answers and leaves
-use Prim.Native.Nat.{ℕ, zero, suc, _+_, _^_}
+use Prim.Native.Nat.{ℕ, zero, suc, _+_, _-_, _^_}
 use mathlib.Core.Bool.{Bool, true, _&&_}
-use mathlib.Core.List.{List, [], _∷_, _++_, map}
+use mathlib.Core.List.{List, [], _∷_, _++_}
 use lib.Count.{ones}
 use lib.Dec.{leb, eqb}
+use lib.ListN.{length}
 use Rattle.bits.specs.Answer.{Answer, Fills, leaves, number, unless, onward}
 use Rattle.bits.specs.Answer.Answer.{gives, refused}
 use Rattle.bits.specs.Passing.{passing}
@@ -22,15 +24,15 @@ use Rattle.reading.specs.Reading.{reading}
 use Rattle.tables.specs.Family.{Family, familyOf, sameTables}
 use Rattle.tables.specs.Operations.{countsOf, noCounts}
 use Rattle.tables.specs.declared.Counts.{Counts}
-use Rattle.spectra.specs.Listed.{Entry, coefOf, familySpectra, places}
+use Rattle.spectra.specs.Listed.{Entry, coefOf, familySpectra, places, indicesOf, outputsOf}
 use Rattle.spectra.specs.Operations.{polarityOk}
 use Rattle.spectra.specs.declared.Kind.{Kind}
 use Rattle.method.specs.Method.{signature, firstPair, Pair}
 use Rattle.method.specs.Method.Pair.{nobody, pair}
-use Rattle.chooser.specs.Matrix.{signatureOf}
-use Rattle.chooser.specs.declared.Signature.{Signature}
+use Rattle.chooser.specs.Matrix.{maxSignature, zeros}
 use Rattle.choosing.specs.declared.Purpose.{Purpose}
 use Rattle.choosing.specs.declared.Purpose.the-variants.{Isolating, Detecting}
+use Rattle.choosing.specs.declared.Signature.{Signature}
 use Rattle.choosing.specs.declared.Verdict.{Verdict}
 use Rattle.choosing.specs.declared.Verdict.the-variants.{Done, Alike, Refused}
 
@@ -78,7 +80,7 @@ findingBy (pair a b) list = alike a b
 abbrev pub finding : Purpose → Kind → ℕ → Family → Finding
 finding purpose kind k F = findingBy (alikePair purpose F) (signatureIn purpose kind k F)
 
--- "13; 10, fewer than (f+1) × N places"; 15 is found, for under it too "the work holds all spectra"
+-- "13; 10 ..", which "follows that size", (f+1) × outputs × N; 15 is found, for under it too "the work holds all spectra"
 unfoldable pub chosenFrom : Purpose → Family → Kind → ℕ → ℕ → Answer (Fills Finding)
 chosenFrom purpose F kind k room =
     unless (polarityOk (F .inputs) k) 13
@@ -88,6 +90,15 @@ chosenFrom purpose F kind k room =
 -- "Choosing: reading's; 13; 10 ..; 15"
 abbrev pub chosenOf : Purpose → List ℕ → Kind → ℕ → ℕ → Answer (Fills Finding)
 chosenOf purpose s kind k room = onward (reading s) (λ j. chosenFrom purpose (familyOf j) kind k room)
+
+-- an index and an output for each entry, and 0 at the places past them
+abbrev pub signatureOf : List Entry → Signature
+signatureOf l =
+    record {
+      count = length l;
+      indices = indicesOf l ++ zeros (maxSignature - length l);
+      outputs = outputsOf l ++ zeros (maxSignature - length l);
+    }
 
 -- what a call answers and leaves: a refusal's number, 0 for success; the pair that comes with 15; the counts; the signature; the work
 pub record AtExit : Type 0 where
@@ -99,8 +110,7 @@ pub record AtExit : Type 0 where
 
 -- "15, a needed pair has equal tables. With 15 comes the first such pair"; counts are 0, and the signature is empty, beside every refusal
 abbrev pub found : Counts → Finding → List ℕ → AtExit
-found counts (chosen list) memory =
-    record { number = 0; pair = nobody; counts = counts; signature = signatureOf (map (λ (e : Entry). e .index) list); memory = memory }
+found counts (chosen list) memory = record { number = 0; pair = nobody; counts = counts; signature = signatureOf list; memory = memory }
 found counts (alike a b) memory = record { number = 15; pair = pair a b; counts = noCounts; signature = signatureOf []; memory = memory }
 
 abbrev pub atExit : Counts → Answer (Fills Finding) → List ℕ → AtExit

@@ -1,27 +1,33 @@
 // Signatures: the few coefficients that tell the listed circuits apart (document 01, "Choosing").
 //
-// The tables are transformed into the lent work, which is the chooser's matrix: a row a circuit, an entry an index. The
-// marks say which pairs are needed: a circuit's own number for isolating; 0 for the good circuit and 1 for the others
-// for detecting.
+// The tables are transformed into the lent work, which is the chooser's matrix: a row a circuit, with the coefficients
+// of one output after those of another. So an entry, an index and an output, is one number to the chooser, output × N +
+// index. The marks say which pairs are needed: a circuit's own number for isolating; 0 for the good circuit and 1 for
+// the others for detecting.
 //
-// The order of looking, by number of ones, then by value, is made without sorting: each index goes to the next place of
-// its order. The first place of an order is the number of indices of lower order, by Pascal's rule.
-ghost use Prim.Native.Nat.{_+_, _^_, _≤_, _<_};
+// The order of looking, by number of ones, then by value, then by output, is made without sorting: each index goes to the
+// next place of its order, and then each index gives its entries. The first place of an order is the number of indices
+// of lower order, by Pascal's rule.
+ghost use Prim.Native.Nat.{_+_, _*_, _^_, _≤_, _<_};
 ghost use mathlib.Core.Path.{_≡_};
+ghost use mathlib.Core.Bool.{true};
 ghost use mathlib.Core.List.{[]};
 ghost use lib.Count.{ones};
 ghost use lib.ListN.{length};
-ghost use Rattle.job.specs.Layout.{maxInputs};
+ghost use Rattle.job.specs.Layout.{maxInputs, maxOutputs};
+ghost use Rattle.bits.specs.Bounds.{allBelow};
+ghost use Rattle.bits.specs.Slices.{splice};
 ghost use Rattle.bits.specs.Tabulation.{Tabulates};
-ghost use Rattle.chooser.specs.Matrix.{cell, maxRows, signatureOf};
+ghost use Rattle.chooser.specs.Matrix.{cell, maxRows, maxSignature};
 ghost use Rattle.reading.specs.Reading.{reading};
 ghost use Rattle.tables.specs.Operations.{noCounts};
+ghost use Rattle.spectra.specs.Codes.{codesOf};
 ghost use Rattle.spectra.specs.Operations.{fromTables};
-ghost use Rattle.choosing.specs.Choosing.{scanTo, scanOrder, chosenFrom, chosenOf, countsIn, atExit, verdictNumber, verdictPair};
-ghost use Rattle.choosing.specs.Looking.{maxPlaces, maxOrders, mark, Few, summed, Placed, Listed, Filled, chosenBy, chosenIn};
+ghost use Rattle.choosing.specs.Choosing.{scanTo, scanOrder, outputsAt, entriesOf, signatureOf, chosenFrom, chosenOf, countsIn, atExit, verdictNumber, verdictPair};
+ghost use Rattle.choosing.specs.Looking.{maxPlaces, maxOrders, mark, Few, summed, Placed, Listed, Filled, decodedOf, chosenBy, chosenIn};
 use bits::Outcome;
 use bits::Refusal;
-use chooser::Signature;
+use chooser::MAX_SIGNATURE;
 use chooser::Untold;
 use spectra::Kind;
 use tables::ALL_TABLES_BYTES;
@@ -40,6 +46,13 @@ pub enum Verdict {
     Refused(Refusal),
 }
 
+// Entries in the order of taking, an index and an output each; the places past the count are 0.
+pub struct Signature {
+    pub count: usize,
+    pub indices: [u16; MAX_SIGNATURE],
+    pub outputs: [u16; MAX_SIGNATURE],
+}
+
 // Beside a pair or a refusal the counts are 0, and the signature is empty.
 pub struct Chosen {
     pub verdict: Verdict,
@@ -47,8 +60,11 @@ pub struct Chosen {
     pub signature: Signature,
 }
 
-// The most coefficients of a circuit.
+// The most coefficients of a circuit at one output.
 const MAX_PLACES: usize = 1 << job::MAX_INPUTS;
+
+// And at all outputs.
+const MAX_ENTRIES: usize = job::MAX_OUTPUTS * MAX_PLACES;
 
 // An index has as many ones as there are inputs, or fewer.
 const MAX_ORDERS: usize = job::MAX_INPUTS + 1;
@@ -72,6 +88,12 @@ struct PerOrder {
 struct Scan {
     count: usize,
     of: [u16; MAX_PLACES],
+}
+
+// Entries in the order of looking, each as one number.
+struct Codes {
+    count: usize,
+    of: [u16; MAX_ENTRIES],
 }
 
 // The mark of a circuit: its own number, or whether it is a faulty one.
@@ -175,6 +197,68 @@ fn scan_order(n: usize) -> Scan
     put_indices(&orders.of, firsts, size)
 }
 
+// Puts the entries of an index from a place on: one for each output.
+fn put_outputs(of: &mut [u16], at: usize, index: usize, size: usize, outputs: usize)
+    requires { ⌜ (index < size) × (size ≤ maxPlaces) × (outputs ≤ maxOutputs) × (at + outputs ≤ length (now of)) ⌝ }
+    ensures { λ r. ⌜ now (of .exit) ≡ splice (now (of .entry)) at (codesOf size (outputsAt index outputs)) ⌝ }
+{
+    let mut o = 0;
+    while o < outputs {
+        of[at + o] = (o * size + index) as u16;
+        o += 1;
+    }
+}
+
+// Puts the entries of indices, index after index, from the start.
+fn put_entries(of: &mut [u16], indices: &[u16], size: usize, outputs: usize)
+    requires { ⌜ (allBelow size (now indices) ≡ true) × (size ≤ maxPlaces) × (outputs ≤ maxOutputs) × (length (now indices) * outputs ≤ length (now of)) ⌝ }
+    ensures { λ r. ⌜ now (of .exit) ≡ splice (now (of .entry)) 0 (codesOf size (entriesOf outputs (now (indices .entry)))) ⌝ }
+{
+    let mut i = 0;
+    while i < indices.len() {
+        put_outputs(of, i * outputs, indices[i] as usize, size, outputs);
+        i += 1;
+    }
+}
+
+// The entries of n inputs and so many outputs, by order, by value, then by output.
+fn scan_entries(n: usize, outputs: usize) -> Codes
+    requires { ⌜ (n ≤ maxInputs) × (outputs ≤ maxOutputs) ⌝ }
+    ensures { λ r. ⌜ Listed (codesOf (2 ^ n) (entriesOf outputs (scanOrder n))) (r .count) (r .of) ⌝ }
+{
+    let scan = scan_order(n);
+    let size = scan.count;
+    let indices = scan.of;
+    let mut of = [0u16; MAX_ENTRIES];
+    put_entries(&mut of, &indices[..size], size, outputs);
+    Codes {
+        count: size * outputs,
+        of,
+    }
+}
+
+// A signature's entries, whose numbers are taken apart; so are the 0s past them.
+fn decoded(count: usize, codes: &[u16], n: usize) -> Signature
+    requires { ⌜ (length (now codes) ≡ maxSignature) × (n ≤ maxInputs) ⌝ }
+    ensures { λ r. ⌜ r ≡ decodedOf (2 ^ n) count (now (codes .entry)) ⌝ }
+{
+    let mut indices = [0u16; MAX_SIGNATURE];
+    let mut outputs = [0u16; MAX_SIGNATURE];
+    let mut i = 0;
+    while i < MAX_SIGNATURE {
+        let code = codes[i] as usize;
+        let output = code >> n;
+        outputs[i] = output as u16;
+        indices[i] = (code - (output << n)) as u16;
+        i += 1;
+    }
+    Signature {
+        count,
+        indices,
+        outputs,
+    }
+}
+
 // What stands beside a pair or a refusal.
 fn unchosen(verdict: Verdict) -> Chosen
     ensures { λ r. ⌜ r ≡ record { verdict = verdict; counts = noCounts; signature = signatureOf [] } ⌝ }
@@ -184,11 +268,13 @@ fn unchosen(verdict: Verdict) -> Chosen
         counts: Counts {
             inputs: 0,
             gates: 0,
+            outputs: 0,
             faults: 0,
         },
         signature: Signature {
             count: 0,
-            entries: [0u16; chooser::MAX_SIGNATURE],
+            indices: [0u16; MAX_SIGNATURE],
+            outputs: [0u16; MAX_SIGNATURE],
         },
     }
 }
@@ -211,16 +297,22 @@ fn concluded(counts: Counts, untold: Untold, signature: Signature) -> Chosen
 // What the method chooses from the spectra in the work.
 fn choose_filled(work: &[u16], counts: Counts, purpose: Purpose) -> Chosen
     requires { ⌜ Filled counts (length (now work)) ⌝ }
-    ensures { λ r. ⌜ r ≡ chosenIn purpose counts (cell (now (work .entry)) (2 ^ (counts .inputs))) ⌝ }
+    ensures { λ r. ⌜ r ≡ chosenIn purpose counts (cell (now (work .entry)) (counts .outputs * 2 ^ (counts .inputs))) ⌝ }
 {
     let marks = marks_of(purpose);
-    let scan = scan_order(counts.inputs);
+    let scan = scan_entries(counts.inputs, counts.outputs);
+    // every number of a circuit is an entry's, so there are as many as a row is wide
     let count = scan.count;
-    let indices = scan.of;
-    let size = bits::table_size(counts.inputs);
-    let choice = chooser::choose(work, size, counts.faults + 1, &marks.of, &indices[..count]);
+    let codes = scan.of;
+    let choice = chooser::choose(work, count, counts.faults + 1, &marks.of, &codes[..count]);
     let untold = choice.untold;
-    concluded(counts, untold, choice.signature)
+    let coded = choice.signature;
+    let entries = coded.entries;
+    concluded(
+        counts,
+        untold,
+        decoded(coded.count, &entries, counts.inputs),
+    )
 }
 
 // The signature that tells the counted circuits apart, from their tables, one after the other: 2; 12; 13; 10; 15 with the first needed pair that is alike.
@@ -232,10 +324,9 @@ pub fn choose_tables(
     polarity: usize,
     work: &mut [u16],
 ) -> Chosen
-    ensures { λ r. ⌜ record { number = verdictNumber (r .verdict); pair = verdictPair (r .verdict); counts = r .counts; signature = r .signature; memory = now (work .exit) } ≡ atExit counts (fromTables (counts .inputs) (counts .faults + 1) (now (tables .entry)) (λ F. chosenFrom purpose F kind polarity (length (now (work .entry))))) (now (work .entry)) ⌝ }
+    ensures { λ r. ⌜ record { number = verdictNumber (r .verdict); pair = verdictPair (r .verdict); counts = r .counts; signature = r .signature; memory = now (work .exit) } ≡ atExit counts (fromTables counts (now (tables .entry)) (λ F. chosenFrom purpose F kind polarity (length (now (work .entry))))) (now (work .entry)) ⌝ }
 {
-    let circuits = tables::circuits_of(counts);
-    let outcome = spectra::fill(counts.inputs, circuits, tables, kind, polarity, work);
+    let outcome = spectra::fill(counts, tables, kind, polarity, work);
     match outcome {
         Outcome::Refused(cause) => unchosen(Verdict::Refused(cause)),
         Outcome::Done => choose_filled(work, counts, purpose),

@@ -1,50 +1,63 @@
 -- What choosing and locating come to where nothing is refused (Rattle.choosing, specs/Choosing.antt; Rattle.locating, specs/Locating.antt).
 --
---   signature-taken    the entries of a signature, as many as it counts, are the list that it stands for
---   entries-back       entries of output 0 are told by their indices
---   indices-ok         indices below N are not refused
---   chosen-opened      what choosing finds and fills
---   located-opened     locating's answer and fills
+--   signature-returned   the entries of a signature, as many as it counts, are the list that it stands for
+--   entries-ok           numbers of entries that are below a bound are not refused
+--   lengths-ok           nor are a list's indices and outputs beside as many readings
+--   chosen-opened        what choosing finds and fills
+--   located-opened       locating's answer and fills
 use Prim.Native.Nat.{ℕ, _^_, _≤_, _<_}
-use native.Mathlib.Omega.{arith}
-use mathlib.Core.Path.{_≡_, refl, ap₂}
+use mathlib.Core.Path.{_≡_, refl, ap, ap₂, _∙_}
 use mathlib.Core.Bool.{true}
 use mathlib.Core.List.{List, [], _∷_, map, List·Memᴰ, List·Memᴰ·head, List·Memᴰ·tail}
 use borrow.Author.Tests.{lt-ltb, le-leb, eq-eqb}
-use lib.ListN.{length, take}
+use lib.ListN.{length, length-map}
 use lib.Seq.{take-at}
 use Rattle.bits.specs.Answer.Answer.{gives}
+use Rattle.bits.specs.Bounds.{allBelow}
 use Rattle.bits.proofs.Tests.{and-i}
 use Rattle.tables.specs.Family.{Family}
-use Rattle.spectra.specs.Listed.{Entry, familySpectra, places, entriesAt}
+use Rattle.spectra.specs.Listed.{Entry, familySpectra, places, indicesOf, outputsOf, entriesAt}
 use Rattle.spectra.specs.declared.Kind.{Kind}
-use Rattle.chooser.specs.Matrix.{signatureOf}
-use Rattle.choosing.specs.Choosing.{finding, chosenFrom}
+use Rattle.spectra.proofs.Codes.{entries-back}
+use Rattle.choosing.specs.Choosing.{signatureOf, finding, chosenFrom}
 use Rattle.choosing.specs.declared.Purpose.{Purpose}
-use Rattle.locating.specs.Locating.{agreeing, location, indicesOk, preparedBy, locatedFrom}
+use Rattle.locating.specs.Locating.{agreeing, location, lengthsOk, preparedBy, locatedFrom}
+use Rattle.demand.specs.Demand.{returned, ValidPolarity, ValidList}
 
-pub signature-taken : (l : List ℕ) → take (signatureOf l .count) (signatureOf l .entries) ≡ l
-signature-taken l = take-at l _ (length l) refl
+pub signature-returned : (l : List Entry) → returned (signatureOf l) ≡ l
+signature-returned l =
+    ap₂ entriesAt (take-at (indicesOf l) _ (length l) (length-map l (λ (e : Entry). e .index)))
+    (take-at (outputsOf l) _ (length l) (length-map l (λ (e : Entry). e .output)))
+    ∙ entries-back l
 
-pub entries-back : (list : List Entry) → ((e : Entry) → List·Memᴰ e list → e .output < 1) → entriesAt (map (λ (e : Entry). e .index) list) ≡ list
-entries-back [] h = refl
-entries-back (e ∷ list) h =
-    let zero : 0 ≡ e .output = omega (arith, h e (List·Memᴰ·head refl)) in
-    ap₂ (λ (x : Entry) (l : List Entry). x ∷ l) (λ i. record { index = e .index; output = zero i })
-    (entries-back list (λ x m. h x (List·Memᴰ·tail m)))
+pub entries-ok : (bound : ℕ) (of : Entry → ℕ) (l : List Entry) → ((e : Entry) → List·Memᴰ e l → of e < bound) → allBelow bound (map of l) ≡ true
+unfolding allBelow
+entries-ok bound of [] h = refl
+entries-ok bound of (e ∷ l) h = and-i (lt-ltb (of e) bound (h e (List·Memᴰ·head refl))) (entries-ok bound of l (λ x m. h x (List·Memᴰ·tail m)))
 
-pub indices-ok : (n : ℕ) (list : List Entry) → ((e : Entry) → List·Memᴰ e list → e .index < 2 ^ n) → indicesOk n list ≡ true
-unfolding indicesOk
-indices-ok n [] h = refl
-indices-ok n (e ∷ list) h = and-i (lt-ltb (e .index) (2 ^ n) (h e (List·Memᴰ·head refl))) (indices-ok n list (λ x m. h x (List·Memᴰ·tail m)))
+pub lengths-ok : (l : List Entry) (numbers : List ℕ) → length l ≡ length numbers → lengthsOk (indicesOf l) (outputsOf l) numbers ≡ true
+lengths-ok l numbers e =
+    and-i (eq-eqb (length (indicesOf l)) (length numbers) (length-map l (λ (e : Entry). e .index) ∙ e))
+    (eq-eqb (length (outputsOf l)) (length numbers) (length-map l (λ (e : Entry). e .output) ∙ e))
 
-module _ (F : Family) (kind : Kind) (k room : ℕ) (below : k < 2 ^ (F .inputs)) (enough : places F ≤ room) where
+module _ (F : Family) (kind : Kind) (k room : ℕ) (below : ValidPolarity F k) (enough : places F ≤ room) where
   pub chosen-opened : (purpose : Purpose) → chosenFrom purpose F kind k room ≡ gives (record { value = finding purpose kind k F; filled = familySpectra kind k F })
   unfolding chosenFrom
   chosen-opened purpose = simp (lt-ltb k (2 ^ (F .inputs)) below, le-leb (places F) room enough)
 
-  pub located-opened : (list : List Entry) (numbers : List ℕ) → indicesOk (F .inputs) list ≡ true → length list ≡ length numbers
-      → locatedFrom F kind k list numbers room ≡ gives (record { value = location (agreeing kind k F list numbers); filled = familySpectra kind k F })
+  opened : (indices outputs numbers : List ℕ) → allBelow (2 ^ (F .inputs)) indices ≡ true → allBelow (F .outputs) outputs ≡ true
+      → lengthsOk indices outputs numbers ≡ true
+      → locatedFrom F kind k indices outputs numbers room
+      ≡ gives (record { value = location (agreeing kind k F (entriesAt indices outputs) numbers); filled = familySpectra kind k F })
   unfolding preparedBy
+  opened indices outputs numbers is os paired = simp (lt-ltb k (2 ^ (F .inputs)) below, is, os, paired, le-leb (places F) room enough)
+
+  pub located-opened : (list : List Entry) (numbers : List ℕ) → ValidList F list → length list ≡ length numbers
+      → locatedFrom F kind k (indicesOf list) (outputsOf list) numbers room
+      ≡ gives (record { value = location (agreeing kind k F list numbers); filled = familySpectra kind k F })
   located-opened list numbers valid paired =
-      simp (lt-ltb k (2 ^ (F .inputs)) below, valid, eq-eqb (length list) (length numbers) paired, le-leb (places F) room enough)
+      opened (indicesOf list) (outputsOf list) numbers
+      (entries-ok (2 ^ (F .inputs)) (λ (e : Entry). e .index) list (λ e m. valid e m .0))
+      (entries-ok (F .outputs) (λ (e : Entry). e .output) list (λ e m. valid e m .1))
+      (lengths-ok list numbers paired)
+      ∙ ap (λ (l : List Entry). gives (record { value = location (agreeing kind k F l numbers); filled = familySpectra kind k F })) (entries-back list)

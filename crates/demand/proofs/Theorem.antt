@@ -6,11 +6,11 @@
 --   isolated          the signature that comes back, with all that is asked of it
 --   demand-family     demand 3 of listed circuits
 --   demand-3          demand 3
-use Prim.Native.Nat.{ℕ, _<_}
+use Prim.Native.Nat.{ℕ}
 use native.Mathlib.Omega.{arith}
 use mathlib.Core.Path.{_≡_, refl, sym, ap, subst, _∙_}
 use mathlib.Core.Bool.{Bool}
-use mathlib.Core.List.{List, _++_, map}
+use mathlib.Core.List.{List, _++_}
 use lib.ListN.{length, drop, length-map}
 use Rattle.bits.specs.Answer.{Answer, Fills, leaves, onward}
 use Rattle.bits.specs.Answer.Answer.{gives}
@@ -21,7 +21,7 @@ use Rattle.reading.proofs.Validity.{reading-valid}
 use Rattle.tables.specs.Family.{Family, familyOf}
 use Rattle.tables.specs.declared.Counts.{Counts}
 use Rattle.tables.proofs.Families.{ValidFamily, family-valid}
-use Rattle.spectra.specs.Listed.{Entry, coefOf, familySpectra, entriesAt}
+use Rattle.spectra.specs.Listed.{Entry, coefOf, familySpectra, indicesOf, outputsOf}
 use Rattle.spectra.specs.Operations.{sameNumbers}
 use Rattle.spectra.specs.declared.Kind.{Kind}
 use Rattle.spectra.proofs.Acceptance.{sameNumbers-refl, sameNumbers-true}
@@ -33,7 +33,7 @@ use Rattle.choosing.proofs.Bound.{signature-short, signature-below}
 use Rattle.locating.specs.Locating.{Location, agreeing, location, locatedFrom}
 use Rattle.locating.specs.Locating.Location.{alone}
 use Rattle.demand.specs.Demand.{returned, ValidPolarity, ValidList, Enough, ListedCircuit, SomeAlike, FirstAlike, readings, Isolated, Located, Demand3, Demand}
-use Rattle.demand.proofs.Answers.{signature-taken, entries-back, indices-ok, chosen-opened, located-opened}
+use Rattle.demand.proofs.Answers.{signature-returned, chosen-opened, located-opened}
 use Rattle.demand.proofs.FirstPairs.{pair-first, some-paired, none-paired}
 use Rattle.demand.proofs.Locations.{location-none, nowhere-none, location-alone}
 use Rattle.demand.proofs.Matches.{sameNumbers-eq, sameNumbers-ne}
@@ -43,7 +43,7 @@ use Rattle.demand.proofs.Signatures.{signed-each, signed-same}
 
 module _ (F : Family) (kind : Kind) (k : ℕ) (work : List ℕ) (below : ValidPolarity F k) (enough : Enough F work) where
   abbrev locate : List Entry → List ℕ → Answer Location
-  locate list numbers = leaves (locatedFrom F kind k list numbers (length work)) work .answer
+  locate list numbers = leaves (locatedFrom F kind k (indicesOf list) (outputsOf list) numbers (length work)) work .answer
 
   module _ (list : List Entry) (numbers : List ℕ) where
     abbrev same : ℕ → Bool
@@ -52,7 +52,7 @@ module _ (F : Family) (kind : Kind) (k : ℕ) (work : List ℕ) (below : ValidPo
     located-result : ValidList F list → length list ≡ length numbers → locate list numbers ≡ gives (location (agreeing kind k F list numbers))
     located-result valid paired =
         ap (λ (x : Answer (Fills Location)). leaves x work .answer)
-        (located-opened F kind k (length work) below enough list numbers (indices-ok (F .inputs) list (λ e m. valid e m .0)) paired)
+        (located-opened F kind k (length work) below enough list numbers valid paired)
 
     pub located-as : ValidList F list → length list ≡ length numbers → Located F kind k list numbers (locate list numbers)
     located-as valid paired =
@@ -83,7 +83,7 @@ pub alike-number : (counts : Counts) (p : Pair) (list : List Entry) (memory : Li
 alike-number counts nobody list memory e = absurd (omega (arith, e))
 alike-number counts (pair a b) list memory e = (a, b, refl, refl)
 
-module _ (F : Family) (counts : Counts) (kind : Kind) (k : ℕ) (work other : List ℕ) (v : ValidFamily F) (one : F .outputs ≡ 1)
+module _ (F : Family) (counts : Counts) (kind : Kind) (k : ℕ) (work other : List ℕ) (v : ValidFamily F)
     (below : ValidPolarity F k) (enough : Enough F work) (enough-other : Enough F other) where
   abbrev isolate : AtExit
   isolate = atExit counts (chosenFrom Isolating F kind k (length work)) work
@@ -117,9 +117,7 @@ module _ (F : Family) (counts : Counts) (kind : Kind) (k : ℕ) (work other : Li
       record {
         comes-back = (
           ap (λ (x : AtExit). x .number) so,
-          ap (λ (x : AtExit). returned (x .signature)) so
-              ∙ ap entriesAt (signature-taken (map (λ (e : Entry). e .index) signed))
-              ∙ entries-back signed (λ e m. subst (λ (x : ℕ). e .output < x) one (valid-signature e m .1)),
+          ap (λ (x : AtExit). returned (x .signature)) so ∙ signature-returned signed,
         );
         by-method = refl;
         short = omega (arith, signature-short Isolating kind k F (v .good));
@@ -145,6 +143,6 @@ demand-3 s kind k work other j read below enough enough-other =
     subst
     (λ (x : Answer Job).
     Demand3 (familyOf j) kind k (atExit (countsIn x) (onward x (λ i. chosenFrom Isolating (familyOf i) kind k (length work))) work)
-    (λ list numbers. leaves (onward x (λ i. locatedFrom (familyOf i) kind k list numbers (length other))) other .answer))
+    (λ list numbers. leaves (onward x (λ i. locatedFrom (familyOf i) kind k (indicesOf list) (outputsOf list) numbers (length other))) other .answer))
     (sym read)
-    (demand-family (familyOf j) (countsIn (gives j)) kind k work other (family-valid j (reading-valid s j read)) refl below enough enough-other)
+    (demand-family (familyOf j) (countsIn (gives j)) kind k work other (family-valid j (reading-valid s j read)) below enough enough-other)

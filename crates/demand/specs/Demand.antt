@@ -1,4 +1,4 @@
--- Believed: demand 3, one statement about choosing and locating together (document 01, "Words of demand 3"). The theorem is `demand-3` in
+-- Believed: demand 3, one statement about choosing and locating together (document 01, "Words of demand 3"; document 02, CR 2). The theorem is `demand-3` in
 -- proofs/Theorem.antt. It speaks of the listed circuits' tables, of what choosing answers (`isolate`) and of what locating answers to a list and readings
 -- (`locate`); a job enters at the end, by reading. `isolating` and `locating` there are what the contracts of `choosing::choose` and
 -- `locating::locate` name: the statement is about these definitions, and so about the code that is proved to equal them.
@@ -12,19 +12,19 @@ use Rattle.bits.specs.Answer.Answer.{gives}
 use Rattle.job.specs.declared.Job.{Job}
 use Rattle.reading.specs.Reading.{reading}
 use Rattle.tables.specs.Family.{Family, familyOf}
-use Rattle.spectra.specs.Listed.{Entry, readingsOf, places, entriesAt}
+use Rattle.spectra.specs.Listed.{Entry, readingsOf, places, indicesOf, outputsOf, entriesAt}
 use Rattle.spectra.specs.declared.Kind.{Kind}
 use Rattle.method.specs.Method.{without}
 use Rattle.method.specs.Method.Pair.{pair}
-use Rattle.chooser.specs.declared.Signature.{Signature}
 use Rattle.choosing.specs.Choosing.{AtExit, chosenOf, countsIn, atExit, signatureIn}
 use Rattle.choosing.specs.declared.Purpose.the-variants.{Isolating}
-use Rattle.locating.specs.Locating.{Location, agreeing, location, locatedAt}
+use Rattle.choosing.specs.declared.Signature.{Signature}
+use Rattle.locating.specs.Locating.{Location, agreeing, location, locatedOf}
 use Rattle.locating.specs.Locating.Location.{alone, nowhere}
 
 -- "the list that choosing returned, unchanged"
 abbrev pub returned : Signature → List Entry
-returned s = entriesAt (take (s .count) (s .entries))
+returned s = entriesAt (take (s .count) (s .indices)) (take (s .count) (s .outputs))
 
 module _ (F : Family) where
   -- "a polarity when it is below N"
@@ -35,7 +35,7 @@ module _ (F : Family) where
   abbrev pub ValidList : List Entry → Type 0
   ValidList list = (e : Entry) → List·Memᴰ e list → (e .index < 2 ^ (F .inputs)) × (e .output < F .outputs)
 
-  -- "Lent memory is enough when 10 doesn't apply": it has (f+1) × N places
+  -- "Lent memory is enough when 10 doesn't apply": it has (f+1) × outputs × N places
   abbrev pub Enough : List ℕ → Type 0
   Enough work = places F ≤ length work
 
@@ -46,7 +46,7 @@ module _ (F : Family) where
   abbrev pub ListedFault : ℕ → Type 0
   ListedFault c = (1 ≤ c) × ListedCircuit c
 
-  -- two circuits "give equal outputs on every input"
+  -- two circuits "give equal outputs on every input"; "all outputs agree on every input"
   abbrev pub EqualOutputs : ℕ → ℕ → Type 0
   EqualOutputs a b = (o m : ℕ) → o < F .outputs → m < 2 ^ (F .inputs) → F .entry a o m ≡ F .entry b o m
 
@@ -113,9 +113,9 @@ ValidJob s j = reading s ≡ gives j
 abbrev pub isolating : List ℕ → Kind → ℕ → List ℕ → AtExit
 isolating s kind k work = atExit (countsIn (reading s)) (chosenOf Isolating s kind k (length work)) work
 
--- what locating answers, lent this work
+-- what locating answers, lent this work and the list as its indices and its outputs
 abbrev pub locating : List ℕ → Kind → ℕ → List ℕ → List Entry → List ℕ → Answer Location
-locating s kind k work list numbers = leaves (locatedAt s kind k list numbers (length work)) work .answer
+locating s kind k work list numbers = leaves (locatedOf s kind k (indicesOf list) (outputsOf list) numbers (length work)) work .answer
 
 -- "Given enough lent memory, whatever it held, and whatever valid job, kind of spectrum and valid polarity are chosen": choosing is lent `work`, locating
 -- `other`

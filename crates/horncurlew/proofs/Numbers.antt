@@ -30,7 +30,7 @@ use Rattle.tables.proofs.Answers.{kept}
 use Rattle.tables.specs.declared.Counts.{Counts}
 use Rattle.spectra.specs.declared.Kind.{Kind}
 use Rattle.spectra.specs.declared.Kind.the-variants.{Mrm}
-use Rattle.chooser.specs.declared.Signature.{Signature}
+use Rattle.choosing.specs.declared.Signature.{Signature}
 use Rattle.choosing.specs.Choosing.{AtExit, verdictNumber, verdictPair}
 use Rattle.choosing.specs.declared.Purpose.{Purpose}
 use Rattle.choosing.specs.declared.Purpose.the-variants.{Detecting}
@@ -66,7 +66,7 @@ numbered-kind f k o p e h = numbered-by o (e ∙ ap f p) h
 
 -- a job's counts beside a number
 abbrev jobCounts : ℕ → Job → JobAnswer
-jobCounts n j = record { number = n; inputs = j .inputs; gates = j .«gate_count»; faults = j .«fault_count» }
+jobCounts n j = record { number = n; inputs = j .inputs; gates = j .«gate_count»; outputs = j .«output_count»; faults = j .«fault_count» }
 
 told-number : (o : Outcome) (j : Job) → numberOf (outcome o) ≡ numberOf (answerOf o j)
 told-number Done j = refl
@@ -78,7 +78,7 @@ due-counts (gives j) = refl
 due-counts (refused k) = refl
 
 pub counts-told : {n : ℕ} (r : Reading) (a : Answer Job) → told r ≡ due a → n ≡ numberOf (outcome (r .outcome))
-    → record { number = n; inputs = r .job .inputs; gates = r .job .«gate_count»; faults = r .job .«fault_count» } ≡ jobOf a
+    → record { number = n; inputs = r .job .inputs; gates = r .job .«gate_count»; outputs = r .job .«output_count»; faults = r .job .«fault_count» } ≡ jobOf a
 counts-told r a e h =
     ap (λ (m : ℕ). jobCounts m (r .job)) (h ∙ told-number (r .outcome) (r .job))
     ∙ ap (λ (t : Told). jobCounts (numberOf (t .answer)) (t .job)) e
@@ -121,9 +121,11 @@ choiceBy t counts signature =
       second = t .second;
       inputs = counts .inputs;
       gates = counts .gates;
+      outputs = counts .outputs;
       faults = counts .faults;
       count = signature .count;
-      entries = signature .entries;
+      «entry_indices» = signature .indices;
+      «entry_outputs» = signature .outputs;
     }
 
 pub verdict-done : (v : Verdict) → v ≡ choosing.Done → record { number = 0; first = 0; second = 0 } ≡ toldBy v

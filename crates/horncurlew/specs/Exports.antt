@@ -34,7 +34,7 @@ use Rattle.horncurlew.specs.declared.ChoiceAnswer.{ChoiceAnswer}
 use Rattle.horncurlew.specs.declared.LocationAnswer.{LocationAnswer}
 
 abbrev pub version : ℕ
-version = 2
+version = 3
 
 abbrev pub kindOf : ℕ → Kind
 kindOf zero = Rm
@@ -56,8 +56,8 @@ abbrev pub numbered : {A : Type 0} → Leaves A → Numbered
 numbered l = record { number = numberOf (l .answer); memory = l .memory }
 
 abbrev pub jobOf : Answer Job → JobAnswer
-jobOf (gives j) = record { number = 0; inputs = j .inputs; gates = j .«gate_count»; faults = j .«fault_count» }
-jobOf (refused k) = record { number = k; inputs = 0; gates = 0; faults = 0 }
+jobOf (gives j) = record { number = 0; inputs = j .inputs; gates = j .«gate_count»; outputs = j .«output_count»; faults = j .«fault_count» }
+jobOf (refused k) = record { number = k; inputs = 0; gates = 0; outputs = 0; faults = 0 }
 
 abbrev pub lengthOf : Answer ℕ → LengthAnswer
 lengthOf (gives n) = record { number = 0; length = n }
@@ -88,9 +88,11 @@ choiceOf c =
       second = secondOf (c .pair);
       inputs = c .counts .inputs;
       gates = c .counts .gates;
+      outputs = c .counts .outputs;
       faults = c .counts .faults;
       count = c .signature .count;
-      entries = c .signature .entries;
+      «entry_indices» = c .signature .indices;
+      «entry_outputs» = c .signature .outputs;
     }
 
 -- the number of agreeing circuits, and the lowest of them

@@ -13,8 +13,8 @@ ghost use Rattle.report_text.specs.Text.{reported};
 ghost use Rattle.horncurlew.specs.Exports.{reportOf, kindOf, purposeOf, numberOf, numbered, jobOf, lengthOf, rewrittenOf, chosenAt, firstOf, secondOf, choiceOf, locationOf, version};
 use bits::Outcome;
 use bits::Refusal;
-use chooser::Signature;
 use choosing::Purpose;
+use choosing::Signature;
 use choosing::Verdict;
 use locating::Located;
 use report_text::Reported;
@@ -23,7 +23,7 @@ use tables::Counts;
 use writing::Written;
 
 // Raised with every change of an exported function, struct or number; HORNCURLEW_VERSION in include/horncurlew.h is the same number.
-const VERSION: usize = 2;
+const VERSION: usize = 3;
 
 // The counts of a job.
 #[repr(C)]
@@ -31,6 +31,7 @@ pub struct JobAnswer {
     pub number: usize,
     pub inputs: usize,
     pub gates: usize,
+    pub outputs: usize,
     pub faults: usize,
 }
 
@@ -49,9 +50,11 @@ pub struct ChoiceAnswer {
     pub second: usize,
     pub inputs: usize,
     pub gates: usize,
+    pub outputs: usize,
     pub faults: usize,
     pub count: usize,
-    pub entries: [u16; chooser::MAX_SIGNATURE],
+    pub entry_indices: [u16; chooser::MAX_SIGNATURE],
+    pub entry_outputs: [u16; chooser::MAX_SIGNATURE],
 }
 
 // How many circuits agree, and the lowest of them.
@@ -116,6 +119,7 @@ pub extern "C" fn horncurlew_check(bytes: &[u8]) -> JobAnswer
         number: number_of(outcome),
         inputs: job.inputs as usize,
         gates: job.gate_count as usize,
+        outputs: job.output_count as usize,
         faults: job.fault_count as usize,
     }
 }
@@ -143,12 +147,17 @@ pub extern "C" fn horncurlew_rewrite(bytes: &[u8], out: &mut [u8]) -> LengthAnsw
     }
 }
 
-// The packed table of a circuit of a job.
+// The packed table of a circuit of a job at an output.
 #[no_mangle]
-pub extern "C" fn horncurlew_table(bytes: &[u8], circuit: usize, out: &mut [u8]) -> usize
-    ensures { λ r. ⌜ record { number = r; memory = now (out .exit) } ≡ numbered (leaves (tableOf (now (bytes .entry)) circuit (length (now (out .entry)))) (now (out .entry))) ⌝ }
+pub extern "C" fn horncurlew_table(
+    bytes: &[u8],
+    circuit: usize,
+    output: usize,
+    out: &mut [u8],
+) -> usize
+    ensures { λ r. ⌜ record { number = r; memory = now (out .exit) } ≡ numbered (leaves (tableOf (now (bytes .entry)) circuit output (length (now (out .entry)))) (now (out .entry))) ⌝ }
 {
-    let outcome = tables::table(bytes, circuit, out);
+    let outcome = tables::table(bytes, circuit, output, out);
     number_of(outcome)
 }
 
@@ -212,19 +221,22 @@ fn told_of(verdict: Verdict) -> Told
 }
 
 fn choice_of(told: Told, counts: Counts, signature: Signature) -> ChoiceAnswer
-    ensures { λ r. ⌜ r ≡ record { number = told .number; first = told .first; second = told .second; inputs = counts .inputs; gates = counts .gates; faults = counts .faults; count = signature .count; entries = signature .entries } ⌝ }
+    ensures { λ r. ⌜ r ≡ record { number = told .number; first = told .first; second = told .second; inputs = counts .inputs; gates = counts .gates; outputs = counts .outputs; faults = counts .faults; count = signature .count; «entry_indices» = signature .indices; «entry_outputs» = signature .outputs } ⌝ }
 {
     let count = signature.count;
-    let entries = signature.entries;
+    let entry_indices = signature.indices;
+    let entry_outputs = signature.outputs;
     ChoiceAnswer {
         number: told.number,
         first: told.first,
         second: told.second,
         inputs: counts.inputs,
         gates: counts.gates,
+        outputs: counts.outputs,
         faults: counts.faults,
         count,
-        entries,
+        entry_indices,
+        entry_outputs,
     }
 }
 
@@ -271,19 +283,28 @@ fn location_of(located: Located) -> LocationAnswer
     }
 }
 
-// The circuits of a job that agree with readings; the work then holds the spectra.
+// The circuits of a job that agree with readings at a list of entries; the work then holds the spectra.
 #[no_mangle]
 pub extern "C" fn horncurlew_locate(
     bytes: &[u8],
     kind: u8,
     polarity: usize,
     indices: &[u16],
+    outputs: &[u16],
     readings: &[u16],
     work: &mut [u16],
 ) -> LocationAnswer
-    ensures { λ r. ⌜ (r ≡ locationOf (leaves (locatedOf (now (bytes .entry)) (kindOf kind) polarity (now (indices .entry)) (now (readings .entry)) (length (now (work .entry)))) (now (work .entry)) .answer)) × (now (work .exit) ≡ leaves (locatedOf (now (bytes .entry)) (kindOf kind) polarity (now (indices .entry)) (now (readings .entry)) (length (now (work .entry)))) (now (work .entry)) .memory) ⌝ }
+    ensures { λ r. ⌜ (r ≡ locationOf (leaves (locatedOf (now (bytes .entry)) (kindOf kind) polarity (now (indices .entry)) (now (outputs .entry)) (now (readings .entry)) (length (now (work .entry)))) (now (work .entry)) .answer)) × (now (work .exit) ≡ leaves (locatedOf (now (bytes .entry)) (kindOf kind) polarity (now (indices .entry)) (now (outputs .entry)) (now (readings .entry)) (length (now (work .entry)))) (now (work .entry)) .memory) ⌝ }
 {
-    let located = locating::locate(bytes, kind_of(kind), polarity, indices, readings, work);
+    let located = locating::locate(
+        bytes,
+        kind_of(kind),
+        polarity,
+        indices,
+        outputs,
+        readings,
+        work,
+    );
     location_of(located)
 }
 

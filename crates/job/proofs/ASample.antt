@@ -6,7 +6,9 @@
 --   input-alone     and without gates there is none
 --   unused-input    an input that nobody reads is allowed
 --   no-influence    reading counts, also where it has no influence
---   output-first    an output that is no line is refused before a loose gate
+--   second-output   nor is one that only the second output needs
+--   count-first     a number of outputs that isn't 1 to 4 is refused before an output that is no line
+--   output-first    this one before a loose gate
 --   loose-first     and a loose gate before a fault count over 63
 use Prim.Native.Nat.{ℕ}
 use mathlib.Core.Path.{_≡_, refl}
@@ -15,10 +17,10 @@ use mathlib.Core.List.{[], _∷_}
 use lib.ListN.{set}
 use Rattle.bits.specs.Answer.Answer.{refused}
 use Rattle.bits.specs.Building.{builtTo}
-use Rattle.job.specs.Check.{checked, gatesChecked}
+use Rattle.job.specs.Check.{checked, inTurn}
 use Rattle.job.specs.Dependence.{depends, loose, noneLoose}
-use Rattle.job.specs.Layout.{maxInputs, maxGates, maxFaults}
-use Rattle.job.specs.Record.{noGates, noFaults}
+use Rattle.job.specs.Layout.{maxInputs, maxGates, maxOutputs, maxFaults}
+use Rattle.job.specs.Record.{noGates, noOutputs, noFaults}
 use Rattle.job.specs.declared.BinaryKind.the-variants.{And, Or, Xor}
 use Rattle.job.specs.declared.Gate.{Gate}
 use Rattle.job.specs.declared.Gate.the-variants.{Unary, Binary}
@@ -53,15 +55,31 @@ pub no-influence : noneLoose 1 (entry (Unary Not 0) ∷ entry (Binary Xor 1 1) �
 unfolding noneLoose loose depends builtTo
 no-influence = refl
 
--- one input, a NOT of it, and a fault too many
-abbrev crowded : ℕ → Job
-crowded output =
-    record { inputs = 1; «gate_count» = 1; gates = set noGates 0 (entry (Unary Not 0)); output = output; «fault_count» = 64; faults = noFaults }
+pub second-output : noneLoose 1 (entry (Unary Not 0) ∷ []) (0 ∷ 1 ∷ []) ≡ true
+unfolding noneLoose loose depends builtTo
+second-output = refl
 
-pub output-first : checked (crowded 2) ≡ refused 6
-unfolding checked gatesChecked noneLoose loose depends builtTo maxInputs maxGates maxFaults noGates noFaults
+-- one input, a NOT of it, and a fault too many
+abbrev crowded : ℕ → ℕ → Job
+crowded count output =
+    record {
+      inputs = 1;
+      «gate_count» = 1;
+      gates = set noGates 0 (entry (Unary Not 0));
+      «output_count» = count;
+      outputs = set noOutputs 0 output;
+      «fault_count» = 64;
+      faults = noFaults;
+    }
+
+pub count-first : checked (crowded 5 2) ≡ refused 20
+unfolding checked inTurn noneLoose loose depends builtTo maxInputs maxGates maxOutputs maxFaults noGates noOutputs noFaults
+count-first = refl
+
+pub output-first : checked (crowded 1 2) ≡ refused 6
+unfolding checked inTurn noneLoose loose depends builtTo maxInputs maxGates maxOutputs maxFaults noGates noOutputs noFaults
 output-first = refl
 
-pub loose-first : checked (crowded 0) ≡ refused 19
-unfolding checked gatesChecked noneLoose loose depends builtTo maxInputs maxGates maxFaults noGates noFaults
+pub loose-first : checked (crowded 1 0) ≡ refused 19
+unfolding checked inTurn noneLoose loose depends builtTo maxInputs maxGates maxOutputs maxFaults noGates noOutputs noFaults
 loose-first = refl

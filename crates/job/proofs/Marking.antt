@@ -1,26 +1,29 @@
 -- What the pass over the gates, from the last down, knows (specs/Marks.antt).
 --
+--   outputs-start, outputs-next, outputs-end   the outputs are marked one by one
+--   outputs-within, outputs-used   those in use
 --   Marking                        the gates from q on are passed: their lines were marked, and the lines that they read are
 --   marking-start                  before the pass the outputs are marked
 --   marking-stop                   a gate whose line is not marked is loose
 --   marking-unary, marking-binary  a gate is passed, and the lines that it reads are marked
 --   marking-end                    where all are passed, none is loose
 use Prim.Native.Nat.{ℕ, zero, suc, _+_, _-_, _≤_, _<_}
+use native.Mathlib.Numerals.{add-one}
 use native.Mathlib.Omega.{arith}
-use mathlib.Core.Path.{_≡_, refl, sym, ap, _∙_}
+use mathlib.Core.Path.{_≡_, refl, sym, ap, subst, _∙_}
 use mathlib.Core.Bool.{Bool, true, false, cond, _&&_, _||_, and-true, and-false, or-self, or-assoc, or-comm}
 use mathlib.Core.Logic.{⊎-elim}
-use mathlib.Core.List.{List}
+use mathlib.Core.List.{List, [], _∷_, _++_}
 use borrow.Author.Tests.{eqb-true, eqb-false}
 use lib.Dec.{ltb, eqb}
-use lib.ListN.{length, getD, drop, set, replicate, length-set, length-replicate}
-use lib.Seq.{length-take-le, take-all, drop-length, drop-cons, getD-take, getD-set-same, getD-set-other}
+use lib.ListN.{length, getD, take, drop, set, replicate, length-set, length-replicate}
+use lib.Seq.{length-take-le, take-suc, take-all, drop-length, drop-cons, getD-take, getD-set-same, getD-set-other}
 use Rattle.bits.proofs.Below.{lt-or-ge}
 use Rattle.bits.proofs.Minimum.{least-first, least-second, least-left, least-right}
 use Rattle.bits.proofs.Tests.{by-test}
 use Rattle.job.specs.Dependence.{gatesOf, outputLines, noLoose}
-use Rattle.job.specs.Layout.{maxGates}
-use Rattle.job.specs.Marks.{isMarked, hasLine, eachRead}
+use Rattle.job.specs.Layout.{maxGates, maxOutputs}
+use Rattle.job.specs.Marks.{isOutput, isMarked, hasLine, eachRead, OutputsMarked}
 use Rattle.job.specs.Record.{gateAt, unusedGate}
 use Rattle.job.specs.declared.Gate.{Gate}
 use Rattle.job.specs.declared.Gate.the-variants.{Unary, Binary}
@@ -50,6 +53,51 @@ blank zero l = refl
 blank (suc count) zero = refl
 blank (suc count) (suc l) = blank count l
 
+-- ---- the outputs
+
+isOutput-last : (outputs : List ℕ) (x l : ℕ) → isOutput (outputs ++ (x ∷ [])) l ≡ eqb l x || isOutput outputs l
+isOutput-last [] x l = refl
+isOutput-last (y ∷ outputs) x l =
+    ap (λ (t : Bool). eqb l y || t) (isOutput-last outputs x l)
+    ∙ sym (or-assoc (eqb l y) (eqb l x) (isOutput outputs l)) ∙ ap (λ (t : Bool). t || isOutput outputs l) (or-comm (eqb l y) (eqb l x))
+    ∙ or-assoc (eqb l x) (eqb l y) (isOutput outputs l)
+
+pub outputs-start : (outputs : List ℕ) → OutputsMarked (take 0 outputs) (replicate (256 + maxGates) false)
+outputs-start outputs = record { long = length-replicate (256 + maxGates) false; each = λ l. blank (256 + maxGates) l }
+
+pub outputs-next : (outputs : List ℕ) {marks : List Bool} {o : ℕ} → OutputsMarked (take o outputs) marks → o < length outputs → getD outputs o 0 < 256
+    → OutputsMarked (take (o + 1) outputs) (set marks (getD outputs o 0) true)
+outputs-next outputs {marks} {o} m h small =
+    let wide = m .long in
+    record {
+      long = length-set marks (getD outputs o 0) true ∙ m .long;
+      each = λ l.
+          set-mark marks (getD outputs o 0) l (omega arith)
+          ∙ ap (λ (t : Bool). eqb l (getD outputs o 0) || t) (m .each l)
+          ∙ sym
+          (ap (λ (s : List ℕ). isOutput s l) (ap (λ (i : ℕ). take i outputs) (add-one o) ∙ take-suc outputs o 0 h)
+          ∙ isOutput-last (take o outputs) (getD outputs o 0) l);
+    }
+
+pub outputs-end : (outputs : List ℕ) {marks : List Bool} {o : ℕ} → OutputsMarked (take o outputs) marks → length outputs ≤ o → OutputsMarked outputs marks
+outputs-end outputs {marks} {o} m h = subst (λ (s : List ℕ). OutputsMarked s marks) (take-all o outputs h) m
+
+-- the record has room for so many
+pub outputs-within : (j : Job) {count : ℕ} → length (j .outputs) ≡ maxOutputs
+    → count ≡ cond (ltb (j .«output_count») maxOutputs) (j .«output_count») maxOutputs → count ≤ length (j .outputs)
+outputs-within j {count} long least = let few : count ≤ maxOutputs = least-right (j .«output_count») maxOutputs least in omega arith
+
+pub outputs-used : (j : Job) {count : ℕ} → length (j .outputs) ≡ maxOutputs
+    → count ≡ cond (ltb (j .«output_count») maxOutputs) (j .«output_count») maxOutputs → take count (j .outputs) ≡ outputLines j
+outputs-used j {count} long least =
+    ⊎-elim
+    (λ l. ap (λ (i : ℕ). take i (j .outputs)) (least ∙ sym (least-first (j .«output_count») maxOutputs l)))
+    (λ l. let full : count ≡ maxOutputs = least ∙ sym (least-second (j .«output_count») maxOutputs l) in
+    take-all count (j .outputs) (omega arith) ∙ sym (take-all (j .«output_count») (j .outputs) (omega arith)))
+    (lt-or-ge (j .«output_count») maxOutputs)
+
+-- ---- the gates
+
 gates-many : (j : Job) → length (j .gates) ≡ maxGates → length (gatesOf j) ≡ cond (ltb (j .«gate_count») maxGates) (j .«gate_count») maxGates
 gates-many j long =
     let g = j .«gate_count» in
@@ -57,21 +105,18 @@ gates-many j long =
     (λ h. ap length (take-all g (j .gates) (omega arith)) ∙ long ∙ least-second g maxGates h)
     (lt-or-ge g maxGates)
 
-pub marking-start : (j : Job) (q : ℕ) → length (j .gates) ≡ maxGates → q ≡ cond (ltb (j .«gate_count») maxGates) (j .«gate_count») maxGates → j .output < 256
-    → Marking j (set (replicate (256 + maxGates) false) (j .output) true) q
-marking-start j q long least small =
+pub marking-start : (j : Job) (q : ℕ) → length (j .gates) ≡ maxGates → q ≡ cond (ltb (j .«gate_count») maxGates) (j .«gate_count») maxGates → {marks : List Bool}
+    → OutputsMarked (outputLines j) marks → Marking j marks q
+marking-start j q long least m =
     let gates = gatesOf j in
     let all : length gates ≡ q = gates-many j long ∙ sym least in
-    let blanks = replicate (256 + maxGates) false in
-    let wide : length blanks ≡ 256 + maxGates = length-replicate (256 + maxGates) false in
     record {
       within = omega arith;
       counted = least-left (j .«gate_count») maxGates least;
       few = least-right (j .«gate_count») maxGates least;
-      long = length-set blanks (j .output) true ∙ wide;
+      long = m .long;
       marks = λ l.
-          set-mark blanks (j .output) l (omega arith)
-          ∙ ap (λ (t : Bool). eqb l (j .output) || t) (blank (256 + maxGates) l)
+          m .each l
           ∙ sym (ap (λ (rest : List GateEntry). isMarked (outputLines j) rest l) (ap (λ (i : ℕ). drop i gates) (sym all) ∙ drop-length gates));
       rest = tight-read (j .inputs) gates (outputLines j) ∙ ap (eachRead (j .inputs) gates (outputLines j)) all;
     }

@@ -2,6 +2,7 @@
 -- limits, and take from here what they need to know of them. With other limits this file is computed anew.
 --
 --   all-lines, all-inputs, all-gates, all-faults   the fields hold each line and each count
+--   counts-of-outputs   the counts of outputs are the numbers of their field, and one more
 --   eight-kinds, four-kinds   the kinds are the numbers of their fields
 --   counts-of-faults    a count of faults that its field holds is within the limit
 --   most-inputs         the input numbers fit two bytes, with room for a carry
@@ -12,7 +13,7 @@ use native.Mathlib.Nat.{le-trans}
 use mathlib.Core.Path.{_≡_, refl}
 use lib.Dec.{lit<, lit≤}
 use Rattle.bits.proofs.TableSizes.{fifteen-few}
-use Rattle.job.specs.Layout.{maxInputs, maxGates, maxFaults, inputCountBits, gateCountBits, gateKindBits, lineBits, faultCountBits, faultKindBits}
+use Rattle.job.specs.Layout.{maxInputs, maxGates, maxOutputs, maxFaults, inputCountBits, gateCountBits, gateKindBits, lineBits, outputCountBits, faultCountBits, faultKindBits}
 
 pub all-lines : maxInputs + maxGates ≤ 2 ^ lineBits
 unfolding maxInputs maxGates lineBits
@@ -30,6 +31,10 @@ pub all-faults : maxFaults < 2 ^ faultCountBits
 unfolding maxFaults faultCountBits
 all-faults = lit< tt
 
+pub counts-of-outputs : 2 ^ outputCountBits ≡ maxOutputs
+unfolding outputCountBits maxOutputs
+counts-of-outputs = refl
+
 pub eight-kinds : 2 ^ gateKindBits ≡ 8
 unfolding gateKindBits
 eight-kinds = refl
@@ -46,8 +51,8 @@ pub most-inputs : maxInputs ≤ 15
 unfolding maxInputs
 most-inputs = lit≤ tt
 
-pub most-places : (maxFaults + 1) * 2 ^ maxInputs < 2 ^ 64
-unfolding maxFaults maxInputs
+pub most-places : (maxFaults + 1) * maxOutputs * 2 ^ maxInputs < 2 ^ 64
+unfolding maxFaults maxOutputs maxInputs
 most-places = lit< tt
 
 pub inputs-few : {n : ℕ} → n ≤ maxInputs → n < 64

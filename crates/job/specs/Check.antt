@@ -1,7 +1,8 @@
 -- Believed: the tests that document 01, "Refusal by operation", and document 02 make of a circuit and its faults, each with its number. Reading and
 -- writing share them. Test 19 is in Dependence.antt.
 --
---   inputsOk, gatesOk, .., faultsOk   the tests 2, 3, 4, 6, 18, 7, 8
+--   inputsOk, .., faultOrderOk        the tests 2, 3, 4, 20, 6, 18, 7, 8
+--   inTurn                            one test of each of so many entries
 --   checked                           the first refusal of a record, in the order of writing
 --   Valid                             what holds of a record that is not refused
 use Prim.Native.Nat.{ℕ, zero, suc, _+_, _≤_, _<_}
@@ -11,8 +12,8 @@ use lib.Dec.{leb, ltb}
 use Rattle.bits.specs.Answer.{Answer, unless, onward}
 use Rattle.bits.specs.Answer.Answer.{gives}
 use Rattle.job.specs.Dependence.{noLoose}
-use Rattle.job.specs.Layout.{maxInputs, maxGates, maxFaults}
-use Rattle.job.specs.Record.{gateA, gateB, gateAt, faultAt, lines}
+use Rattle.job.specs.Layout.{maxInputs, maxGates, maxOutputs, maxFaults}
+use Rattle.job.specs.Record.{gateA, gateB, gateAt, outputAt, faultAt, lines}
 use Rattle.job.specs.declared.Gate.{Gate}
 use Rattle.job.specs.declared.Fault.{Fault}
 use Rattle.job.specs.declared.Fault.the-variants.{Stuck, Bridge}
@@ -29,6 +30,10 @@ gateCountOk g = leb g maxGates
 -- "4, line a or b isn't below the gate's own"
 abbrev pub gateOk : ℕ → Gate → Bool
 gateOk own g = ltb (gateA g) own && ltb (gateB g) own
+
+-- "20: .. in writing, outputs not 1 to 4"
+abbrev pub outputCountOk : ℕ → Bool
+outputCountOk count = leb 1 count && leb count maxOutputs
 
 -- "6, output line not below n+g"
 abbrev pub outputOk : ℕ → ℕ → Bool
@@ -48,10 +53,18 @@ abbrev pub faultOrderOk : Fault → Bool
 faultOrderOk (Stuck l level) = true
 faultOrderOk (Bridge a b is-and) = ltb a b
 
--- "4 per gate in turn": so many gates from gate q on
-unfoldable pub gatesChecked : Job → ℕ → ℕ → Answer (Unit {0})
-gatesChecked j zero q = gives tt
-gatesChecked j (suc left) q = unless (gateOk (j .inputs + q) (gateAt j q)) 4 (gatesChecked j left (suc q))
+-- a test of each entry, with its number: so many entries from entry i on
+unfoldable pub inTurn : (ℕ → Bool) → ℕ → ℕ → ℕ → Answer (Unit {0})
+inTurn ok k zero i = gives tt
+inTurn ok k (suc left) i = unless (ok i) k (inTurn ok k left (suc i))
+
+-- "4 per gate in turn"
+abbrev pub gatesChecked : Job → ℕ → ℕ → Answer (Unit {0})
+gatesChecked j = inTurn (λ q. gateOk (j .inputs + q) (gateAt j q)) 4
+
+-- "each output line in 7 bits, each checked by 6"
+abbrev pub outputsChecked : Job → ℕ → ℕ → Answer (Unit {0})
+outputsChecked j = inTurn (λ o. outputOk (lines j) (outputAt j o)) 6
 
 -- "7 and 8 per fault in turn": so many faults from fault i on
 unfoldable pub faultsChecked : Job → ℕ → ℕ → Answer (Unit {0})
@@ -60,24 +73,27 @@ faultsChecked j (suc left) i =
     unless (faultLineOk (j .inputs) (lines j) (faultAt j i)) 7
     (unless (faultOrderOk (faultAt j i)) 8 (faultsChecked j left (suc i)))
 
--- "Writing a record checks 2, 3, 4 per gate in turn, 6, then 18 .., then 7 and 8 per fault in turn"; 19 "checked after 6, before the fault count;
--- writing has it at the same place"
+-- "Writing a record checks 2, 3, 4 per gate in turn, 6, then 18 .., then 7 and 8 per fault in turn"; 20 "in writing .. before 6"; 19 "checked after 6,
+-- before the fault count; writing has it at the same place"
 unfoldable pub checked : Job → Answer (Unit {0})
 checked j =
     unless (inputsOk (j .inputs)) 2
     (unless (gateCountOk (j .«gate_count»)) 3
     (onward (gatesChecked j (j .«gate_count») 0) (λ _.
-    unless (outputOk (lines j) (j .output)) 6
-    (unless (noLoose j) 19
+    unless (outputCountOk (j .«output_count»)) 20
+    (onward (outputsChecked j (j .«output_count») 0) (λ _.
+    unless (noLoose j) 19
     (unless (faultCountOk (j .«fault_count»)) 18
-    (faultsChecked j (j .«fault_count») 0))))))
+    (faultsChecked j (j .«fault_count») 0)))))))
 
 pub record Valid (j : Job) : Type 0 where
   pub some : 1 ≤ j .inputs
   pub few : j .inputs ≤ maxInputs
   pub gates-few : j .«gate_count» ≤ maxGates
   pub gate : (q : ℕ) → q < j .«gate_count» → gateOk (j .inputs + q) (gateAt j q) ≡ true
-  pub output : j .output < lines j
+  pub outputs-some : 1 ≤ j .«output_count»
+  pub outputs-few : j .«output_count» ≤ maxOutputs
+  pub output : (o : ℕ) → o < j .«output_count» → outputAt j o < lines j
   pub tight : noLoose j ≡ true
   pub faults-few : j .«fault_count» ≤ maxFaults
   pub fault-line : (i : ℕ) → i < j .«fault_count» → faultLineOk (j .inputs) (lines j) (faultAt j i) ≡ true

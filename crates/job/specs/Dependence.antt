@@ -1,4 +1,4 @@
--- Believed: which lines a line depends on, and loose gates (document 02, CR 1).
+-- Believed: which lines a line depends on, and loose gates (document 02, CR 1 and 2).
 --
 --   gatesOf       the gates of a record, without unused entries
 --   readsSuch     the gate that drives a line reads such a line
@@ -43,17 +43,17 @@ module _ (n : ℕ) (gates : List GateEntry) where
   unfoldable pub depends : ℕ → ℕ → Bool
   depends l k = readsSuch l (reachedTo k l)
 
-  -- "neither the output nor read, directly or through other gates, by the gate that drives the output"
+  -- "A gate is loose when it is no output and none depends on it."
   unfoldable pub loose : List ℕ → ℕ → Bool
   loose [] l = true
   loose (output ∷ outputs) l = (not (eqb l output) && not (depends output l)) && loose outputs l
 
-  -- "A job is to be refused when some gate's line is" that; "Unused inputs remain allowed."
+  -- "A job is to be refused when some gate's line is" loose; "Unused inputs remain allowed."
   unfoldable pub noneLoose : List ℕ → Bool
   noneLoose outputs = eachBelow (length gates) (λ q. not (loose outputs (n + q)))
 
 abbrev pub outputLines : Job → List ℕ
-outputLines j = j .output ∷ []
+outputLines j = take (j .«output_count») (j .outputs)
 
 -- "19: a loose gate"
 abbrev pub noLoose : Job → Bool

@@ -1,12 +1,16 @@
--- Believed: the sizes that document 01 fixes: the ranges of its first paragraph and the widths of "Job layout".
+-- Believed: the sizes that the documents fix: the ranges of document 01's first paragraph and the widths of "Job layout", with the outputs of document 02, CR 2.
 use Prim.Native.Nat.{ℕ}
 
--- "1 to 8 inputs, 0 to 64 gates, one output and 0 to 63 single faults"
+-- "1 to 8 inputs, 0 to 64 gates, .. and 0 to 63 single faults"
 unfoldable pub maxInputs : ℕ
 maxInputs = 8
 
 unfoldable pub maxGates : ℕ
 maxGates = 64
+
+-- "outputs not 1 to 4"
+unfoldable pub maxOutputs : ℕ
+maxOutputs = 4
 
 unfoldable pub maxFaults : ℕ
 maxFaults = 63
@@ -18,12 +22,16 @@ inputCountBits = 4
 unfoldable pub gateCountBits : ℕ
 gateCountBits = 7
 
--- per gate a kind (3), line a (7), line b (7); output line (7);
+-- per gate a kind (3), line a (7), line b (7); ..
 unfoldable pub gateKindBits : ℕ
 gateKindBits = 3
 
 unfoldable pub lineBits : ℕ
 lineBits = 7
+
+-- (document 02: "After the gates comes a field of 2 bits, the number of outputs less 1, then each output line in 7 bits")
+unfoldable pub outputCountBits : ℕ
+outputCountBits = 2
 
 -- fault count f (6); per fault a kind (2), line a (7), line b (7)"
 unfoldable pub faultCountBits : ℕ

@@ -2,7 +2,7 @@
 --
 --   gateKind, gateA, gateB      a gate's kind and lines as numbers; gateOf is the way back
 --   faultKind, faultA, faultB   a fault's kind and lines as numbers; faultOf is the way back
---   gateAt, faultAt             gate q and fault i of a record, both counted from 0
+--   gateAt, outputAt, faultAt   gate q, output o's line and fault i of a record, each counted from 0
 --   lines                       the number of lines
 --   emptyJob                    the record with every entry unused
 --   reset                       the record with its unused entries as reading leaves them
@@ -11,7 +11,7 @@ use mathlib.Core.Bool.{Bool, true, false}
 use mathlib.Core.List.{List, [], _∷_}
 use lib.ListN.{getD, take, replicate}
 use lib.Seq.{sets}
-use Rattle.job.specs.Layout.{maxGates, maxFaults}
+use Rattle.job.specs.Layout.{maxGates, maxOutputs, maxFaults}
 use Rattle.job.specs.declared.BinaryKind.{BinaryKind}
 use Rattle.job.specs.declared.BinaryKind.the-variants.{And, Or, Nand, Nor, Xor, Xnor}
 use Rattle.job.specs.declared.UnaryKind.{UnaryKind}
@@ -95,6 +95,10 @@ unusedFault = record { fault = Stuck 0 false }
 abbrev pub gateAt : Job → ℕ → Gate
 gateAt j q = getD (j .gates) q unusedGate .gate
 
+-- "Outputs number from 0 in field order"
+abbrev pub outputAt : Job → ℕ → ℕ
+outputAt j o = getD (j .outputs) o 0
+
 abbrev pub faultAt : Job → ℕ → Fault
 faultAt j i = getD (j .faults) i unusedFault .fault
 
@@ -104,11 +108,24 @@ lines j = j .inputs + j .«gate_count»
 unfoldable pub noGates : List GateEntry
 noGates = replicate maxGates unusedGate
 
+-- "Unused outputs in a record are line 0."
+unfoldable pub noOutputs : List ℕ
+noOutputs = replicate maxOutputs 0
+
 unfoldable pub noFaults : List FaultEntry
 noFaults = replicate maxFaults unusedFault
 
 unfoldable pub emptyJob : Job
-emptyJob = record { inputs = 0; «gate_count» = 0; gates = noGates; output = 0; «fault_count» = 0; faults = noFaults }
+emptyJob =
+    record {
+      inputs = 0;
+      «gate_count» = 0;
+      gates = noGates;
+      «output_count» = 0;
+      outputs = noOutputs;
+      «fault_count» = 0;
+      faults = noFaults;
+    }
 
 unfoldable pub reset : Job → Job
 reset j =
@@ -116,7 +133,8 @@ reset j =
       inputs = j .inputs;
       «gate_count» = j .«gate_count»;
       gates = sets noGates 0 (take (j .«gate_count») (j .gates));
-      output = j .output;
+      «output_count» = j .«output_count»;
+      outputs = sets noOutputs 0 (take (j .«output_count») (j .outputs));
       «fault_count» = j .«fault_count»;
       faults = sets noFaults 0 (take (j .«fault_count») (j .faults));
     }

@@ -6,17 +6,21 @@
 ghost use mathlib.Core.Path.{_≡_};
 ghost use Rattle.job.specs.Check.{faultLineOk};
 ghost use Rattle.job.specs.Dependence.{noLoose};
+ghost use Rattle.job.specs.Marks.{OutputsMarked};
 ghost use Rattle.job.specs.Record.{gateKind, gateA, gateB, gateOf, faultKind, faultA, faultB, faultOf, emptyJob};
 
-// "circuits with 1 to 8 inputs, 0 to 64 gates, one output and 0 to 63 single faults"
+// "circuits with 1 to 8 inputs, 0 to 64 gates, .. and 0 to 63 single faults"; document 02: 1 to 4 outputs
 pub const MAX_INPUTS: usize = 8;
 
 pub const MAX_GATES: usize = 64;
 
+pub const MAX_OUTPUTS: usize = 4;
+
 pub const MAX_FAULTS: usize = 63;
 
-// "In order: input count n (4 bits); gate count g (7); per gate a kind (3), line a (7), line b (7); output line (7); fault
-// count f (6); per fault a kind (2), line a (7), line b (7)"
+// "In order: input count n (4 bits); gate count g (7); per gate a kind (3), line a (7), line b (7)"; document 02: "After the
+// gates comes a field of 2 bits, the number of outputs less 1, then each output line in 7 bits"; "fault count f (6); per
+// fault a kind (2), line a (7), line b (7)"
 pub const INPUT_COUNT_BITS: usize = 4;
 
 pub const GATE_COUNT_BITS: usize = 7;
@@ -25,20 +29,22 @@ pub const GATE_KIND_BITS: usize = 3;
 
 pub const LINE_BITS: usize = 7;
 
+pub const OUTPUT_COUNT_BITS: usize = 2;
+
 pub const FAULT_COUNT_BITS: usize = 6;
 
 pub const FAULT_KIND_BITS: usize = 2;
 
-const COUNT_BITS: usize = INPUT_COUNT_BITS + GATE_COUNT_BITS + FAULT_COUNT_BITS;
+const COUNT_BITS: usize = INPUT_COUNT_BITS + GATE_COUNT_BITS + OUTPUT_COUNT_BITS + FAULT_COUNT_BITS;
 
 const GATE_BITS: usize = GATE_KIND_BITS + 2 * LINE_BITS;
 
 const FAULT_BITS: usize = FAULT_KIND_BITS + 2 * LINE_BITS;
 
-// The bytes of the longest job: counts, gates, output line and faults.
+// The bytes of the longest job: counts, gates, output lines and faults.
 pub const MAX_JOB_BYTES: usize = (COUNT_BITS
     + MAX_GATES * GATE_BITS
-    + LINE_BITS
+    + MAX_OUTPUTS * LINE_BITS
     + MAX_FAULTS * FAULT_BITS
     + 7)
     / 8;
@@ -204,12 +210,13 @@ pub struct Job {
     pub inputs: u8,
     pub gate_count: u8,
     pub gates: [GateEntry; MAX_GATES],
-    pub output: u8,
+    pub output_count: u8,
+    pub outputs: [u8; MAX_OUTPUTS],
     pub fault_count: u8,
     pub faults: [FaultEntry; MAX_FAULTS],
 }
 
-// The record with every entry unused: BUF of line 0, stuck-at-0 on line 0.
+// The record with every entry unused: BUF of line 0, output line 0, stuck-at-0 on line 0.
 pub fn empty_job() -> Job
     ensures { λ r. ⌜ r ≡ emptyJob ⌝ }
 {
@@ -219,7 +226,8 @@ pub fn empty_job() -> Job
         gates: [GateEntry {
             gate: Gate::Unary(UnaryKind::Buf, 0),
         }; MAX_GATES],
-        output: 0,
+        output_count: 0,
+        outputs: [0u8; MAX_OUTPUTS],
         fault_count: 0,
         faults: [FaultEntry {
             fault: Fault::Stuck(0, false),
@@ -230,14 +238,34 @@ pub fn empty_job() -> Job
 // Room for a mark a line: a line is a byte, a gate's own line a byte and a gate's number.
 const MARKS: usize = 256 + MAX_GATES;
 
+// For each line whether it is in use.
+struct Marks {
+    of: [bool; MARKS],
+}
+
+// The lines that are outputs.
+fn output_marks(outputs: &[u8]) -> Marks
+    ensures { λ r. ⌜ OutputsMarked (now (outputs .entry)) (r .of) ⌝ }
+{
+    let mut of = [false; MARKS];
+    let mut o = 0;
+    while o < outputs.len() {
+        of[outputs[o] as usize] = true;
+        o += 1;
+    }
+    Marks { of }
+}
+
 // Refusal 19: every gate's line is an output or read by a later gate. From the last gate down, so that one pass is
 // enough.
 pub fn no_loose(job: Job) -> bool
     ensures { λ r. ⌜ r ≡ noLoose job ⌝ }
 {
     let n = job.inputs as usize;
-    let mut read = [false; MARKS];
-    read[job.output as usize] = true;
+    let outputs = job.outputs;
+    let output_count = bits::least(job.output_count as usize, MAX_OUTPUTS);
+    let marks = output_marks(&outputs[..output_count]);
+    let mut read = marks.of;
     let mut q = bits::least(job.gate_count as usize, MAX_GATES);
     while 0 < q {
         q -= 1;

@@ -1,31 +1,43 @@
--- Comparing numbers read at indices with readings, as the code does it: Comparing (spectra/proofs/Recovery.antt) by the indices' length.
+-- Comparing numbers read at entries with readings, as the code does it: Comparing (spectra/proofs/Recovery.antt) by the indices' length.
 --
 --   compared-none, compared-stop, compared-more, compared-all   its start, its ways out and its step
-use Prim.Native.Nat.{ℕ, _+_, _≤_, _<_}
+use Prim.Native.Nat.{ℕ, _+_, _*_, _≤_, _<_}
 use mathlib.Core.Path.{_≡_, sym, subst, _∙_}
 use mathlib.Core.Bool.{true, false}
 use mathlib.Core.List.{List}
 use lib.ListN.{length, getD}
+use Rattle.spectra.specs.Listed.{entriesAt}
 use Rattle.spectra.specs.Operations.{sameNumbers}
 use Rattle.spectra.proofs.Recovery.{Comparing, comparing-none, comparing-stop, comparing-more, comparing-all}
-use Rattle.locating.specs.Scanning.{numbersAt}
+use Rattle.locating.specs.Scanning.{numbersAt, Readable}
 use Rattle.locating.proofs.Indices.{numbers-at, numbers-length}
 
-module _ (work : List ℕ) (start : ℕ) (indices : List ℕ) {readings : List ℕ} where
-  pub compared-none : length indices ≡ length readings → Comparing (numbersAt work start indices) readings 0
-  compared-none e = comparing-none (numbers-length work start indices ∙ e)
+module _ (work : List ℕ) {size start : ℕ} {indices outputs readings : List ℕ} (r : Readable size indices outputs readings start (length work)) where
+  abbrev numbers : List ℕ
+  numbers = numbersAt work start size (entriesAt indices outputs)
 
-  module _ {i : ℕ} (w : Comparing (numbersAt work start indices) readings i) where
-    inside : i < length indices → i < length (numbersAt work start indices)
-    inside h = subst (λ (x : ℕ). i < x) (sym (numbers-length work start indices)) h
+  lengths : length indices ≡ length outputs
+  lengths = r .indexed ∙ sym (r .paired)
 
-    pub compared-stop : i < length indices → (getD work (start + getD indices i 0) 0 ≡ getD readings i 0 → ⊥)
-        → false ≡ sameNumbers (numbersAt work start indices) readings
-    compared-stop h d = comparing-stop w (inside h) (λ e. d (sym (numbers-at work start indices i h) ∙ e))
+  long : length numbers ≡ length indices
+  long = numbers-length work start size indices outputs lengths
 
-    pub compared-more : i < length indices → getD work (start + getD indices i 0) 0 ≡ getD readings i 0
-        → Comparing (numbersAt work start indices) readings (i + 1)
-    compared-more h e = comparing-more w (inside h) (numbers-at work start indices i h ∙ e)
+  pub compared-none : Comparing numbers readings 0
+  compared-none = comparing-none (long ∙ r .indexed)
 
-    pub compared-all : length indices ≤ i → true ≡ sameNumbers (numbersAt work start indices) readings
-    compared-all h = comparing-all w (subst (λ (x : ℕ). x ≤ i) (sym (numbers-length work start indices)) h)
+  module _ {i : ℕ} (w : Comparing numbers readings i) where
+    -- number i, as the code reads it
+    abbrev number : ℕ
+    number = getD work (start + (getD outputs i 0 * size + getD indices i 0)) 0
+
+    inside : i < length indices → i < length numbers
+    inside h = subst (λ (x : ℕ). i < x) (sym long) h
+
+    pub compared-stop : i < length indices → (number ≡ getD readings i 0 → ⊥) → false ≡ sameNumbers numbers readings
+    compared-stop h d = comparing-stop w (inside h) (λ e. d (sym (numbers-at work start size indices outputs lengths i h) ∙ e))
+
+    pub compared-more : i < length indices → number ≡ getD readings i 0 → Comparing numbers readings (i + 1)
+    compared-more h e = comparing-more w (inside h) (numbers-at work start size indices outputs lengths i h ∙ e)
+
+    pub compared-all : length indices ≤ i → true ≡ sameNumbers numbers readings
+    compared-all h = comparing-all w (subst (λ (x : ℕ). x ≤ i) (sym long) h)

@@ -1,3 +1,4 @@
+pub mod ASample
 pub mod Answers
 pub mod Comparison
 pub mod Families

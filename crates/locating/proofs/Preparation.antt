@@ -1,99 +1,111 @@
 -- The checks of locating and the filled work, from tables: its ways out, and what success tells (specs/Locating.antt).
 --
---   prepared-unchecked                                    2 or 12
---   prepared-polarity, prepared-index, prepared-readings  13, 16, 17
---   prepared-filled                                       past these, what the spectra of the tables answer and leave
---   spectra-length                                        one output: a row for each circuit
---   Prepared                                              the checks are passed, and the spectra stand at the start of the work
---   prepared-done                                         what success tells
---   prepared-room                                         the rows of the circuits lie within the work
-use Prim.Native.Nat.{ℕ, _+_, _*_, _^_, _≤_, _<_}
-use native.Mathlib.Nat.{mul-one}
-use native.Mathlib.Omega.{arith}
+--   lengths-differ, lengths-same   the test of 17
+--   prepared-unchecked             2 or 12
+--   prepared-polarity, prepared-index, prepared-output, prepared-readings   13, 16, 20, 17
+--   prepared-filled                past these, what the spectra of the tables answer and leave
+--   Prepared                       the checks are passed, and the spectra stand at the start of the work
+--   prepared-done                  what success tells
+use Prim.Native.Nat.{ℕ, _^_, _≤_, _<_}
 use mathlib.Core.Path.{_≡_, refl, sym, ap, subst, _∙_}
-use mathlib.Core.Bool.{Bool, true, false, cond}
+use mathlib.Core.Bool.{Bool, true, false, _&&_}
 use mathlib.Core.List.{List, _++_}
-use borrow.Author.Tests.{lt-ltb, le-ltb}
-use lib.Dec.{leb}
-use lib.ListN.{length, drop, length-append}
+use borrow.Author.Tests.{lt-ltb, le-ltb, eq-eqb, ne-eqb}
+use lib.Dec.{leb, eqb}
+use lib.ListN.{length, drop}
 use Rattle.bits.specs.Answer.{Answer, Fills, Leaves, leaves, outcome}
 use Rattle.bits.specs.Answer.Answer.{gives, refused}
 use Rattle.bits.specs.Bounds.{allBelow}
 use Rattle.bits.specs.declared.Outcome.{Outcome}
 use Rattle.bits.specs.declared.Outcome.the-variants.{Done}
 use Rattle.bits.proofs.Answers.{gives-same, never-gives, unless-gives, onward-gives}
-use Rattle.job.specs.Layout.{maxFaults}
 use Rattle.tables.specs.Family.{Family}
+use Rattle.tables.specs.declared.Counts.{Counts}
 use Rattle.tables.proofs.Answers.{kept}
-use Rattle.spectra.specs.Listed.{familySpectra, places, entriesAt}
+use Rattle.spectra.specs.Listed.{familySpectra, places}
 use Rattle.spectra.specs.Operations.{polarityOk, tablesChecked, tableFamily, fromTables, filledFrom}
 use Rattle.spectra.specs.declared.Kind.{Kind}
-use Rattle.spectra.proofs.Families.{Fits, checked-fits, unchecked, checked, circuits-checked, listed-circuits, length-familySpectra}
-use Rattle.locating.specs.Locating.{indicesOk, preparedBy}
-use Rattle.locating.proofs.Indices.{entries-below}
+use Rattle.spectra.proofs.Families.{Fits, checked-fits, unchecked, checked}
+use Rattle.locating.specs.Locating.{lengthsOk, preparedBy}
 
-module _ (n faults : ℕ) (s : List ℕ) (kind : Kind) (k : ℕ) (indices : List ℕ) (paired : Bool) (work : List ℕ) {circuits : ℕ}
-    (listed : circuits ≡ cond (leb faults maxFaults) (faults + 1) 0) where
+-- ---- the test of 17
+
+module _ (indices outputs readings : List ℕ) where
+  pub lengths-differ : (length indices ≡ length readings → ⊥) → false ≡ lengthsOk indices outputs readings
+  lengths-differ h =
+      ap (λ (t : Bool). t && eqb (length outputs) (length readings)) (sym (ne-eqb (length indices) (length readings) h))
+
+  pub lengths-same : length indices ≡ length readings → eqb (length outputs) (length readings) ≡ lengthsOk indices outputs readings
+  lengths-same e = ap (λ (t : Bool). t && eqb (length outputs) (length readings)) (sym (eq-eqb (length indices) (length readings) e))
+
+-- ---- the ways out
+
+module _ (counts : Counts) (s : List ℕ) (kind : Kind) (k : ℕ) (indices outputs : List ℕ) (paired : Bool) (work : List ℕ) where
+  abbrev n : ℕ
+  n = counts .inputs
+
+  abbrev family : Family
+  family = tableFamily counts s
+
   abbrev go : Family → Answer (Fills (Unit {0}))
-  go F = preparedBy paired F kind k (entriesAt indices) (length work)
+  go F = preparedBy paired F kind k indices outputs (length work)
 
-  abbrev whole : Answer (Fills (Unit {0}))
-  whole = fromTables n (faults + 1) s go
-
-  pub prepared-unchecked : {i : ℕ} → tablesChecked n circuits s ≡ refused i → record { answer = refused i; memory = work } ≡ leaves whole work
-  prepared-unchecked {i} u = kept whole i work (unchecked n (faults + 1) s go (sym (circuits-checked n faults s listed) ∙ u))
-
-  module _ (ok : tablesChecked n circuits s ≡ gives tt) where
-    onto : whole ≡ go (tableFamily n (faults + 1) s)
-    onto = checked n (faults + 1) s go (sym (circuits-checked n faults s listed) ∙ ok)
-
-    pub prepared-polarity : {size : ℕ} → size ≡ 2 ^ n → size ≤ k → record { answer = refused 13; memory = work } ≡ leaves whole work
-    unfolding preparedBy
-    prepared-polarity e h = kept whole 13 work (onto ∙ (let l : 2 ^ n ≤ k = rw e at h in simp (le-ltb k (2 ^ n) l)))
-
-    module _ {size : ℕ} (e : size ≡ 2 ^ n) (h : k < size) where
-      small : k < 2 ^ n
-      small = subst (λ (x : ℕ). k < x) e h
-
-      pub prepared-index : allBelow (2 ^ n) indices ≡ false → record { answer = refused 16; memory = work } ≡ leaves whole work
-      unfolding preparedBy
-      prepared-index u = kept whole 16 work (onto ∙ simp (lt-ltb k (2 ^ n) small, entries-below n indices ∙ u))
-
-      module _ (u : allBelow (2 ^ n) indices ≡ true) where
-        pub prepared-readings : paired ≡ false → record { answer = refused 17; memory = work } ≡ leaves whole work
-        unfolding preparedBy
-        prepared-readings d = kept whole 17 work (onto ∙ simp (lt-ltb k (2 ^ n) small, entries-below n indices ∙ u, d))
-
-        filled-same : paired ≡ true → filledFrom (tableFamily n (faults + 1) s) kind k (length work) ≡ go (tableFamily n (faults + 1) s)
-        unfolding preparedBy filledFrom
-        filled-same d = simp (lt-ltb k (2 ^ n) small, entries-below n indices ∙ u, d)
-
-        pub prepared-filled : {answer : Answer (Unit {0})} {after : List ℕ} → paired ≡ true
-            → record { answer = answer; memory = after } ≡ leaves (fromTables n circuits s (λ F. filledFrom F kind k (length work))) work
-            → record { answer = answer; memory = after } ≡ leaves whole work
-        prepared-filled d p =
-            let number = listed-circuits faults listed (checked-fits n circuits s ok .listed) in
-            p
-            ∙ ap (λ (x : Answer (Fills (Unit {0}))). leaves x work)
-            (checked n circuits s (λ F. filledFrom F kind k (length work)) ok
-            ∙ ap (λ (c : ℕ). filledFrom (tableFamily n c s) kind k (length work)) number
-            ∙ filled-same d ∙ sym onto)
-
--- ---- success
-
-pub spectra-length : (kind : Kind) (k n circuits : ℕ) (s : List ℕ) → length (familySpectra kind k (tableFamily n circuits s)) ≡ circuits * 2 ^ n
-spectra-length kind k n circuits s = length-familySpectra kind k (tableFamily n circuits s) ∙ ap (λ (x : ℕ). x * 2 ^ n) (mul-one circuits)
-
-module _ (n circuits : ℕ) (s : List ℕ) (kind : Kind) (k : ℕ) (indices : List ℕ) (paired : Bool) (work : List ℕ) where
   abbrev prepared : Answer (Fills (Unit {0}))
-  prepared = fromTables n circuits s (λ F. preparedBy paired F kind k (entriesAt indices) (length work))
+  prepared = fromTables counts s go
+
+  pub prepared-unchecked : {i : ℕ} → tablesChecked counts s ≡ refused i → record { answer = refused i; memory = work } ≡ leaves prepared work
+  prepared-unchecked {i} u = kept prepared i work (unchecked counts s go u)
+
+  module _ (ok : tablesChecked counts s ≡ gives tt) {size : ℕ} (e : size ≡ 2 ^ n) where
+    onto : prepared ≡ go family
+    onto = checked counts s go ok
+
+    pub prepared-polarity : size ≤ k → record { answer = refused 13; memory = work } ≡ leaves prepared work
+    unfolding preparedBy
+    prepared-polarity h = kept prepared 13 work (onto ∙ (let l : 2 ^ n ≤ k = rw e at h in simp (le-ltb k (2 ^ n) l)))
+
+    module _ (h : k < size) where
+      small : polarityOk n k ≡ true
+      small = lt-ltb k (2 ^ n) (subst (λ (x : ℕ). k < x) e h)
+
+      at-size : allBelow (2 ^ n) indices ≡ allBelow size indices
+      at-size = ap (λ (x : ℕ). allBelow x indices) (sym e)
+
+      pub prepared-index : allBelow size indices ≡ false → record { answer = refused 16; memory = work } ≡ leaves prepared work
+      unfolding preparedBy
+      prepared-index u = kept prepared 16 work (onto ∙ simp (small, at-size ∙ u))
+
+      module _ (u : allBelow size indices ≡ true) where
+        pub prepared-output : allBelow (counts .outputs) outputs ≡ false → record { answer = refused 20; memory = work } ≡ leaves prepared work
+        unfolding preparedBy
+        prepared-output o = kept prepared 20 work (onto ∙ simp (small, at-size ∙ u, o))
+
+        module _ (o : allBelow (counts .outputs) outputs ≡ true) where
+          pub prepared-readings : paired ≡ false → record { answer = refused 17; memory = work } ≡ leaves prepared work
+          unfolding preparedBy
+          prepared-readings d = kept prepared 17 work (onto ∙ simp (small, at-size ∙ u, o, d))
+
+          filled-same : paired ≡ true → filledFrom family kind k (length work) ≡ go family
+          unfolding preparedBy filledFrom
+          filled-same d = simp (small, at-size ∙ u, o, d)
+
+          pub prepared-filled : {answer : Answer (Unit {0})} {after : List ℕ} → paired ≡ true
+              → record { answer = answer; memory = after } ≡ leaves (fromTables counts s (λ F. filledFrom F kind k (length work))) work
+              → record { answer = answer; memory = after } ≡ leaves prepared work
+          prepared-filled d p =
+              p
+              ∙ ap (λ (x : Answer (Fills (Unit {0}))). leaves x work)
+              (checked counts s (λ F. filledFrom F kind k (length work)) ok ∙ filled-same d ∙ sym onto)
+
+  -- ---- success
 
   abbrev spectra : List ℕ
-  spectra = familySpectra kind k (tableFamily n circuits s)
+  spectra = familySpectra kind k family
 
   pub record Prepared (after : List ℕ) : Type 0 where
-    pub fits : Fits n circuits s
-    pub below : allBelow (2 ^ n) indices ≡ true
+    pub fits : Fits counts s
+    pub indices-below : allBelow (2 ^ (counts .inputs)) indices ≡ true
+    pub outputs-below : allBelow (counts .outputs) outputs ≡ true
     pub pairs : paired ≡ true
     pub answer : prepared ≡ gives (record { value = tt; filled = spectra })
     pub stands : after ≡ spectra ++ drop (length spectra) work
@@ -102,16 +114,18 @@ module _ (n circuits : ℕ) (s : List ℕ) (kind : Kind) (k : ℕ) (indices : Li
   unfolding preparedBy
   done (refused i) e after p = absurd (never-gives (sym (ap (λ (x : Leaves (Unit {0})). x .answer) p)))
   done (gives w) e after p =
-      let whole = onward-gives (tablesChecked n circuits s) (λ _. preparedBy paired (tableFamily n circuits s) kind k (entriesAt indices) (length work)) e in
+      let whole = onward-gives (tablesChecked counts s) (λ _. go family) e in
       let first = unless-gives (polarityOk n k) 13 _ (whole .2) in
-      let second = unless-gives (indicesOk n (entriesAt indices)) 16 _ (first .1) in
-      let third = unless-gives paired 17 _ (second .1) in
-      let fourth = unless-gives (leb (places (tableFamily n circuits s)) (length work)) 10 _ (third .1) in
-      let same : record { value = tt; filled = spectra } ≡ w = gives-same (fourth .1) in
+      let second = unless-gives (allBelow (2 ^ n) indices) 16 _ (first .1) in
+      let third = unless-gives (allBelow (counts .outputs) outputs) 20 _ (second .1) in
+      let fourth = unless-gives paired 17 _ (third .1) in
+      let fifth = unless-gives (leb (places family) (length work)) 10 _ (fourth .1) in
+      let same : record { value = tt; filled = spectra } ≡ w = gives-same (fifth .1) in
       record {
-        fits = checked-fits n circuits s (whole .1);
-        below = sym (entries-below n indices) ∙ second .0;
-        pairs = third .0;
+        fits = checked-fits counts s (whole .1);
+        indices-below = second .0;
+        outputs-below = third .0;
+        pairs = fourth .0;
         answer = e ∙ ap gives (sym same);
         stands =
             ap (λ (x : Leaves (Unit {0})). x .memory) p
@@ -120,9 +134,3 @@ module _ (n circuits : ℕ) (s : List ℕ) (kind : Kind) (k : ℕ) (indices : Li
 
   pub prepared-done : {after : List ℕ} (r : Outcome) → record { answer = outcome r; memory = after } ≡ leaves prepared work → r ≡ Done → Prepared after
   prepared-done {after} r p e = done prepared refl after (ap (λ (x : Outcome). record { answer = outcome x; memory = after }) (sym e) ∙ p)
-
-  pub prepared-room : {after : List ℕ} → Prepared after → circuits * 2 ^ n ≤ length after
-  prepared-room {after} w =
-      let long : length after ≡ length spectra + length (drop (length spectra) work) =
-      ap length (w .stands) ∙ length-append spectra (drop (length spectra) work) in
-      omega (arith, long, spectra-length kind k n circuits s)

@@ -7,25 +7,30 @@
 --   counted-yes, counted-no                  the number after one row more
 --   lowest-kept, lowest-new, lowest-stays     the lowest after one row more
 --   told-none, told-one, told-more           the location that lowest and number tell
---   row-within       a row of the work lies within it
---   agreed-row       what is read from a row tells whether it agrees
+--   row-within, row-wide   a row of the work lies within it, and so is no wider
+--   row-readable     a number of a row of the work for each entry
+--   rows-agree       what the code reads from rows tells which agree
 use Prim.Native.Nat.{ℕ, zero, suc, _+_, _*_, _^_, _≤_, _<_}
-use native.Mathlib.Nat.{suc-mul, mul-le-mul-right}
+use native.Mathlib.Nat.{suc-mul, mul-le-mul-right, lt-of-lt-of-le}
 use native.Mathlib.Numerals.{add-one}
 use native.Mathlib.Omega.{arith}
 use mathlib.Core.Path.{_≡_, refl, sym, ap, ap₂, subst, _∙_}
 use mathlib.Core.Bool.{Bool, true, false, _&&_, cond}
 use mathlib.Core.List.{List, [], _∷_, _++_}
 use borrow.Author.Tests.{eq-eqb, ne-eqb}
+use lib.Arith.{digits-lt}
 use lib.Dec.{eqb}
 use lib.ListN.{length, getD, length-append}
 use Rattle.bits.specs.Passing.{passing}
+use Rattle.bits.proofs.Bounds.{entry-below}
 use Rattle.bits.proofs.Passing.{at-most}
 use Rattle.bits.specs.Answer.Answer.{gives}
+use Rattle.tables.specs.declared.Counts.{Counts}
+use Rattle.spectra.specs.Listed.{entriesAt}
 use Rattle.spectra.specs.Operations.{sameNumbers}
 use Rattle.locating.specs.Locating.{location}
 use Rattle.locating.specs.Locating.Location.{alone, several, nowhere}
-use Rattle.locating.specs.Scanning.{locationOf, numbersAt, workAgrees}
+use Rattle.locating.specs.Scanning.{locationOf, numbersAt, workAgrees, Readable, RowsIn}
 
 pub record Scanned (p : ℕ → Bool) (rows c lowest count : ℕ) : Type 0 where
   pub within : c ≤ rows
@@ -103,12 +108,43 @@ told-more lowest zero a b = absurd (a refl)
 told-more lowest (suc zero) a b = absurd (b refl)
 told-more lowest (suc (suc more)) a b = refl
 
-pub row-within : (n : ℕ) {size rows c room : ℕ} → size ≡ 2 ^ n → c < rows → rows * 2 ^ n ≤ room → c * size + 2 ^ n ≤ room
-row-within n {size} {rows} {c} {room} e h l =
-    let m : suc c * 2 ^ n ≤ rows * 2 ^ n = mul-le-mul-right (2 ^ n) h in
-    let s : suc c * 2 ^ n ≡ c * 2 ^ n + 2 ^ n = suc-mul c (2 ^ n) in
-    subst (λ (x : ℕ). c * x + 2 ^ n ≤ room) (sym e) (omega arith)
+-- ---- the rows of the work
 
-pub agreed-row : (work : List ℕ) (n : ℕ) (indices readings : List ℕ) (c : ℕ) {size : ℕ} {u : Bool} → size ≡ 2 ^ n
-    → u ≡ sameNumbers (numbersAt work (c * size) indices) readings → u ≡ workAgrees work n indices readings c
-agreed-row work n indices readings c e h = h ∙ ap (λ (x : ℕ). sameNumbers (numbersAt work (c * x) indices) readings) e
+module _ {counts : Counts} {indices outputs readings : List ℕ} {room : ℕ} (w : RowsIn counts indices outputs readings room) where
+  abbrev full : ℕ
+  full = 2 ^ (counts .inputs)
+
+  readable : {c : ℕ} → c < counts .faults + 1 → Readable full indices outputs readings (c * (counts .outputs * full)) room
+  readable {c} h =
+      record {
+        indexed = w .indexed;
+        paired = w .paired;
+        within = λ i l.
+            lt-of-lt-of-le
+            (digits-lt h
+            (digits-lt (entry-below (counts .outputs) outputs i (w .outputs-below) (omega (arith, w .indexed, w .paired)))
+            (entry-below full indices i (w .indices-below) l)))
+            (w .enough);
+      }
+
+  module _ {size : ℕ} (e : size ≡ full) where
+    pub row-within : {c : ℕ} → c < counts .faults + 1 → c * (counts .outputs * size) + counts .outputs * size ≤ room
+    row-within {c} h =
+        let m : suc c * (counts .outputs * full) ≤ (counts .faults + 1) * (counts .outputs * full) = mul-le-mul-right (counts .outputs * full) h in
+        let s : suc c * (counts .outputs * full) ≡ c * (counts .outputs * full) + counts .outputs * full = suc-mul c (counts .outputs * full) in
+        subst (λ (x : ℕ). c * (counts .outputs * x) + counts .outputs * x ≤ room) (sym e) (omega (arith, w .enough))
+
+    pub row-wide : counts .outputs * size ≤ room
+    row-wide = let h = row-within {c = 0} (omega arith) in omega (arith, h)
+
+    pub row-readable : {c : ℕ} → c < counts .faults + 1 → Readable size indices outputs readings (c * (counts .outputs * size)) room
+    row-readable {c} h = subst (λ (x : ℕ). Readable x indices outputs readings (c * (counts .outputs * x)) room) (sym e) (readable h)
+
+    pub rows-agree : (work : List ℕ) (rows : ℕ)
+        → gives (location (passing (λ r. sameNumbers (numbersAt work (r * (counts .outputs * size)) size (entriesAt indices outputs)) readings) rows))
+        ≡ gives (location (passing (workAgrees work counts (entriesAt indices outputs) readings) rows))
+    rows-agree work rows =
+        ap
+        (λ (x : ℕ).
+        gives (location (passing (λ r. sameNumbers (numbersAt work (r * (counts .outputs * x)) x (entriesAt indices outputs)) readings) rows)))
+        e

@@ -1,8 +1,9 @@
 // A unit located from its readings (document 01, "Locating").
 //
-// `prepare` has the checks and fills the work: 13, 16 and 17 come before 10, so they are judged before the spectra are
-// made; 16 over the whole list, then 17. Then each circuit's coefficients at the indices are compared with the readings.
-ghost use Prim.Native.Nat.{_+_, _*_, _^_, _≤_, _<_};
+// The list is lent as its indices and its outputs. `prepare` has the checks and fills the work: 13, 16, 20 and 17 come
+// before 10, so they are judged before the spectra are made; 16 over all indices, then 20 over all outputs, then 17.
+// Then each circuit's coefficients at the entries are compared with the readings.
+ghost use Prim.Native.Nat.{_+_, _^_, _<_};
 ghost use mathlib.Core.Path.{_≡_};
 ghost use mathlib.Core.Bool.{cond, _&&_};
 ghost use lib.Dec.{eqb};
@@ -12,8 +13,8 @@ ghost use Rattle.bits.specs.Answer.Answer.{gives};
 ghost use Rattle.bits.specs.Passing.{passing};
 ghost use Rattle.spectra.specs.Listed.{entriesAt};
 ghost use Rattle.spectra.specs.Operations.{sameNumbers, fromTables};
-ghost use Rattle.locating.specs.Locating.{preparedBy, locatedFrom, locatedOf, locatedTold, location};
-ghost use Rattle.locating.specs.Scanning.{numbersAt, workAgrees, locationOf, Readable};
+ghost use Rattle.locating.specs.Locating.{preparedBy, lengthsOk, locatedFrom, locatedOf, locatedTold, location};
+ghost use Rattle.locating.specs.Scanning.{numbersAt, workAgrees, locationOf, Readable, RowsIn};
 use bits::Outcome;
 use bits::Refusal;
 use spectra::Kind;
@@ -28,14 +29,22 @@ pub enum Located {
     Refused(Refusal),
 }
 
-// Whether the numbers of the work at the indices, from the place `start` on, are the readings.
-fn agrees(work: &[u16], indices: &[u16], readings: &[u16], n: usize, start: usize) -> bool
-    requires { ⌜ Readable n (now indices) (now readings) × (start + 2 ^ n ≤ length (now work)) ⌝ }
-    ensures { λ r. ⌜ r ≡ sameNumbers (numbersAt (now (work .entry)) start (now (indices .entry))) (now (readings .entry)) ⌝ }
+// Whether the numbers of the work at the entries, from the place `start` on, are the readings.
+fn agrees(
+    work: &[u16],
+    indices: &[u16],
+    outputs: &[u16],
+    readings: &[u16],
+    size: usize,
+    start: usize,
+) -> bool
+    requires { ⌜ Readable size (now indices) (now outputs) (now readings) start (length (now work)) ⌝ }
+    ensures { λ r. ⌜ r ≡ sameNumbers (numbersAt (now (work .entry)) start size (entriesAt (now (indices .entry)) (now (outputs .entry)))) (now (readings .entry)) ⌝ }
 {
     let mut i = 0;
     while i < indices.len() {
-        if work[start + indices[i] as usize] != readings[i] {
+        let place = outputs[i] as usize * size + indices[i] as usize;
+        if work[start + place] != readings[i] {
             return false;
         }
         i += 1;
@@ -80,17 +89,19 @@ fn told(lowest: usize, count: usize) -> Located
     Located::Several(lowest, count)
 }
 
-// Which rows of the work, of 2 to the power n numbers each, agree with the readings.
-fn scan(work: &[u16], indices: &[u16], readings: &[u16], n: usize, rows: usize) -> Located
-    requires { ⌜ (n ≤ 15) × Readable n (now indices) (now readings) × (rows * 2 ^ n ≤ length (now work)) ⌝ }
-    ensures { λ r. ⌜ locatedTold r ≡ gives (location (passing (workAgrees (now (work .entry)) n (now (indices .entry)) (now (readings .entry))) rows)) ⌝ }
+// Which of the counted circuits, whose rows of the work have N numbers an output, agree with the readings.
+fn scan(work: &[u16], counts: Counts, indices: &[u16], outputs: &[u16], readings: &[u16]) -> Located
+    requires { ⌜ RowsIn counts (now indices) (now outputs) (now readings) (length (now work)) ⌝ }
+    ensures { λ r. ⌜ locatedTold r ≡ gives (location (passing (workAgrees (now (work .entry)) counts (entriesAt (now (indices .entry)) (now (outputs .entry))) (now (readings .entry))) (counts .faults + 1))) ⌝ }
 {
-    let size = bits::table_size(n);
+    let size = bits::table_size(counts.inputs);
+    let width = counts.outputs * size;
+    let circuits = counts.faults + 1;
     let mut lowest = 0;
     let mut count = 0;
     let mut c = 0;
-    while c < rows {
-        let agreed = agrees(work, indices, readings, n, c * size);
+    while c < circuits {
+        let agreed = agrees(work, indices, outputs, readings, size, c * width);
         lowest = lowest_of(lowest, count, c, agreed);
         count = counted(count, agreed);
         c += 1;
@@ -99,67 +110,90 @@ fn scan(work: &[u16], indices: &[u16], readings: &[u16], n: usize, rows: usize) 
 }
 
 // The checks of locating, 17 by a test of the caller's, and then the spectra of the counted circuits, from their tables, one after the other:
-// 2; 12; 13; 16; 17; 10.
+// 2; 12; 13; 16; 20; 17; 10.
 pub fn prepare(
     counts: Counts,
     tables: &[u8],
     kind: Kind,
     polarity: usize,
     indices: &[u16],
+    outputs: &[u16],
     paired: bool,
     work: &mut [u16],
 ) -> Outcome
-    ensures { λ r. ⌜ record { answer = outcome r; memory = now (work .exit) } ≡ leaves (fromTables (counts .inputs) (counts .faults + 1) (now (tables .entry)) (λ F. preparedBy paired F kind polarity (entriesAt (now (indices .entry))) (length (now (work .entry))))) (now (work .entry)) ⌝ }
+    ensures { λ r. ⌜ record { answer = outcome r; memory = now (work .exit) } ≡ leaves (fromTables counts (now (tables .entry)) (λ F. preparedBy paired F kind polarity (now (indices .entry)) (now (outputs .entry)) (length (now (work .entry))))) (now (work .entry)) ⌝ }
 {
-    let circuits = tables::circuits_of(counts);
-    let n = counts.inputs;
-    let checked = spectra::check_tables(n, circuits, tables);
+    let checked = spectra::check_tables(counts, tables);
     if let Outcome::Refused(cause) = checked {
         return Outcome::Refused(cause);
     }
-    let size = bits::table_size(n);
+    let size = bits::table_size(counts.inputs);
     if size <= polarity {
         return Outcome::Refused(Refusal::Polarity);
     }
     if !bits::all_below(indices, size) {
         return Outcome::Refused(Refusal::Index);
     }
+    if !bits::all_below(outputs, counts.outputs) {
+        return Outcome::Refused(Refusal::OutputNumber);
+    }
     if !paired {
         return Outcome::Refused(Refusal::Readings);
     }
-    spectra::fill(n, circuits, tables, kind, polarity, work)
+    spectra::fill(counts, tables, kind, polarity, work)
 }
 
-// Which of the counted circuits agree with readings at a list of indices, from their tables, one after the other: 2; 12; 13; 16; 17; 10.
+// Whether there are as many indices and as many outputs as readings.
+fn lengths_ok(indices: &[u16], outputs: &[u16], readings: &[u16]) -> bool
+    ensures { λ r. ⌜ r ≡ lengthsOk (now (indices .entry)) (now (outputs .entry)) (now (readings .entry)) ⌝ }
+{
+    if indices.len() != readings.len() {
+        return false;
+    }
+    outputs.len() == readings.len()
+}
+
+// Which of the counted circuits agree with readings at a list of entries, from their tables, one after the other: 2; 12; 13; 16; 20; 17; 10.
 pub fn locate_tables(
     counts: Counts,
     tables: &[u8],
     kind: Kind,
     polarity: usize,
     indices: &[u16],
+    outputs: &[u16],
     readings: &[u16],
     work: &mut [u16],
 ) -> Located
-    ensures { λ r. ⌜ record { answer = locatedTold r; memory = now (work .exit) } ≡ leaves (fromTables (counts .inputs) (counts .faults + 1) (now (tables .entry)) (λ F. locatedFrom F kind polarity (entriesAt (now (indices .entry))) (now (readings .entry)) (length (now (work .entry))))) (now (work .entry)) ⌝ }
+    ensures { λ r. ⌜ record { answer = locatedTold r; memory = now (work .exit) } ≡ leaves (fromTables counts (now (tables .entry)) (λ F. locatedFrom F kind polarity (now (indices .entry)) (now (outputs .entry)) (now (readings .entry)) (length (now (work .entry))))) (now (work .entry)) ⌝ }
 {
-    let paired = indices.len() == readings.len();
-    let outcome = prepare(counts, tables, kind, polarity, indices, paired, work);
+    let paired = lengths_ok(indices, outputs, readings);
+    let outcome = prepare(
+        counts,
+        tables,
+        kind,
+        polarity,
+        indices,
+        outputs,
+        paired,
+        work,
+    );
     match outcome {
         Outcome::Refused(cause) => Located::Refused(cause),
-        Outcome::Done => scan(work, indices, readings, counts.inputs, counts.faults + 1),
+        Outcome::Done => scan(work, counts, indices, outputs, readings),
     }
 }
 
-// Which circuits of a job agree with readings at a list of indices; the work then holds the spectra of all circuits.
+// Which circuits of a job agree with readings at a list of entries; the work then holds the spectra of all circuits.
 pub fn locate(
     bytes: &[u8],
     kind: Kind,
     polarity: usize,
     indices: &[u16],
+    outputs: &[u16],
     readings: &[u16],
     work: &mut [u16],
 ) -> Located
-    ensures { λ r. ⌜ record { answer = locatedTold r; memory = now (work .exit) } ≡ leaves (locatedOf (now (bytes .entry)) kind polarity (now (indices .entry)) (now (readings .entry)) (length (now (work .entry)))) (now (work .entry)) ⌝ }
+    ensures { λ r. ⌜ record { answer = locatedTold r; memory = now (work .exit) } ≡ leaves (locatedOf (now (bytes .entry)) kind polarity (now (indices .entry)) (now (outputs .entry)) (now (readings .entry)) (length (now (work .entry)))) (now (work .entry)) ⌝ }
 {
     let mut packed = [0u8; ALL_TABLES_BYTES];
     let delivery = tables::tables(bytes, &mut packed);
@@ -174,6 +208,7 @@ pub fn locate(
                 kind,
                 polarity,
                 indices,
+                outputs,
                 readings,
                 work,
             )

@@ -65,6 +65,25 @@ pub fn numbers(word: &[u8], numbers: &[u16], count: usize) {
     put(b"\n");
 }
 
+// An entry behind a space: index, colon, output.
+fn put_pair(index: usize, output: usize) {
+    put_number(b"", index);
+    put(b":");
+    io::print_decimal(STDOUT_FILENO, output as u64);
+}
+
+// The line of the first `count` entries, as far as there are so many.
+pub fn entries(word: &[u8], indices: &[u16], outputs: &[u16], count: usize) {
+    put(word);
+    let end = bits::least(count, bits::least(indices.len(), outputs.len()));
+    let mut i = 0;
+    while i < end {
+        put_pair(indices[i] as usize, outputs[i] as usize);
+        i += 1;
+    }
+    put(b"\n");
+}
+
 // The same of bytes.
 pub fn bytes(word: &[u8], bytes: &[u8], count: usize) {
     put(word);
@@ -83,16 +102,19 @@ pub fn circuit(circuit: usize, table: &[u8]) {
     bytes(b"", table, table.len());
 }
 
-// The places at which two rows have different numbers.
-pub fn unlike(good: &[u16], faulty: &[u16]) {
-    put(b"detects");
+// The start of a line.
+pub fn begin(word: &[u8]) {
+    put(word);
+}
+
+// The entries at which two rows of an output have different numbers.
+pub fn unlike(good: &[u16], faulty: &[u16], output: usize) {
     let end = bits::least(good.len(), faulty.len());
     let mut i = 0;
     while i < end {
         if good[i] != faulty[i] {
-            put_number(b"", i);
+            put_pair(i, output);
         }
         i += 1;
     }
-    put(b"\n");
 }

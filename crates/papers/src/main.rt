@@ -3,11 +3,11 @@
 // Standard input has a task a line. Its first word says which; words are parted by one space. A refused task is answered with the refusal's number.
 //   # ..                            names the tasks that follow, and is written as it is
 //   job HH HH ..                    gives the bytes of a job, for the tasks up to the next job
-//   tables                          the packed tables of the job's circuits
+//   tables                          the packed tables of the job's circuits, output after output
 //   isolating KIND K                the job's isolating signature by the kind of spectrum `rm` or `mrm` at a polarity
 //   detecting KIND K                its detecting signature
-//   locate KIND K I I .. / R R ..   the circuits of the job that agree with readings at indices
-//   fault KIND K C                  the indices at which circuit C of the job is not as the good one
+//   locate KIND K I:O .. / R ..     the circuits of the job that agree with readings at entries, an index and an output each
+//   fault KIND K C                  the entries at which circuit C of the job is not as the good one
 //   spectra N K HH HH ..            the RM and the MRM spectrum of a table of N inputs
 //   undo KIND N K C C ..            the table of a spectrum
 //   record HH HH ..                 how many bytes the record of a job is written in; records.rt has the numbers of the line
@@ -16,6 +16,7 @@ ghost use lib.ListN.{length};
 use job::MAX_FAULTS;
 use job::MAX_INPUTS;
 use job::MAX_JOB_BYTES;
+use job::MAX_OUTPUTS;
 use libc::STDIN_FILENO;
 
 mod jobs;
@@ -32,8 +33,8 @@ const MAX_ENTRIES: usize = 1 << MAX_INPUTS;
 
 const MAX_TABLE_BYTES: usize = MAX_ENTRIES / 8;
 
-// The good circuit and each fault.
-const MAX_CIRCUITS: usize = MAX_FAULTS + 1;
+// A table for the good circuit and each fault, at each output.
+const MAX_ROWS: usize = (MAX_FAULTS + 1) * MAX_OUTPUTS;
 
 fn main() {
     let mut text = io::large_buffer();

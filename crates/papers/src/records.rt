@@ -10,20 +10,21 @@ use writing::Written;
 const ROOM: usize = 16;
 
 // A line has so many numbers at most; those that it lacks are 0.
-const MAX_NUMBERS: usize = 11;
+const MAX_NUMBERS: usize = 15;
 
-// The line gives the number of bytes lent, and the record: inputs, gates, output line, faults; then the first gate and the first fault, each
-// as its kind, line a and line b. The other entries are unused.
+// The line gives the number of bytes lent, and the record: inputs, gates, outputs, the four output lines, faults; then the first gate and the first
+// fault, each as its kind, line a and line b. The other entries are unused.
 pub fn list_written(line: &[u8]) {
     let mut numbers = [0u8; MAX_NUMBERS];
     words::bytes(line, 1, &mut numbers);
     let mut job = job::empty_job();
     job.inputs = numbers[1];
     job.gate_count = numbers[2];
-    job.output = numbers[3];
-    job.fault_count = numbers[4];
-    job.gates[0] = gate_entry(numbers[5], numbers[6], numbers[7]);
-    job.faults[0] = fault_entry(numbers[8], numbers[9], numbers[10]);
+    job.output_count = numbers[3];
+    job.outputs = [numbers[4], numbers[5], numbers[6], numbers[7]];
+    job.fault_count = numbers[8];
+    job.gates[0] = gate_entry(numbers[9], numbers[10], numbers[11]);
+    job.faults[0] = fault_entry(numbers[12], numbers[13], numbers[14]);
     write(job, numbers[0]);
 }
 

@@ -28,7 +28,7 @@ fn list_spectrum(word: &[u8], line: &[u8], table: &[u8], kind: Kind) {
 // The table of the spectrum that the line gives.
 pub fn list_undone(line: &[u8]) {
     let mut numbers = [0u16; MAX_ENTRIES];
-    let count = words::decimals(line, 4, &mut numbers);
+    let count = words::decimals(line, 4, b' ', &mut numbers);
     list_table(line, &numbers[..count]);
 }
 

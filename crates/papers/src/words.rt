@@ -27,25 +27,30 @@ pub fn letter(text: &[u8], at: usize) -> u8 {
     if at < text.len() { text[at] } else { 0 }
 }
 
-// Where the word begins that follows the one at a place; the line's end where there is none.
-fn next_word(line: &[u8], from: usize) -> usize
+// The place behind the first such character from a place on; the line's end where there is none.
+fn behind(line: &[u8], from: usize, character: u8) -> usize
     ensures { λ r. ⌜ r ≤ length (now (line .entry)) ⌝ }
 {
-    let end = place_of(line, from, b' ');
+    let end = place_of(line, from, character);
     if end < line.len() { end + 1 } else { end }
 }
 
-// Where word `number` begins, the line's first being word 0; the line's end where there are fewer.
-fn word(line: &[u8], number: usize) -> usize
+// Where field `number` begins in a line that a separator parts, the first being field 0; the line's end where there are fewer.
+fn field(line: &[u8], number: usize, separator: u8) -> usize
     ensures { λ r. ⌜ r ≤ length (now (line .entry)) ⌝ }
 {
     let mut at = 0;
     let mut i = 0;
     while i < number {
-        at = next_word(line, at);
+        at = behind(line, at, separator);
         i += 1;
     }
     at
+}
+
+// Where word `number` begins.
+fn word(line: &[u8], number: usize) -> usize {
+    field(line, number, b' ')
 }
 
 // The kind of spectrum that word 1 names.
@@ -61,11 +66,11 @@ pub fn decimal(line: &[u8], number: usize) -> usize {
     decimal_at(line, word(line, number))
 }
 
-// The decimal number at a place, up to the word's end.
+// The decimal number at a place, up to a colon or the word's end.
 fn decimal_at(line: &[u8], from: usize) -> usize
     ensures { λ r. ⌜ r ≤ 65535 ⌝ }
 {
-    let end = place_of(line, from, b' ');
+    let end = bits::least(place_of(line, from, b' '), place_of(line, from, b':'));
     let mut value = 0;
     let mut i = from;
     while i < end {
@@ -88,24 +93,24 @@ fn next_value(value: usize, character: u8) -> usize
     }
 }
 
-// Puts the words from word `first` on, as decimal numbers, at the start of `out`, as far as they fit, and answers how many there are.
-pub fn decimals(line: &[u8], first: usize, out: &mut [u16]) -> usize
+// Puts the numbers of the fields from field `first` on at the start of `out`, as far as they fit, and answers how many there are.
+pub fn decimals(line: &[u8], first: usize, separator: u8, out: &mut [u16]) -> usize
     ensures { λ r. ⌜ Within r (now (out .exit)) ⌝ }
 {
-    let mut at = word(line, first);
+    let mut at = field(line, first, separator);
     let mut count = 0;
     while count < out.len() {
         if line.len() <= at {
             return count;
         }
         out[count] = decimal_at(line, at) as u16;
-        at = next_word(line, at);
+        at = behind(line, at, separator);
         count += 1;
     }
     count
 }
 
-// The same for words of two hexadecimal digits, as bytes.
+// The same for the words from word `first` on, of two hexadecimal digits each, as bytes.
 pub fn bytes(line: &[u8], first: usize, out: &mut [u8]) -> usize
     ensures { λ r. ⌜ Within r (now (out .exit)) ⌝ }
 {
@@ -116,7 +121,7 @@ pub fn bytes(line: &[u8], first: usize, out: &mut [u8]) -> usize
             return count;
         }
         out[count] = byte_at(line, at);
-        at = next_word(line, at);
+        at = behind(line, at, b' ');
         count += 1;
     }
     count

@@ -1,6 +1,7 @@
 -- Short jobs of one input, by computation (specs/Reading.antt).
 --
 --   four-first    a NOT whose line a is its own, and whose line b is another: 4, not 5
+--   six-first     two outputs, of which the first is no line and the second is cut off: 6, not 1
 --   cut-loose     bytes that end before the fault count, where the output is the input and a NOT of it is loose: 19, not 1
 --   cut-tight     the same where the output is the NOT: 1
 --   seven-first   a bridge of lines 1 and 0: 7, not 8
@@ -11,15 +12,16 @@ use Rattle.bits.specs.Bits.{bitsOf, valueFrom, valueOf, stringOf}
 use Rattle.bits.specs.Building.{builtTo}
 use Rattle.bits.specs.Parser.{field}
 use Rattle.job.specs.Dependence.{depends, loose, noneLoose}
-use Rattle.job.specs.Layout.{maxInputs, maxGates, maxFaults, inputCountBits, gateCountBits, gateKindBits, lineBits, faultCountBits, faultKindBits}
-use Rattle.job.specs.Record.{noGates, noFaults, emptyJob}
-use Rattle.reading.specs.Reading.{entryFields, gate, fault, entriesFrom, fromFaults, fromFaultCount, fromOutput, fromGates, wholeJob, reading}
+use Rattle.job.specs.Layout.{maxInputs, maxGates, maxOutputs, maxFaults, inputCountBits, gateCountBits, gateKindBits, lineBits, outputCountBits, faultCountBits, faultKindBits}
+use Rattle.job.specs.Record.{noGates, noOutputs, noFaults, emptyJob}
+use Rattle.reading.specs.Reading.{entryFields, gate, outputLine, fault, entriesFrom, fromFaults, fromFaultCount, fromOutputs, fromOutputCount, fromGates, wholeJob, reading}
 
 pub record Answers : Type 0 where
   pub four-first : reading (16 ∷ 56 ∷ 8 ∷ 0 ∷ []) ≡ refused 4
+  pub six-first : reading (16 ∷ 8 ∷ 16 ∷ []) ≡ refused 6
   pub cut-loose : reading (16 ∷ 56 ∷ 0 ∷ 0 ∷ 0 ∷ []) ≡ refused 19
-  pub cut-tight : reading (16 ∷ 56 ∷ 0 ∷ 0 ∷ 32 ∷ []) ≡ refused 1
-  pub seven-first : reading (16 ∷ 0 ∷ 1 ∷ 128 ∷ 128 ∷ []) ≡ refused 7
+  pub cut-tight : reading (16 ∷ 56 ∷ 0 ∷ 0 ∷ 8 ∷ []) ≡ refused 1
+  pub seven-first : reading (16 ∷ 0 ∷ 0 ∷ 96 ∷ 32 ∷ 0 ∷ []) ≡ refused 7
 
 pub answers : Answers
 unfolding
@@ -30,11 +32,13 @@ unfolding
     field
     maxInputs
     maxGates
+    maxOutputs
     maxFaults
     inputCountBits
     gateCountBits
     gateKindBits
     lineBits
+    outputCountBits
     faultCountBits
     faultKindBits
     builtTo
@@ -42,21 +46,25 @@ unfolding
     loose
     noneLoose
     noGates
+    noOutputs
     noFaults
     emptyJob
     entryFields
     gate
+    outputLine
     fault
     entriesFrom
     fromFaults
     fromFaultCount
-    fromOutput
+    fromOutputs
+    fromOutputCount
     fromGates
     wholeJob
     reading
 answers =
     record {
       four-first = refl;
+      six-first = refl;
       cut-loose = refl;
       cut-tight = refl;
       seven-first = refl;

@@ -2,13 +2,14 @@
 --
 --   EntryTaken, entryFields-gives   what the three fields of an entry took off the front of a string of bits
 --   GateTaken, gate-gives           what a gate took, and the tests that it passed
+--   OutputTaken, outputLine-gives   the same for an output line
 --   FaultTaken, fault-gives         the same for a fault
 --   Chain                           entries taken one behind the other, each as a relation says
 --   EntriesTaken, entries-gives     what a run of entries took, and the list that it left
 --   chain-each                      what holds of each entry taken holds of each entry of the list
 --   sets-front, sets-at, sets-taken   the list that a run left has the entries taken in front
 --   Parts, reading-parts            what a whole job took, and the tests that it passed
-use Prim.Native.Nat.{ℕ, zero, suc, _+_, _^_, _≤_, _<_}
+use Prim.Native.Nat.{ℕ, zero, suc, _+_, _-_, _^_, _≤_, _<_}
 use native.Mathlib.Nat.{add-zero, zero-add, not-suc-le-zero, le-of-suc-le-suc}
 use native.Mathlib.Omega.{arith}
 use mathlib.Core.Path.{_≡_, refl, sym, ap, _∙_, subst}
@@ -22,16 +23,16 @@ use Rattle.bits.specs.Answer.Answer.{gives, refused}
 use Rattle.bits.specs.Bits.{bitsOf, stringOf}
 use Rattle.bits.specs.Field.{spareOnly}
 use Rattle.bits.specs.Parser.{Parser, Parsed, parsed}
-use Rattle.bits.proofs.Answers.{gives-same, never-gives, unless-gives, andThen-gives, check-then, field-then}
+use Rattle.bits.proofs.Answers.{gives-same, never-gives, unless-gives, andThen-gives, check-then, Taken, field-then}
 use Rattle.bits.proofs.Bits.{AllBits, bits-stringOf}
 use Rattle.job.specs.Check.{inputsOk, gateCountOk, outputOk, faultLineOk}
 use Rattle.job.specs.Dependence.{noneLoose, noLoose}
-use Rattle.job.specs.Layout.{inputCountBits, gateCountBits, gateKindBits, lineBits, faultCountBits, faultKindBits}
-use Rattle.job.specs.Record.{gateOf, faultOf, lines, emptyJob, noGates, noFaults}
+use Rattle.job.specs.Layout.{inputCountBits, gateCountBits, gateKindBits, lineBits, outputCountBits, faultCountBits, faultKindBits}
+use Rattle.job.specs.Record.{gateOf, faultOf, lines, emptyJob, noGates, noOutputs, noFaults}
 use Rattle.job.specs.declared.FaultEntry.{FaultEntry}
 use Rattle.job.specs.declared.GateEntry.{GateEntry}
 use Rattle.job.specs.declared.Job.{Job}
-use Rattle.reading.specs.Reading.{Entry, entryFields, unaryLinesOk, gate, faultLinesOk, fault, entriesFrom, spare, fromEnd, fromFaults, fromFaultCount, fromOutput, fromGates, wholeJob, valueRead, reading}
+use Rattle.reading.specs.Reading.{Entry, entryFields, unaryLinesOk, gate, outputLine, faultLinesOk, fault, entriesFrom, spare, fromEnd, fromFaults, fromFaultCount, fromOutputs, fromOutputCount, fromGates, wholeJob, valueRead, reading}
 
 pub record EntryTaken (w : ℕ) (bits : List ℕ) (e : Entry) (rest : List ℕ) : Type 0 where
   pub text : bits ≡ bitsOf w (e .kind) ++ (bitsOf lineBits (e .a) ++ (bitsOf lineBits (e .b) ++ rest))
@@ -72,6 +73,17 @@ gate-gives own bits q h e =
       lines-ok = lines-ok;
       taken = subst (λ (l : List ℕ). EntryTaken gateKindBits bits x l) (ap (λ (p : Parsed GateEntry). p .rest) (gives-same e)) (entryFields-gives gateKindBits bits (t .0) h (t .1));
     }
+
+pub record OutputTaken (count : ℕ) (bits : List ℕ) (line : ℕ) (rest : List ℕ) : Type 0 where
+  pub below : outputOk count line ≡ true
+  pub taken : Taken lineBits bits line rest
+
+pub outputLine-gives : (count : ℕ) (bits : List ℕ) (q : Parsed ℕ) → AllBits bits → outputLine count bits ≡ gives q → OutputTaken count bits (q .value) (q .rest)
+unfolding outputLine
+outputLine-gives count bits q h e =
+    field-then lineBits bits _ h e λ line r t e.
+    check-then (outputOk count line) 6 r _ e λ below e.
+    subst (λ (p : Parsed ℕ). OutputTaken count bits (p .value) (p .rest)) (gives-same e) (record { below = below; taken = t })
 
 pub record FaultTaken (n count : ℕ) (bits : List ℕ) (x : FaultEntry) (rest : List ℕ) : Type 0 where
   pub entry : Entry
@@ -148,15 +160,20 @@ module _ {A : Type 0} (es l : List A) (h : length es ≤ length l) where
 pub record Parts (bits : List ℕ) (j : Job) : Type 0 where
   pub before-gates : List ℕ
   pub after-gates : List ℕ
+  pub before-outputs : List ℕ
+  pub after-outputs : List ℕ
   pub before-faults : List ℕ
   pub spare-bits : List ℕ
   pub counts-text : bits ≡ bitsOf inputCountBits (j .inputs) ++ (bitsOf gateCountBits (j .«gate_count») ++ before-gates)
   pub inputs-ok : inputsOk (j .inputs) ≡ true
   pub gates-ok : gateCountOk (j .«gate_count») ≡ true
   pub gates : EntriesTaken (λ q. GateTaken (j .inputs + q)) (j .«gate_count») 0 noGates before-gates (j .gates) after-gates
-  pub output-text : after-gates ≡ bitsOf lineBits (j .output) ++ (bitsOf faultCountBits (j .«fault_count») ++ before-faults)
-  pub output-ok : outputOk (lines j) (j .output) ≡ true
+  pub output-count-text : after-gates ≡ bitsOf outputCountBits (j .«output_count» - 1) ++ before-outputs
+  pub outputs-some : 1 ≤ j .«output_count»
+  pub output-count-fits : j .«output_count» ≤ 2 ^ outputCountBits
+  pub outputs : EntriesTaken (λ _. OutputTaken (lines j)) (j .«output_count») 0 noOutputs before-outputs (j .outputs) after-outputs
   pub tight : noLoose j ≡ true
+  pub fault-count-text : after-outputs ≡ bitsOf faultCountBits (j .«fault_count») ++ before-faults
   pub fault-count-fits : j .«fault_count» < 2 ^ faultCountBits
   pub faults : EntriesTaken (λ _. FaultTaken (j .inputs) (lines j)) (j .«fault_count») 0 noFaults before-faults (j .faults) spare-bits
   pub spare-ok : spareOnly spare-bits ≡ true
@@ -166,6 +183,12 @@ gates-give : (n count : ℕ) (entries : List GateEntry) (bits : List ℕ) (q : P
 gates-give n count =
     entries-gives (λ k. gate (n + k)) (λ k. GateTaken (n + k))
     (λ k bits q h e. let t = gate-gives (n + k) bits q h e in (t, t .taken .bits-left)) count 0
+
+outputs-give : (lines count : ℕ) (entries : List ℕ) (bits : List ℕ) (q : Parsed (List ℕ)) → AllBits bits
+    → entriesFrom (λ _. outputLine lines) count 0 entries bits ≡ gives q → EntriesTaken (λ _. OutputTaken lines) count 0 entries bits (q .value) (q .rest)
+outputs-give lines count =
+    entries-gives (λ _. outputLine lines) (λ _. OutputTaken lines)
+    (λ k bits q h e. let t = outputLine-gives lines bits q h e in (t, t .taken .bits-left)) count 0
 
 faults-give : (n lines count : ℕ) (entries : List FaultEntry) (bits : List ℕ) (q : Parsed (List FaultEntry)) → AllBits bits
     → entriesFrom (λ _. fault n lines) count 0 entries bits ≡ gives q → EntriesTaken (λ _. FaultTaken n lines) count 0 entries bits (q .value) (q .rest)
@@ -180,7 +203,7 @@ fromEnd-gives j bits q e =
     (unless-gives (spareOnly bits) 9 (parsed tt []) (t .1) .0, ap (λ (p : Parsed Job). p .value) (gives-same (t .2)))
 
 wholeJob-parts : (bits : List ℕ) (q : Parsed Job) → AllBits bits → wholeJob bits ≡ gives q → Parts bits (q .value)
-unfolding wholeJob fromGates fromOutput fromFaultCount fromFaults emptyJob
+unfolding wholeJob fromGates fromOutputCount fromOutputs fromFaultCount fromFaults emptyJob
 wholeJob-parts bits q h e =
     field-then inputCountBits bits _ h e λ n r₁ t₁ e.
     check-then (inputsOk n) 2 r₁ _ e λ inputs-ok e.
@@ -188,26 +211,44 @@ wholeJob-parts bits q h e =
     check-then (gateCountOk g) 3 r₂ _ e λ gates-ok e.
     let gs = andThen-gives (entriesFrom (λ k. gate (n + k)) g 0 noGates r₂) _ e in
     let gt = gates-give n g noGates r₂ (gs .0) (t₂ .bits-left) (gs .1) in
-    field-then lineBits (gs .0 .rest) _ (gt .bits-left) (gs .2) λ line r₃ t₃ e.
-    check-then (outputOk (n + g) line) 6 r₃ _ e λ output-ok e.
-    check-then (noneLoose n (take g (gs .0 .value)) (line ∷ [])) 19 r₃ _ e λ tight e.
-    field-then faultCountBits r₃ _ (t₃ .bits-left) e λ f r₄ t₄ e.
+    field-then outputCountBits (gs .0 .rest) _ (gt .bits-left) (gs .2) λ less r₃ t₃ e.
+    let os = andThen-gives (entriesFrom (λ _. outputLine (n + g)) (less + 1) 0 noOutputs r₃) _ e in
+    let ot = outputs-give (n + g) (less + 1) noOutputs r₃ (os .0) (t₃ .bits-left) (os .1) in
+    check-then (noneLoose n (take g (gs .0 .value)) (take (less + 1) (os .0 .value))) 19 (os .0 .rest) _ (os .2) λ tight e.
+    field-then faultCountBits (os .0 .rest) _ (ot .bits-left) e λ f r₄ t₄ e.
     let fs = andThen-gives (entriesFrom (λ _. fault n (n + g)) f 0 noFaults r₄) _ e in
     let ft = faults-give n (n + g) f noFaults r₄ (fs .0) (t₄ .bits-left) (fs .1) in
-    let end = fromEnd-gives (record { inputs = n; «gate_count» = g; gates = gs .0 .value; output = line; «fault_count» = f; faults = fs .0 .value }) (fs .0 .rest) q (fs .2) in
+    let job : Job =
+    record {
+      inputs = n;
+      «gate_count» = g;
+      gates = gs .0 .value;
+      «output_count» = less + 1;
+      outputs = os .0 .value;
+      «fault_count» = f;
+      faults = fs .0 .value;
+    }
+    in
+    let end = fromEnd-gives job (fs .0 .rest) q (fs .2) in
+    let one-less : less ≡ less + 1 - 1 = omega arith in
     subst (λ (j : Job). Parts bits j) (end .1)
     (record {
       before-gates = r₂;
       after-gates = gs .0 .rest;
+      before-outputs = r₃;
+      after-outputs = os .0 .rest;
       before-faults = r₄;
       spare-bits = fs .0 .rest;
       counts-text = t₁ .text ∙ ap (λ (x : List ℕ). bitsOf inputCountBits n ++ x) (t₂ .text);
       inputs-ok = inputs-ok;
       gates-ok = gates-ok;
       gates = gt;
-      output-text = t₃ .text ∙ ap (λ (x : List ℕ). bitsOf lineBits line ++ x) (t₄ .text);
-      output-ok = output-ok;
+      output-count-text = t₃ .text ∙ ap (λ (k : ℕ). bitsOf outputCountBits k ++ r₃) one-less;
+      outputs-some = omega arith;
+      output-count-fits = omega (arith, t₃ .fits);
+      outputs = ot;
       tight = tight;
+      fault-count-text = t₄ .text;
       fault-count-fits = t₄ .fits;
       faults = ft;
       spare-ok = end .0;

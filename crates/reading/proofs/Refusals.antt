@@ -19,10 +19,10 @@ use Rattle.bits.specs.Parser.{Parser, Parsed, parsed, field, check, andThen}
 use Rattle.bits.proofs.Tests.{and-l, and-r, or-cases}
 use Rattle.job.specs.Check.{inputsOk, gateCountOk, outputOk, faultLineOk}
 use Rattle.job.specs.Dependence.{noLoose}
-use Rattle.job.specs.Layout.{inputCountBits, gateCountBits, gateKindBits, lineBits, faultCountBits, faultKindBits}
+use Rattle.job.specs.Layout.{inputCountBits, gateCountBits, gateKindBits, lineBits, outputCountBits, faultCountBits, faultKindBits}
 use Rattle.job.specs.Record.{faultOf, lines, emptyJob}
 use Rattle.job.specs.declared.Job.{Job}
-use Rattle.reading.specs.Reading.{entryFields, unaryLinesOk, gate, faultLinesOk, fault, entriesFrom, spare, withGates, withOutput, withFaultCount, withFaults, withCounts, fromEnd, fromFaults, fromFaultCount, fromOutput, fromGates, wholeJob, valueRead, reading}
+use Rattle.reading.specs.Reading.{entryFields, unaryLinesOk, gate, outputLine, faultLinesOk, fault, entriesFrom, spare, withCounts, withGates, withOutputCount, withOutputs, withFaultCount, withFaults, fromEnd, fromFaults, fromFaultCount, fromOutputs, fromOutputCount, fromGates, wholeJob, valueRead, reading}
 
 abbrev isReadings : ℕ → Bool
 isReadings i = (leb 1 i && leb i 9) || eqb i 19
@@ -61,6 +61,10 @@ gate-known own bits =
     check-then (ltb (e .a) own && ltb (e .b) own) 4 r₁ _ refl λ r₂.
     check-then (unaryLinesOk (e .kind) (e .a) (e .b)) 5 r₂ _ refl λ r₃. tt
 
+outputLine-known : (count : ℕ) (bits : List ℕ) → Known (outputLine count bits)
+unfolding outputLine
+outputLine-known count bits = field-then lineBits bits _ λ line r₁. check-then (outputOk count line) 6 r₁ _ refl λ r₂. tt
+
 fault-known : (n count : ℕ) (bits : List ℕ) → Known (fault n count bits)
 unfolding fault
 fault-known n count bits =
@@ -87,21 +91,22 @@ fromFaults-known j bits =
     (entries-known (λ i. fault (j .inputs) (lines j)) (λ i. fault-known (j .inputs) (lines j)) (j .«fault_count») 0 (j .faults) bits) λ faults rest.
     fromEnd-known (withFaults j faults) rest
 
-fromOutput-known : (j : Job) (bits : List ℕ) → Known (fromOutput j bits)
-unfolding fromOutput fromFaultCount
-fromOutput-known j bits =
-    field-then lineBits bits _ λ line r₁.
-    check-then (outputOk (lines j) line) 6 r₁ _ refl λ r₂.
-    check-then (noLoose (withOutput j line)) 19 r₂ _ refl λ r₃.
-    field-then faultCountBits r₃ _ λ f r₄.
-    fromFaults-known (withFaultCount (withOutput j line) f) r₄
+fromOutputs-known : (j : Job) (bits : List ℕ) → Known (fromOutputs j bits)
+unfolding fromOutputs fromFaultCount
+fromOutputs-known j bits =
+    known-then (entriesFrom (λ o. outputLine (lines j)) (j .«output_count») 0 (j .outputs) bits) _
+    (entries-known (λ o. outputLine (lines j)) (λ o. outputLine-known (lines j)) (j .«output_count») 0 (j .outputs) bits) λ outputs r₁.
+    check-then (noLoose (withOutputs j outputs)) 19 r₁ _ refl λ r₂.
+    field-then faultCountBits r₂ _ λ f r₃.
+    fromFaults-known (withFaultCount (withOutputs j outputs) f) r₃
 
 fromGates-known : (j : Job) (bits : List ℕ) → Known (fromGates j bits)
-unfolding fromGates
+unfolding fromGates fromOutputCount
 fromGates-known j bits =
     known-then (entriesFrom (λ q. gate (j .inputs + q)) (j .«gate_count») 0 (j .gates) bits) _
-    (entries-known (λ q. gate (j .inputs + q)) (λ q. gate-known (j .inputs + q)) (j .«gate_count») 0 (j .gates) bits) λ gates rest.
-    fromOutput-known (withGates j gates) rest
+    (entries-known (λ q. gate (j .inputs + q)) (λ q. gate-known (j .inputs + q)) (j .«gate_count») 0 (j .gates) bits) λ gates r₁.
+    field-then outputCountBits r₁ _ λ less r₂.
+    fromOutputs-known (withOutputCount (withGates j gates) (less + 1)) r₂
 
 wholeJob-known : (bits : List ℕ) → Known (wholeJob bits)
 unfolding wholeJob

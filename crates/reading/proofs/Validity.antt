@@ -17,19 +17,19 @@ use lib.Seq.{length-sets}
 use Rattle.bits.specs.Answer.Answer.{gives}
 use Rattle.bits.specs.Bits.{stringOf}
 use Rattle.bits.proofs.Tests.{and-l, and-r}
-use Rattle.job.specs.Check.{Valid, checked, gateOk, faultLineOk, faultOrderOk}
+use Rattle.job.specs.Check.{Valid, checked, gateOk, outputOk, faultLineOk, faultOrderOk}
 use Rattle.job.specs.Dependence.{noLoose}
-use Rattle.job.specs.Layout.{maxInputs, maxGates, maxFaults}
-use Rattle.job.specs.Record.{faultOf, lines, unusedGate, unusedFault, noGates, noFaults}
+use Rattle.job.specs.Layout.{maxInputs, maxGates, maxOutputs, maxFaults}
+use Rattle.job.specs.Record.{faultOf, outputAt, lines, unusedGate, unusedFault, noGates, noOutputs, noFaults}
 use Rattle.job.specs.declared.FaultEntry.{FaultEntry}
 use Rattle.job.specs.declared.GateEntry.{GateEntry}
 use Rattle.job.specs.declared.Job.{Job}
 use Rattle.job.proofs.Acceptance.{checked-valid}
-use Rattle.job.proofs.Unused.{length-noGates, length-noFaults}
+use Rattle.job.proofs.Unused.{length-noGates, length-noOutputs, length-noFaults}
 use Rattle.job.proofs.Numbers.{gateOf-ok}
-use Rattle.job.proofs.Sizes.{counts-of-faults}
+use Rattle.job.proofs.Sizes.{counts-of-outputs, counts-of-faults}
 use Rattle.reading.specs.Reading.{reading, faultLinesOk}
-use Rattle.reading.proofs.Inversion.{GateTaken, FaultTaken, EntriesTaken, chain-each, sets-at, Parts, reading-parts}
+use Rattle.reading.proofs.Inversion.{GateTaken, OutputTaken, FaultTaken, EntriesTaken, chain-each, sets-at, Parts, reading-parts}
 
 -- an entry that was taken stands in the list that is left
 entry-left : {A : Type 0} (R : ℕ → List ℕ → A → List ℕ → Type 0) (Good : ℕ → A → Type 0)
@@ -64,6 +64,7 @@ fault-good n count i bits e rest t = (
 parts-valid : (bits : List ℕ) (j : Job) → Parts bits j → Valid j
 parts-valid bits j p =
     let gates-few : j .«gate_count» ≤ maxGates = leb-true (j .«gate_count») maxGates (p .gates-ok) in
+    let outputs-few : j .«output_count» ≤ maxOutputs = let h = p .output-count-fits in let e = counts-of-outputs in omega arith in
     let faults-few : j .«fault_count» ≤ maxFaults = let h = p .fault-count-fits in let l = counts-of-faults in omega arith in
     let fault =
     entry-left (λ _. FaultTaken (j .inputs) (lines j)) (λ i x. (faultLineOk (j .inputs) (lines j) (x .fault) ≡ true) × (faultOrderOk (x .fault) ≡ true))
@@ -78,7 +79,13 @@ parts-valid bits j p =
           entry-left (λ q. GateTaken (j .inputs + q)) (λ q x. gateOk (j .inputs + q) (x .gate) ≡ true)
           (gate-good (j .inputs)) (j .«gate_count») noGates (p .before-gates) (j .gates) (p .after-gates) (p .gates)
           (rw length-noGates gates-few) unusedGate;
-      output = ltb-true (j .output) (lines j) (p .output-ok);
+      outputs-some = p .outputs-some;
+      outputs-few = outputs-few;
+      output = λ o h.
+          ltb-true (outputAt j o) (lines j)
+          (entry-left (λ _. OutputTaken (lines j)) (λ _ line. outputOk (lines j) line ≡ true) (λ _ bits line rest t. t .below)
+          (j .«output_count») noOutputs (p .before-outputs) (j .outputs) (p .after-outputs) (p .outputs)
+          (rw length-noOutputs outputs-few) 0 o h);
       tight = p .tight;
       faults-few = faults-few;
       fault-line = λ i h. fault i h .0;
@@ -91,10 +98,12 @@ reading-valid s j e = parts-valid (stringOf s) j (reading-parts s j e)
 pub reading-tight : (s : List ℕ) (j : Job) → reading s ≡ gives j → noLoose j ≡ true
 reading-tight s j e = reading-valid s j e .tight
 
-pub reading-lengths : (s : List ℕ) (j : Job) → reading s ≡ gives j → (length (j .gates) ≡ maxGates) × (length (j .faults) ≡ maxFaults)
+pub reading-lengths : (s : List ℕ) (j : Job) → reading s ≡ gives j
+    → (length (j .gates) ≡ maxGates) × (length (j .outputs) ≡ maxOutputs) × (length (j .faults) ≡ maxFaults)
 reading-lengths s j e =
     let p = reading-parts s j e in (
       ap length (p .gates .same) ∙ length-sets noGates 0 (p .gates .taken) ∙ length-noGates,
+      ap length (p .outputs .same) ∙ length-sets noOutputs 0 (p .outputs .taken) ∙ length-noOutputs,
       ap length (p .faults .same) ∙ length-sets noFaults 0 (p .faults .taken) ∙ length-noFaults,
     )
 

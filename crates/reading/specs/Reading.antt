@@ -1,9 +1,9 @@
--- Believed: reading a job (document 01, "Job layout" and "Refusal by operation"). Each line of a `do` block takes a field, or checks what was taken.
+-- Believed: reading a job (document 01, "Job layout" and "Refusal by operation"; document 02, CR 1 and 2). Each line of a `do` block takes a field, or checks what was taken.
 --
 --   entryFields             the three fields of a gate or a fault
---   gate, fault             one gate, one fault
---   entriesFrom             so many gates or faults, each into its entry of the record
---   fromGates, fromOutput, fromFaultCount, fromFaults, fromEnd   the rest of a job from there on, given the record so far
+--   gate, outputLine, fault   one gate, one output, one fault
+--   entriesFrom             so many gates, outputs or faults, each into its entry of the record
+--   fromGates, fromOutputCount, fromOutputs, fromFaultCount, fromFaults, fromEnd   the rest of a job from there on, given the record so far
 --   reading                 the record that bytes give, or the first refusal
 use Prim.Native.Nat.{ℕ, zero, suc, _+_}
 use mathlib.Core.Bool.{Bool, _&&_, _||_, cond}
@@ -17,7 +17,7 @@ use Rattle.bits.specs.Field.{spareOnly}
 use Rattle.bits.specs.Parser.{Parser, Parsed, parsed, field, check, give, _>>=_, _>>_}
 use Rattle.job.specs.Check.{inputsOk, gateCountOk, outputOk, faultLineOk}
 use Rattle.job.specs.Dependence.{noLoose}
-use Rattle.job.specs.Layout.{inputCountBits, gateCountBits, gateKindBits, lineBits, faultCountBits, faultKindBits}
+use Rattle.job.specs.Layout.{inputCountBits, gateCountBits, gateKindBits, lineBits, outputCountBits, faultCountBits, faultKindBits}
 use Rattle.job.specs.Record.{gateOf, faultOf, lines, emptyJob}
 use Rattle.job.specs.declared.FaultEntry.{FaultEntry}
 use Rattle.job.specs.declared.GateEntry.{GateEntry}
@@ -48,6 +48,13 @@ gate own = do
   check (unaryLinesOk (e .kind) (e .a) (e .b)) 5
   give (record { gate = gateOf (e .kind) (e .a) (e .b) })
 
+-- "each output line in 7 bits, each checked by 6": "6, output line not below n+g"
+unfoldable pub outputLine : ℕ → Parser ℕ
+outputLine count = do
+  line ← field lineBits
+  check (outputOk count line) 6
+  give line
+
 -- "8, a stuck fault with b other than a, or a bridge with a not below b": kinds 0 and 1 are stuck
 abbrev pub faultLinesOk : ℕ → ℕ → ℕ → Bool
 faultLinesOk kind a b = cond (ltb kind 2) (eqb b a) (ltb a b)
@@ -71,25 +78,77 @@ entriesFrom p (suc left) i entries = do
 unfoldable pub spare : Parser (Unit {0})
 spare bits = unless (spareOnly bits) 9 (parsed tt [])
 
+abbrev pub withCounts : Job → ℕ → ℕ → Job
+withCounts j n g =
+    record {
+      inputs = n;
+      «gate_count» = g;
+      gates = j .gates;
+      «output_count» = j .«output_count»;
+      outputs = j .outputs;
+      «fault_count» = j .«fault_count»;
+      faults = j .faults;
+    }
+
 abbrev pub withGates : Job → List GateEntry → Job
 withGates j gates =
-    record { inputs = j .inputs; «gate_count» = j .«gate_count»; gates = gates; output = j .output; «fault_count» = j .«fault_count»; faults = j .faults }
+    record {
+      inputs = j .inputs;
+      «gate_count» = j .«gate_count»;
+      gates = gates;
+      «output_count» = j .«output_count»;
+      outputs = j .outputs;
+      «fault_count» = j .«fault_count»;
+      faults = j .faults;
+    }
 
-abbrev pub withOutput : Job → ℕ → Job
-withOutput j output =
-    record { inputs = j .inputs; «gate_count» = j .«gate_count»; gates = j .gates; output = output; «fault_count» = j .«fault_count»; faults = j .faults }
+abbrev pub withOutputCount : Job → ℕ → Job
+withOutputCount j count =
+    record {
+      inputs = j .inputs;
+      «gate_count» = j .«gate_count»;
+      gates = j .gates;
+      «output_count» = count;
+      outputs = j .outputs;
+      «fault_count» = j .«fault_count»;
+      faults = j .faults;
+    }
+
+abbrev pub withOutputs : Job → List ℕ → Job
+withOutputs j outputs =
+    record {
+      inputs = j .inputs;
+      «gate_count» = j .«gate_count»;
+      gates = j .gates;
+      «output_count» = j .«output_count»;
+      outputs = outputs;
+      «fault_count» = j .«fault_count»;
+      faults = j .faults;
+    }
 
 abbrev pub withFaultCount : Job → ℕ → Job
 withFaultCount j count =
-    record { inputs = j .inputs; «gate_count» = j .«gate_count»; gates = j .gates; output = j .output; «fault_count» = count; faults = j .faults }
+    record {
+      inputs = j .inputs;
+      «gate_count» = j .«gate_count»;
+      gates = j .gates;
+      «output_count» = j .«output_count»;
+      outputs = j .outputs;
+      «fault_count» = count;
+      faults = j .faults;
+    }
 
 abbrev pub withFaults : Job → List FaultEntry → Job
 withFaults j faults =
-    record { inputs = j .inputs; «gate_count» = j .«gate_count»; gates = j .gates; output = j .output; «fault_count» = j .«fault_count»; faults = faults }
-
-abbrev pub withCounts : Job → ℕ → ℕ → Job
-withCounts j n g =
-    record { inputs = n; «gate_count» = g; gates = j .gates; output = j .output; «fault_count» = j .«fault_count»; faults = j .faults }
+    record {
+      inputs = j .inputs;
+      «gate_count» = j .«gate_count»;
+      gates = j .gates;
+      «output_count» = j .«output_count»;
+      outputs = j .outputs;
+      «fault_count» = j .«fault_count»;
+      faults = faults;
+    }
 
 -- "then zero bits up to a whole byte, and nothing after"
 unfoldable pub fromEnd : Job → Parser Job
@@ -109,19 +168,24 @@ fromFaultCount j = do
   f ← field faultCountBits
   fromFaults (withFaultCount j f)
 
--- "output line (7)"; "6, output line not below n+g"; "19: a loose gate; checked after 6, before the fault count"
-unfoldable pub fromOutput : Job → Parser Job
-fromOutput j = do
-  line ← field lineBits
-  check (outputOk (lines j) line) 6
-  check (noLoose (withOutput j line)) 19
-  fromFaultCount (withOutput j line)
+-- "then each output line in 7 bits"; "19: a loose gate; checked after 6, before the fault count"
+unfoldable pub fromOutputs : Job → Parser Job
+fromOutputs j = do
+  outputs ← entriesFrom (λ o. outputLine (lines j)) (j .«output_count») 0 (j .outputs)
+  check (noLoose (withOutputs j outputs)) 19
+  fromFaultCount (withOutputs j outputs)
+
+-- "After the gates comes a field of 2 bits, the number of outputs less 1"
+unfoldable pub fromOutputCount : Job → Parser Job
+fromOutputCount j = do
+  less ← field outputCountBits
+  fromOutputs (withOutputCount j (less + 1))
 
 -- "per gate a kind (3), line a (7), line b (7)"; "Gate number q, from 0, drives line n+q"
 unfoldable pub fromGates : Job → Parser Job
 fromGates j = do
   gates ← entriesFrom (λ q. gate (j .inputs + q)) (j .«gate_count») 0 (j .gates)
-  fromOutput (withGates j gates)
+  fromOutputCount (withGates j gates)
 
 -- "input count n (4 bits); gate count g (7)"; "2, n isn't 1 to 8; 3, g over 64"
 unfoldable pub wholeJob : Parser Job

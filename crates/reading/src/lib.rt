@@ -9,10 +9,10 @@ ghost use Prim.Native.Nat.{_+_, _*_, _≤_};
 ghost use Rattle.bits.specs.Answer.{number};
 ghost use Rattle.bits.specs.Answer.Answer.{refused};
 ghost use Rattle.bits.specs.Field.{from, maxWidth};
-ghost use Rattle.job.specs.Layout.{maxGates, maxFaults};
-ghost use Rattle.reading.specs.Reading.{reading, valueRead, unaryLinesOk, gate, fault, fromGates, fromOutput, fromFaultCount, fromFaults, fromEnd};
+ghost use Rattle.job.specs.Layout.{maxGates, maxOutputs, maxFaults};
+ghost use Rattle.reading.specs.Reading.{reading, valueRead, unaryLinesOk, gate, fault, outputLine, fromGates, fromOutputCount, fromOutputs, fromFaultCount, fromFaults, fromEnd};
 ghost use Rattle.reading.specs.Told.{told, due};
-ghost use Rattle.reading.specs.Stages.{gateTold, faultTold, gateEnd, faultEnd, Near};
+ghost use Rattle.reading.specs.Stages.{gateTold, outputTold, faultTold, gateEnd, outputEnd, faultEnd, Near};
 use bits::Cursor;
 use bits::Field;
 use bits::Outcome;
@@ -30,6 +30,7 @@ use job::Job;
 use job::LINE_BITS;
 use job::MAX_GATES;
 use job::MAX_INPUTS;
+use job::OUTPUT_COUNT_BITS;
 
 // The outcome, and the record: the empty one with a refusal.
 pub struct Reading {
@@ -113,7 +114,7 @@ fn read_gate(s: &[u8], at: Cursor, own: usize) -> GateRead
 
 // The rest of a job from its gates on.
 fn read_gates(s: &[u8], at: Cursor, before: Job) -> Reading
-    requires { ⌜ (before .«gate_count» ≤ maxGates) × Near 20 at ⌝ }
+    requires { ⌜ (before .«gate_count» ≤ maxGates) × Near 19 at ⌝ }
     ensures { λ r. ⌜ told r ≡ due (valueRead (fromGates before (from (now (s .entry)) at))) ⌝ }
 {
     let n = before.inputs as usize;
@@ -133,22 +134,64 @@ fn read_gates(s: &[u8], at: Cursor, before: Job) -> Reading
         }
         q += 1;
     }
-    read_output(s, c, job)
+    read_output_count(s, c, job)
 }
 
-// The rest of a job from its output line on.
-fn read_output(s: &[u8], at: Cursor, before: Job) -> Reading
-    requires { ⌜ Near 21 at ⌝ }
-    ensures { λ r. ⌜ told r ≡ due (valueRead (fromOutput before (from (now (s .entry)) at))) ⌝ }
+// The rest of a job from its number of outputs on.
+fn read_output_count(s: &[u8], at: Cursor, before: Job) -> Reading
+    requires { ⌜ Near 20 at ⌝ }
+    ensures { λ r. ⌜ told r ≡ due (valueRead (fromOutputCount before (from (now (s .entry)) at))) ⌝ }
 {
-    let Field::Value(line, c) = bits::read_field(s, at, LINE_BITS) else {
+    let Field::Value(less, c) = bits::read_field(s, at, OUTPUT_COUNT_BITS) else {
         return refused(Refusal::BytesEnd);
     };
-    if before.inputs as usize + before.gate_count as usize <= line {
-        return refused(Refusal::Output);
-    }
     let mut job = before;
-    job.output = line as u8;
+    job.output_count = (less + 1) as u8;
+    read_outputs(s, c, job)
+}
+
+// What stands where an output line is due.
+enum OutputRead {
+    Found(u8, Cursor),
+    Refused(Refusal),
+}
+
+// An output line of a circuit with so many lines.
+fn read_output(s: &[u8], at: Cursor, lines: usize) -> OutputRead
+    requires { ⌜ Near 24 at ⌝ }
+    ensures { λ r. ⌜ (outputTold (now (s .entry)) r ≡ outputLine lines (from (now (s .entry)) at)) × (outputEnd r ≤ at .bit + maxWidth) ⌝ }
+{
+    let Field::Value(line, c) = bits::read_field(s, at, LINE_BITS) else {
+        return OutputRead::Refused(Refusal::BytesEnd);
+    };
+    if lines <= line {
+        return OutputRead::Refused(Refusal::Output);
+    }
+    OutputRead::Found(line as u8, c)
+}
+
+// The rest of a job from its output lines on.
+fn read_outputs(s: &[u8], at: Cursor, before: Job) -> Reading
+    requires { ⌜ (before .«output_count» ≤ maxOutputs) × Near 21 at ⌝ }
+    ensures { λ r. ⌜ told r ≡ due (valueRead (fromOutputs before (from (now (s .entry)) at))) ⌝ }
+{
+    let lines = before.inputs as usize + before.gate_count as usize;
+    let count = before.output_count as usize;
+    let mut job = before;
+    let mut c = at;
+    let mut o = 0;
+    while o < count {
+        match read_output(s, c, lines) {
+            OutputRead::Found(line, next) => {
+                job.outputs[o] = line;
+                c = next;
+            }
+            OutputRead::Refused(cause) => {
+                return refused(cause);
+            }
+        }
+        o += 1;
+    }
     if !job::no_loose(job) {
         return refused(Refusal::LooseGate);
     }

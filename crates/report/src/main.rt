@@ -11,7 +11,7 @@ use libc::STDOUT_FILENO;
 use report_text::MAX_TEXT;
 use report_text::Reported;
 
-// "reads at most 266 bytes": one byte more than the longest job, so that a longer input is seen to be longer.
+// "reads one byte beyond the longest job", so that a longer input is seen to be longer.
 const MAX_INPUT_BYTES: usize = MAX_JOB_BYTES + 1;
 
 // How many bytes there were, up to as many as there is room for; or a read failed.

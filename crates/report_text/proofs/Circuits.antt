@@ -1,48 +1,44 @@
--- The rows of the work that a report prints (specs/Putting.antt).
+-- The rows of the work that a report prints (specs/Putting.antt), by the number of coefficients that the code works out.
 --
---   row-inside      the listed indices of a row lie within the work
---   row-start       a row starts within the work
---   circuits-few    there are no more circuits than places of the work
---   sized           rows of 2 ^ n numbers are rows of `size` numbers
---   sized-room, sized-puts   and so are their lines
-use Prim.Native.Nat.{ℕ, suc, _+_, _*_, _^_, _≤_, _<_}
+--   width-inside    a row has no more numbers than the work
+--   start-inside    it starts within the work
+--   row-within      the listed entries of a row lie within the work
+--   row-same        the text of a row
+use Prim.Native.Nat.{ℕ, suc, _+_, _*_, _^_, _≤_}
 use native.Mathlib.Omega.{arith}
-use native.Mathlib.Nat.{mul-le-mul-left, mul-le-mul-right, suc-mul}
-use mathlib.Core.Path.{_≡_, sym, subst}
+use native.Mathlib.Nat.{mul-le-mul-right, suc-mul}
+use mathlib.Core.Path.{_≡_, sym, ap, subst}
 use mathlib.Core.List.{List}
-use lib.ListN.{length}
-use lib.Pow.{pow-pos}
-use Rattle.locating.specs.Scanning.{numbersAt}
-use Rattle.report_text.specs.Putting.{Puts, Room, Within, WorkRows}
-use Rattle.report_text.specs.Text.{circuitLines}
+use Rattle.tables.specs.declared.Counts.{Counts}
+use Rattle.spectra.specs.Listed.{Entry}
+use Rattle.locating.specs.Scanning.{numbersAt, workNumbers}
+use Rattle.report_text.specs.Putting.{Within, WorkRows}
+use Rattle.report_text.specs.Text.{numbersText}
 
-module _ {size circuits : ℕ} {list : List ℕ} {room : ℕ} (s : WorkRows size circuits list room) {c : ℕ} (h : c < circuits) where
-  row-end : c * size + size ≤ room
+module _ {counts : Counts} {indices outputs : List ℕ} {room : ℕ} (s : WorkRows counts indices outputs room) {c : ℕ} (h : c ≤ counts .faults) where
+  abbrev width : ℕ
+  width = counts .outputs * 2 ^ (counts .inputs)
+
+  row-end : c * width + width ≤ room
   row-end =
-      let m : suc c * size ≤ circuits * size = mul-le-mul-right size h in
-      let e : suc c * size ≡ c * size + size = suc-mul c size in
+      let m : suc c * width ≤ (counts .faults + 1) * width = mul-le-mul-right width (omega arith) in
+      let e : suc c * width ≡ c * width + width = suc-mul c width in
       omega (arith, s .rows)
 
-  pub row-start : c * size ≤ room
-  row-start = omega (arith, row-end)
+  row-inside : Within (c * width) (2 ^ (counts .inputs)) indices outputs room
+  row-inside = record { paired = s .paired; inside = λ i l. omega (arith, row-end, s .entries i l) }
 
-  pub row-inside : Within (c * size) list room
-  row-inside = record { inside = λ i l. omega (arith, row-end, s .indices i l) }
+  -- the number of coefficients as the code has it
+  module _ {size : ℕ} (e : size ≡ 2 ^ (counts .inputs)) where
+    pub width-inside : counts .outputs * size ≤ room
+    width-inside = subst (λ (k : ℕ). counts .outputs * k ≤ room) (sym e) (omega (arith, row-end))
 
-pub circuits-few : (n : ℕ) {circuits : ℕ} {list : List ℕ} {room : ℕ} → WorkRows (2 ^ n) circuits list room → circuits ≤ room
-circuits-few n {circuits} s =
-    let p : 1 ≤ 2 ^ n = pow-pos n in
-    let m : circuits * 1 ≤ circuits * 2 ^ n = mul-le-mul-left circuits p in
-    omega (arith, s .rows)
+    pub start-inside : c * (counts .outputs * size) ≤ room
+    start-inside = subst (λ (k : ℕ). c * (counts .outputs * k) ≤ room) (sym e) (omega (arith, row-end))
 
-module _ (n : ℕ) (size : ℕ) (e : size ≡ 2 ^ n) (work list : List ℕ) (circuits : ℕ) where
-  pub sized : WorkRows (2 ^ n) circuits list (length work) → WorkRows size circuits list (length work)
-  sized s = subst (λ (k : ℕ). WorkRows k circuits list (length work)) (sym e) s
+    pub row-within : Within (c * (counts .outputs * size)) size indices outputs room
+    row-within = subst (λ (k : ℕ). Within (c * (counts .outputs * k)) k indices outputs room) (sym e) row-inside
 
-  pub sized-room : (at : ℕ) (o : List ℕ) → Room (circuitLines (λ c. numbersAt work (c * 2 ^ n) list) circuits) at o
-      → Room (circuitLines (λ c. numbersAt work (c * size) list) circuits) at o
-  sized-room at o h = subst (λ (k : ℕ). Room (circuitLines (λ c. numbersAt work (c * k) list) circuits) at o) (sym e) h
-
-  pub sized-puts : {o o' : List ℕ} {at r : ℕ} → Puts (circuitLines (λ c. numbersAt work (c * size) list) circuits) o at r o'
-      → Puts (circuitLines (λ c. numbersAt work (c * 2 ^ n) list) circuits) o at r o'
-  sized-puts {o} {o'} {at} {r} p = subst (λ (k : ℕ). Puts (circuitLines (λ c. numbersAt work (c * k) list) circuits) o at r o') e p
+pub row-same : (counts : Counts) {size : ℕ} (work : List ℕ) (list : List Entry) (c : ℕ) → size ≡ 2 ^ (counts .inputs)
+    → numbersText (numbersAt work (c * (counts .outputs * size)) size list) ≡ numbersText (workNumbers work counts list c)
+row-same counts work list c e = ap (λ (k : ℕ). numbersText (numbersAt work (c * (counts .outputs * k)) k list)) e

@@ -3,13 +3,15 @@
 --   behind-inside, behind-room, behind-puts             a text behind one byte
 --   first-room, second-room, third-room, three-puts     a text of three parts
 --   first-three, fourth-room, four-puts                 of four
+--   index-room, colon-inside, output-room, entry-puts   an entry
 --   counts-1 to counts-7, counts-puts                   the line of the counts
 use Prim.Native.Nat.{ℕ, _+_, _<_}
 use mathlib.Core.List.{List, [], _∷_, _++_}
 use lib.ListN.{length, set}
 use Rattle.tables.specs.declared.Counts.{Counts}
+use Rattle.spectra.specs.Listed.{Entry}
 use Rattle.report_text.specs.Putting.{Puts, Room}
-use Rattle.report_text.specs.Text.{decimal, inputsWord, gatesWord, faultsWord, newline, countsLine}
+use Rattle.report_text.specs.Text.{space, colon, decimal, entryText, inputsWord, gatesWord, faultsWord, newline, countsLine}
 use Rattle.report_text.proofs.Texts.{puts-one, puts-then, room-first, room-next, place-inside}
 
 module _ (v : ℕ) (x : List ℕ) (at : ℕ) (o : List ℕ) (room : Room (v ∷ x) at o) where
@@ -49,6 +51,25 @@ module _ (a b c d : List ℕ) (at : ℕ) (o : List ℕ) (room : Room (a ++ b ++ 
 
     pub four-puts : {r₄ : ℕ} {o₄ : List ℕ} → Puts d o₃ r₃ r₄ o₄ → Puts (a ++ b ++ c ++ d) o at r₄ o₄
     four-puts t = puts-then first-three (three-puts a b c at o first-three p q s) t
+
+-- ---- an entry
+
+module _ (e : Entry) (at : ℕ) (o : List ℕ) (room : Room (entryText e) at o) where
+  pub index-room : Room (space ∷ decimal (e .index)) at o
+  index-room = room-first (space ∷ decimal (e .index)) (colon ∷ decimal (e .output)) at o room
+
+  module _ {r : ℕ} {o' : List ℕ} (p : Puts (space ∷ decimal (e .index)) o at r o') where
+    colon-room : Room (colon ∷ decimal (e .output)) r o'
+    colon-room = room-next (space ∷ decimal (e .index)) (colon ∷ decimal (e .output)) at o room p
+
+    pub colon-inside : r < length o'
+    colon-inside = behind-inside colon (decimal (e .output)) r o' colon-room
+
+    pub output-room : Room (decimal (e .output)) (r + 1) (set o' r colon)
+    output-room = behind-room colon (decimal (e .output)) r o' colon-room
+
+    pub entry-puts : {end : ℕ} {o'' : List ℕ} → Puts (decimal (e .output)) (set o' r colon) (r + 1) end o'' → Puts (entryText e) o at end o''
+    entry-puts q = puts-then index-room p (behind-puts colon (decimal (e .output)) r o' colon-room q)
 
 -- ---- the line of the counts
 

@@ -2,27 +2,34 @@
 --
 --   told-refused, told-alike, told-done   what each verdict prints
 --   printed-done                          and what is known of a report
---   entries-inside                        a signature counts no more entries than it has
+--   count-inside                          a signature counts no more entries than it has
+--   taken-length                          and so many are taken
 --   exitText, verdict-printed             what a verdict prints, by what the call answers and leaves
 --   refused-printed                       the line of a refusal
 use Prim.Native.Nat.{ℕ, zero, suc, _≤_}
 use native.Mathlib.Omega.{arith}
 use mathlib.Core.Path.{_≡_, refl, sym, ap, subst, _∙_}
 use mathlib.Core.List.{List}
-use lib.ListN.{length}
+use lib.ListN.{length, take}
+use lib.Seq.{length-take-le}
 use Rattle.bits.specs.Answer.{number}
 use Rattle.bits.specs.declared.Refusal.{Refusal}
 use Rattle.bits.specs.declared.Refusal.the-variants as refusals
 use Rattle.tables.specs.declared.Counts.{Counts}
+use Rattle.spectra.specs.Listed.{Entry, entriesAt}
 use Rattle.method.specs.Method.{Pair}
 use Rattle.method.specs.Method.Pair.{nobody, pair}
 use Rattle.chooser.specs.Matrix.{maxSignature}
-use Rattle.chooser.specs.declared.Signature.{Signature}
 use Rattle.choosing.specs.Choosing.{AtExit, verdictNumber, verdictPair}
+use Rattle.choosing.specs.declared.Signature.{Signature}
 use Rattle.choosing.specs.declared.Verdict.{Verdict}
 use Rattle.choosing.specs.declared.Verdict.the-variants.{Done, Alike, Refused}
-use Rattle.report_text.specs.Putting.{Printable, workText, listOf, verdictText}
+use Rattle.report_text.specs.Putting.{Printable, workText, indexList, outputList, verdictText}
 use Rattle.report_text.specs.Text.{refusedLine, alikeLine}
+
+-- the entries that a signature lists
+abbrev listed : Signature → List Entry
+listed signature = entriesAt (indexList signature) (outputList signature)
 
 module _ (v : Verdict) (counts : Counts) (signature : Signature) (work : List ℕ) where
   abbrev text : List ℕ
@@ -35,14 +42,19 @@ module _ (v : Verdict) (counts : Counts) (signature : Signature) (work : List �
   told-alike e = ap (λ (x : Verdict). verdictText x counts signature work) e
 
   module _ (e : v ≡ Done) where
-    pub told-done : text ≡ workText counts (listOf signature) work
+    pub told-done : text ≡ workText counts (listed signature) work
     told-done = ap (λ (x : Verdict). verdictText x counts signature work) e
 
     pub printed-done : Printable v counts signature (length work) → Printable Done counts signature (length work)
     printed-done h = subst (λ (x : Verdict). Printable x counts signature (length work)) e h
 
-pub entries-inside : (signature : Signature) → length (signature .entries) ≡ maxSignature → signature .count ≤ maxSignature → signature .count ≤ length (signature .entries)
-entries-inside signature e h = omega arith
+-- of its indices, and of its outputs
+module _ (list : List ℕ) (count : ℕ) (e : length list ≡ maxSignature) (h : count ≤ maxSignature) where
+  pub count-inside : count ≤ length list
+  count-inside = omega arith
+
+  pub taken-length : count ≡ length (take count list)
+  taken-length = sym (length-take-le count list count-inside)
 
 -- ---- by what the call answers and leaves
 
@@ -52,7 +64,7 @@ printed (suc i) nobody text = refusedLine (suc i)
 printed (suc i) (pair a b) text = alikeLine a b
 
 abbrev pub exitText : AtExit → List ℕ
-exitText c = printed (c .number) (c .pair) (workText (c .counts) (listOf (c .signature)) (c .memory))
+exitText c = printed (c .number) (c .pair) (workText (c .counts) (listed (c .signature)) (c .memory))
 
 pub refused-printed : (i : ℕ) (text : List ℕ) → 1 ≤ i → printed i nobody text ≡ refusedLine i
 refused-printed zero text h = absurd (omega arith)
@@ -78,10 +90,11 @@ number-some refusals.Index = omega arith
 number-some refusals.Readings = omega arith
 number-some refusals.Faults = omega arith
 number-some refusals.LooseGate = omega arith
+number-some refusals.OutputNumber = omega arith
 
 pub verdict-printed : (v : Verdict) (counts : Counts) (signature : Signature) (memory : List ℕ)
     → verdictText v counts signature memory
     ≡ exitText (record { number = verdictNumber v; pair = verdictPair v; counts = counts; signature = signature; memory = memory })
 verdict-printed Done counts signature memory = refl
 verdict-printed (Alike a b) counts signature memory = refl
-verdict-printed (Refused e) counts signature memory = sym (refused-printed (number e) (workText counts (listOf signature) memory) (number-some e))
+verdict-printed (Refused e) counts signature memory = sym (refused-printed (number e) (workText counts (listed signature) memory) (number-some e))

@@ -8,47 +8,45 @@
 --   reported-written, reported-short   what is written, with room and without
 use Prim.Native.Nat.{ℕ, _+_, _*_, _^_, _≤_, _<_}
 use native.Mathlib.Omega.{arith}
-use native.Mathlib.Nat.{zero-add, le-trans, mul-one}
-use mathlib.Core.Path.{_≡_, refl, sym, ap, subst, _∙_}
+use native.Mathlib.Nat.{zero-add, le-trans, mul-assoc}
+use mathlib.Core.Path.{_≡_, refl, sym, ap, ap₂, subst, _∙_}
 use mathlib.Core.Bool.{Bool, true, false}
-use mathlib.Core.List.{List, _++_, map}
+use mathlib.Core.List.{List, _++_, map, List·Memᴰ, Memᴰ·of-map}
 use borrow.Author.Tests.{le-leb, lt-leb}
 use lib.Dec.{leb}
-use lib.ListN.{length, drop, length-append, length-map}
+use lib.ListN.{length, getD, drop, length-append, length-map}
 use lib.Seq.{take-at}
 use Rattle.bits.specs.Answer.{Answer, Fills, leaves, unless, onward}
 use Rattle.bits.specs.Answer.Answer.{gives, refused}
 use Rattle.bits.specs.Slices.{splice}
 use Rattle.job.specs.Check.{Valid}
-use Rattle.job.specs.Layout.{maxFaults}
 use Rattle.job.specs.declared.Job.{Job}
-use Rattle.job.proofs.Sizes.{most-inputs}
 use Rattle.reading.specs.Reading.{reading}
 use Rattle.reading.proofs.Refusals.{refused-digits}
 use Rattle.reading.proofs.Validity.{reading-valid}
 use Rattle.tables.specs.Family.{Family, familyOf}
 use Rattle.tables.specs.Operations.{countsOf}
 use Rattle.tables.specs.declared.Counts.{Counts}
-use Rattle.spectra.specs.Listed.{Entry, familySpectra, places}
+use Rattle.spectra.specs.Listed.{Entry, familySpectra, places, indicesOf, outputsOf, entriesAt}
 use Rattle.spectra.specs.Operations.{polarityOk}
 use Rattle.spectra.specs.declared.Kind.the-variants.{Mrm}
+use Rattle.spectra.proofs.Codes.{code-below, entries-back}
 use Rattle.spectra.proofs.Families.{length-familySpectra}
 use Rattle.method.specs.Method.{Pair}
 use Rattle.method.specs.Method.Pair.{nobody, pair}
-use Rattle.chooser.specs.Matrix.{signatureOf}
-use Rattle.chooser.specs.declared.Signature.{Signature}
 use Rattle.bits.proofs.Bounds.{members-below, entry-below}
-use Rattle.choosing.specs.Choosing.{Finding, AtExit, signatureIn, alikePair, findingBy, chosenFrom, chosenOf, found, atExit, countsIn, verdictNumber, verdictPair}
+use Rattle.choosing.specs.Choosing.{Finding, AtExit, signatureIn, signatureOf, alikePair, findingBy, chosenFrom, chosenOf, found, atExit, countsIn, verdictNumber, verdictPair}
 use Rattle.choosing.specs.Choosing.Finding.{chosen, alike}
 use Rattle.choosing.specs.declared.Purpose.the-variants.{Isolating}
+use Rattle.choosing.specs.declared.Signature.{Signature}
 use Rattle.choosing.specs.declared.Verdict.{Verdict}
 use Rattle.choosing.specs.declared.Verdict.the-variants.{Done, Alike, Refused}
 use Rattle.choosing.proofs.Bound.{signature-below}
 use Rattle.choosing.proofs.Sizes.{faults-entries}
-use Rattle.report_text.specs.Putting.{Puts, Room, WorkRows, Printable, workText, listOf, verdictText}
+use Rattle.report_text.specs.Putting.{Puts, Room, WorkRows, Printable, workText, indexList, outputList, verdictText}
 use Rattle.report_text.specs.Text.{refusedLine, findingText, chosenText, reportBy, reportText, workLeft, maxText, reported}
 use Rattle.report_text.specs.declared.Reported.the-variants.{Written, Short}
-use Rattle.report_text.proofs.Lengths.{refused-short, signature-few, indices-below, job-short, alike-short}
+use Rattle.report_text.proofs.Lengths.{refused-short, signature-few, job-short, alike-short}
 use Rattle.report_text.proofs.Readings.{work-text}
 use Rattle.report_text.proofs.Verdicts.{exitText, refused-printed, verdict-printed}
 
@@ -75,37 +73,56 @@ module _ (j : Job) (v : Valid j) where
   abbrev signed : List Entry
   signed = signatureIn Isolating Mrm 0 F
 
-  abbrev indices : List ℕ
-  indices = map (λ (e : Entry). e .index) signed
+  -- as it is answered
+  abbrev given : Signature
+  given = signatureOf signed
 
-  taken : listOf (signatureOf indices) ≡ indices
-  taken = take-at indices _ (length indices) refl
+  indices-taken : indexList given ≡ indicesOf signed
+  indices-taken = take-at (indicesOf signed) _ (length signed) (length-map signed (λ (e : Entry). e .index))
+
+  outputs-taken : outputList given ≡ outputsOf signed
+  outputs-taken = take-at (outputsOf signed) _ (length signed) (length-map signed (λ (e : Entry). e .output))
+
+  taken : entriesAt (indexList given) (outputList given) ≡ signed
+  taken = ap₂ entriesAt indices-taken outputs-taken ∙ entries-back signed
+
+  -- a number of each entry that lies below a bound
+  each-below : (f : Entry → ℕ) (bound : ℕ) → ((e : Entry) → List·Memᴰ e signed → f e < bound) → (i : ℕ) → i < length signed → getD (map f signed) i 0 < bound
+  each-below f bound below i h =
+      let member : (x : ℕ) → List·Memᴰ x (map f signed) → x < bound =
+      λ x m. let r = Memᴰ·of-map f signed m in subst (λ (y : ℕ). y < bound) (r .2) (below (r .0) (r .1)) in
+      entry-below bound (map f signed) i (members-below bound (map f signed) member) (omega (arith, length-map signed f))
 
   module _ (rest : List ℕ) where
     abbrev filled : List ℕ
     filled = familySpectra Mrm 0 F ++ rest
 
-    rows : WorkRows (2 ^ (j .inputs)) (j .«fault_count» + 1) indices (length filled)
+    rows : WorkRows (countsOf j) (indicesOf signed) (outputsOf signed) (length filled)
     rows =
-        let long : length (familySpectra Mrm 0 F) ≡ (j .«fault_count» + 1) * 2 ^ (j .inputs) =
-        length-familySpectra Mrm 0 F ∙ ap (λ (x : ℕ). x * 2 ^ (j .inputs)) (mul-one (j .«fault_count» + 1)) in
+        let indexed = length-map signed (λ (e : Entry). e .index) in
+        let long : length (familySpectra Mrm 0 F) ≡ (j .«fault_count» + 1) * (j .«output_count» * 2 ^ (j .inputs)) =
+        length-familySpectra Mrm 0 F ∙ mul-assoc (j .«fault_count» + 1) (j .«output_count») (2 ^ (j .inputs)) in
         record {
+          inputs-few = v .few;
+          faults-few = v .faults-few;
           rows = omega (arith, length-append (familySpectra Mrm 0 F) rest);
-          indices = λ i h. entry-below (2 ^ (j .inputs)) indices i (members-below (2 ^ (j .inputs)) indices (indices-below j v)) h;
+          paired = indexed ∙ sym (length-map signed (λ (e : Entry). e .output));
+          entries = λ i h.
+              code-below (2 ^ (j .inputs)) (j .«output_count») (record { index = getD (indicesOf signed) i 0; output = getD (outputsOf signed) i 0 })
+              (each-below (λ (e : Entry). e .index) (2 ^ (j .inputs)) (λ e m. signature-below Isolating Mrm 0 F e m .0) i (omega (arith, indexed)))
+              (each-below (λ (e : Entry). e .output) (j .«output_count») (λ e m. signature-below Isolating Mrm 0 F e m .1) i (omega (arith, indexed)));
         }
 
     prints-found : (p : Pair) → alikePair Isolating F ≡ p
         → Prints (found (countsOf j) (findingBy p signed) filled) (findingText (countsOf j) F (findingBy p signed))
     prints-found nobody e =
-        let few : length indices ≤ maxFaults = omega (arith, signature-few j v, length-map signed (λ (e : Entry). e .index)) in
         record {
-          told = ap (λ (l : List ℕ). workText (countsOf j) l filled) taken ∙ work-text j rest signed (λ e m. signature-below Isolating Mrm 0 F e m .0);
+          told = ap (λ (l : List Entry). workText (countsOf j) l filled) taken ∙ work-text j rest signed (signature-below Isolating Mrm 0 F);
           short = job-short j v;
           ready = λ _. (
-            le-trans (v .few) most-inputs,
-            v .faults-few,
-            le-trans few faults-entries,
-            subst (λ (l : List ℕ). WorkRows (2 ^ (j .inputs)) (j .«fault_count» + 1) l (length filled)) (sym taken) rows,
+            le-trans (signature-few j v) faults-entries,
+            subst (λ (l : List ℕ). WorkRows (countsOf j) (indexList given) l (length filled)) (sym outputs-taken)
+                (subst (λ (l : List ℕ). WorkRows (countsOf j) l (outputsOf signed) (length filled)) (sym indices-taken) rows),
           );
         }
     prints-found (pair a b) e =

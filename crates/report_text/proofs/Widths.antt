@@ -2,6 +2,7 @@
 --
 --   one-digit, two-digits, three-digits   a number below 10, 100, 1000 has at most so many digits
 --   numbers-width                         so numbers below 1000 take at most four characters each
+--   entry-width                           and an entry, of such an index and an output below 10, six
 --   counts-width                          the line of counts
 --   signature-width                       the line of a signature
 --   circuits-width                        the lines of circuits 0 to c − 1
@@ -9,14 +10,15 @@
 use Prim.Native.Nat.{ℕ, zero, suc, _+_, _*_, _/_, _%_, _≤_, _<_}
 use native.Mathlib.Nat.{div-lt-iff-lt-mul, suc-mul}
 use native.Mathlib.Omega.{arith}
-use mathlib.Core.Path.{refl}
-use mathlib.Core.List.{List, [], _∷_, _++_, List·Memᴰ, List·Memᴰ·head, List·Memᴰ·tail}
+use mathlib.Core.List.{List, [], _∷_, _++_, List·Memᴰ}
 use borrow.Author.Tests.{ltb-false}
 use lib.Dec.{ltb}
 use lib.ListN.{length, length-append}
 use Rattle.tables.specs.declared.Counts.{Counts}
 use Rattle.bits.proofs.Tests.{by-cond}
-use Rattle.report_text.specs.Text.{digits, decimal, numbersText, inputsWord, gatesWord, faultsWord, signatureWord, refusedWord, alikeWord, countsLine, signatureLine, circuitLine, circuitLines, refusedLine, alikeLine}
+use Rattle.spectra.specs.Listed.{Entry}
+use Rattle.report_text.specs.Text.{digits, decimal, numbersText, entryText, inputsWord, gatesWord, faultsWord, signatureWord, refusedWord, alikeWord, countsLine, signatureLine, circuitLine, circuitLines, refusedLine, alikeLine}
+use Rattle.report_text.proofs.Elements.{joined-width, numbers-joined, entries-joined}
 
 -- ---- a number's digits
 
@@ -60,12 +62,13 @@ three-digits n h = digits-three (suc n) n h
 
 -- ---- the lines
 
-pub numbers-width : (l : List ℕ) → ((v : ℕ) → List·Memᴰ v l → v < 1000) → length (numbersText l) ≤ 4 * length l
-unfolding numbersText
-numbers-width [] h = omega arith
-numbers-width (v ∷ l) h =
-    let first = three-digits v (h v (List·Memᴰ·head refl)) in
-    let rest = numbers-width l (λ x m. h x (List·Memᴰ·tail m)) in
+pub numbers-width : (l : List ℕ) → ((v : ℕ) → List·Memᴰ v l → v < 1000) → length (numbersText l) ≤ length l * 4
+numbers-width l h = joined-width numbers-joined 4 l (λ v m. let digits = three-digits v (h v m) in omega arith)
+
+entry-width : (e : Entry) → e .index < 1000 → e .output < 10 → length (entryText e) ≤ 6
+entry-width e i o =
+    let index = three-digits (e .index) i in
+    let output = one-digit (e .output) o in
     simp length-append (omega arith)
 
 pub counts-width : (c : Counts) → c .inputs < 10 → c .gates < 100 → c .faults < 100 → length (countsLine c) ≤ 28
@@ -76,9 +79,11 @@ counts-width c n g f =
     let faults = two-digits (c .faults) f in
     simp length-append (omega arith)
 
-pub signature-width : (l : List ℕ) → ((v : ℕ) → List·Memᴰ v l → v < 1000) → length (signatureLine l) ≤ 10 + 4 * length l
+pub signature-width : (l : List Entry) → ((e : Entry) → List·Memᴰ e l → (e .index < 1000) × (e .output < 10)) → length (signatureLine l) ≤ 10 + length l * 6
 unfolding signatureWord
-signature-width l h = let numbers = numbers-width l h in simp length-append (omega arith)
+signature-width l h =
+    let entries = joined-width entries-joined 6 l (λ e m. entry-width e (h e m .0) (h e m .1)) in
+    simp length-append (omega arith)
 
 circuit-width : (c : ℕ) (numbers : List ℕ) → c < 100 → length (circuitLine c numbers) ≤ 3 + length (numbersText numbers)
 circuit-width c numbers h = let number = two-digits c h in simp length-append (omega arith)

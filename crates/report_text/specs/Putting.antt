@@ -2,8 +2,8 @@
 --
 --   Puts         a text stands from a place on, and all else is as it was; the answer is the place after it
 --   Room         there is room for a text from a place on
---   Within       the listed indices of a row lie within so many places
---   WorkRows     so many rows lie within the work, and the listed indices within a row
+--   Within       a number of the work for each listed entry of a row
+--   WorkRows     the rows of the counted circuits lie within the work, and the listed entries within a row
 --   workText     the text of a job, its circuits' numbers read off the work
 --   verdictText  the text of a verdict
 --   Printable    it can be printed from the work
@@ -11,15 +11,16 @@ use Prim.Native.Nat.{ℕ, _+_, _*_, _^_, _≤_, _<_}
 use mathlib.Core.Path.{_≡_}
 use mathlib.Core.List.{List, _++_}
 use lib.ListN.{length, getD, take}
-use Rattle.job.specs.Layout.{maxFaults}
+use Rattle.job.specs.Layout.{maxInputs, maxFaults}
 use Rattle.bits.specs.Answer.{number}
 use Rattle.bits.specs.Slices.{splice}
 use Rattle.tables.specs.declared.Counts.{Counts}
 use Rattle.chooser.specs.Matrix.{maxSignature}
-use Rattle.chooser.specs.declared.Signature.{Signature}
+use Rattle.spectra.specs.Listed.{Entry, entriesAt}
+use Rattle.choosing.specs.declared.Signature.{Signature}
 use Rattle.choosing.specs.declared.Verdict.{Verdict}
 use Rattle.choosing.specs.declared.Verdict.the-variants.{Done, Alike, Refused}
-use Rattle.locating.specs.Scanning.{numbersAt}
+use Rattle.locating.specs.Scanning.{workNumbers}
 use Rattle.report_text.specs.Text.{countsLine, signatureLine, circuitLines, refusedLine, alikeLine}
 
 pub record Puts (text before : List ℕ) (at : ℕ) (end : ℕ) (after : List ℕ) : Type 0 where
@@ -29,29 +30,34 @@ pub record Puts (text before : List ℕ) (at : ℕ) (end : ℕ) (after : List �
 abbrev pub Room : List ℕ → ℕ → List ℕ → Type 0
 Room text at out = at + length text ≤ length out
 
-pub record Within (start : ℕ) (list : List ℕ) (room : ℕ) : Type 0 where
-  pub inside : (i : ℕ) → i < length list → start + getD list i 0 < room
+pub record Within (start size : ℕ) (indices outputs : List ℕ) (room : ℕ) : Type 0 where
+  pub paired : length indices ≡ length outputs
+  pub inside : (i : ℕ) → i < length indices → start + (getD outputs i 0 * size + getD indices i 0) < room
 
-pub record WorkRows (size circuits : ℕ) (list : List ℕ) (room : ℕ) : Type 0 where
-  pub rows : circuits * size ≤ room
-  pub indices : (i : ℕ) → i < length list → getD list i 0 < size
+pub record WorkRows (counts : Counts) (indices outputs : List ℕ) (room : ℕ) : Type 0 where
+  pub inputs-few : counts .inputs ≤ maxInputs
+  pub faults-few : counts .faults ≤ maxFaults
+  pub rows : (counts .faults + 1) * (counts .outputs * 2 ^ (counts .inputs)) ≤ room
+  pub paired : length indices ≡ length outputs
+  pub entries : (i : ℕ) → i < length indices → getD outputs i 0 * 2 ^ (counts .inputs) + getD indices i 0 < counts .outputs * 2 ^ (counts .inputs)
 
-abbrev pub workText : Counts → List ℕ → List ℕ → List ℕ
-workText counts list work =
-    countsLine counts ++ signatureLine list ++ circuitLines (λ c. numbersAt work (c * 2 ^ (counts .inputs)) list) (counts .faults + 1)
+abbrev pub workText : Counts → List Entry → List ℕ → List ℕ
+workText counts list work = countsLine counts ++ signatureLine list ++ circuitLines (workNumbers work counts list) (counts .faults + 1)
 
-abbrev pub listOf : Signature → List ℕ
-listOf s = take (s .count) (s .entries)
+abbrev pub indexList : Signature → List ℕ
+indexList s = take (s .count) (s .indices)
+
+abbrev pub outputList : Signature → List ℕ
+outputList s = take (s .count) (s .outputs)
 
 abbrev pub verdictText : Verdict → Counts → Signature → List ℕ → List ℕ
-verdictText Done counts signature work = workText counts (listOf signature) work
+verdictText Done counts signature work = workText counts (entriesAt (indexList signature) (outputList signature)) work
 verdictText (Alike a b) counts signature work = alikeLine a b
 verdictText (Refused e) counts signature work = refusedLine (number e)
 
 -- of a refusal or a pair there is nothing to know
 abbrev pub Printable : Verdict → Counts → Signature → ℕ → Type 0
 Printable Done counts signature room =
-    (counts .inputs ≤ 15) × (counts .faults ≤ maxFaults) × (signature .count ≤ maxSignature)
-    × WorkRows (2 ^ (counts .inputs)) (counts .faults + 1) (listOf signature) room
+    (signature .count ≤ maxSignature) × WorkRows counts (indexList signature) (outputList signature) room
 Printable (Alike a b) counts signature room = Unit {0}
 Printable (Refused e) counts signature room = Unit {0}

@@ -1,7 +1,8 @@
--- Believed: the text of the report program (document 01, "The report program").
+-- Believed: the text of the report program (document 01, "The report program"; document 02, CR 2).
 --
 --   decimal        a number's digits
 --   numbersText    numbers, each behind a space: "One space parts the words of a line"
+--   entriesText    so for entries
 --   countsLine, signatureLine, circuitLine, refusedLine, alikeLine   the lines, "every line ends with a newline"
 --   circuitLines   the lines of circuits 0 to c − 1
 --   jobText        the text of a job that has a signature
@@ -10,7 +11,7 @@
 --   reported       what is written where
 use Prim.Native.Nat.{ℕ, zero, suc, _+_, _*_, _/_, _%_}
 use mathlib.Core.Bool.{cond}
-use mathlib.Core.List.{List, [], _∷_, _++_, map}
+use mathlib.Core.List.{List, [], _∷_, _++_}
 use lib.Dec.{leb, ltb}
 use lib.ListN.{length}
 use Rattle.bits.specs.Answer.{Answer, Fills, leaves}
@@ -32,6 +33,9 @@ use Rattle.report_text.specs.declared.Reported.the-variants.{Written, Sh
 
 abbrev pub space : ℕ
 space = 32
+
+abbrev pub colon : ℕ
+colon = 58
 
 abbrev pub newline : List ℕ
 newline = 10 ∷ []
@@ -72,13 +76,21 @@ unfoldable pub numbersText : List ℕ → List ℕ
 numbersText [] = []
 numbersText (v ∷ l) = (space ∷ decimal v) ++ numbersText l
 
+-- "The report prints an entry as index, colon, output"
+abbrev pub entryText : Entry → List ℕ
+entryText e = (space ∷ decimal (e .index)) ++ (colon ∷ decimal (e .output))
+
+unfoldable pub entriesText : List Entry → List ℕ
+entriesText [] = []
+entriesText (e ∷ l) = entryText e ++ entriesText l
+
 -- "The first line gives the three counts"
 abbrev pub countsLine : Counts → List ℕ
 countsLine c = inputsWord ++ decimal (c .inputs) ++ gatesWord ++ decimal (c .gates) ++ faultsWord ++ decimal (c .faults) ++ newline
 
 -- "the second the signature"; "An empty signature prints `signature` alone"
-abbrev pub signatureLine : List ℕ → List ℕ
-signatureLine l = signatureWord ++ numbersText l ++ newline
+abbrev pub signatureLine : List Entry → List ℕ
+signatureLine l = signatureWord ++ entriesText l ++ newline
 
 -- "the rest a circuit and its coefficients in signature order"
 abbrev pub circuitLine : ℕ → List ℕ → List ℕ
@@ -98,7 +110,7 @@ alikeLine a b = alikeWord ++ decimal a ++ (space ∷ decimal b) ++ newline
 -- by MRM at polarity 0
 abbrev pub jobText : Counts → Family → List Entry → List ℕ
 jobText counts F list =
-    countsLine counts ++ signatureLine (map (λ (e : Entry). e .index) list) ++ circuitLines (readingsOf Mrm 0 F list) (F .circuits)
+    countsLine counts ++ signatureLine list ++ circuitLines (readingsOf Mrm 0 F list) (F .circuits)
 
 abbrev pub findingText : Counts → Family → Finding → List ℕ
 findingText counts F (chosen list) = jobText counts F list
@@ -120,10 +132,9 @@ reportText s room = reportBy (reading s) room
 abbrev pub workLeft : List ℕ → List ℕ → List ℕ
 workLeft s work = leaves (chosenOf Isolating s Mrm 0 (length work)) work .memory
 
--- 28 characters of counts; 10 of a signature's line and 4 for each entry, which are no more than faults; a line for each circuit, of 3 and again 4 for each
--- entry
+-- 28 characters of counts; 10 of a signature's line and 6 for each entry, which are no more than faults; a line for each circuit, of 3 and 4 for each entry
 unfoldable pub maxText : ℕ
-maxText = 28 + (10 + 4 * maxFaults) + (maxFaults + 1) * (3 + 4 * maxFaults)
+maxText = 28 + (10 + 6 * maxFaults) + (maxFaults + 1) * (3 + 4 * maxFaults)
 
 pub record Report : Type 0 where
   pub answer : Reported

@@ -2,23 +2,24 @@
 //
 // Each function puts a piece of text from a place on and answers the place after it. There is room for the longest
 // text, or nothing is written, so that no piece needs a test.
-ghost use Prim.Native.Nat.{_+_, _*_, _^_, _≤_, _<_};
+ghost use Prim.Native.Nat.{_+_, _≤_};
 ghost use mathlib.Core.Path.{_≡_};
 ghost use mathlib.Core.List.{_∷_};
 ghost use lib.ListN.{length};
-ghost use Rattle.locating.specs.Scanning.{numbersAt};
+ghost use Rattle.locating.specs.Scanning.{numbersAt, workNumbers};
+ghost use Rattle.spectra.specs.Listed.{entriesAt};
 ghost use Rattle.report_text.specs.Putting.{Puts, Room, Within, WorkRows, Printable, workText, verdictText};
-ghost use Rattle.report_text.specs.Text.{decimal, space, numbersText, countsLine, signatureLine, circuitLine, circuitLines, refusedLine, alikeLine, reported};
-use chooser::Signature;
+ghost use Rattle.report_text.specs.Text.{decimal, space, numbersText, entryText, entriesText, countsLine, signatureLine, circuitLine, circuitLines, refusedLine, alikeLine, reported};
 use choosing::Purpose;
+use choosing::Signature;
 use choosing::Verdict;
 use job::MAX_FAULTS;
 use spectra::Kind;
 use tables::Counts;
 
-// No text is longer: 28 characters of counts; 10 of a signature's line and 4 for each entry, which are no more than faults; a line for each circuit, of 3 and
-// again 4 for each entry.
-pub const MAX_TEXT: usize = 28 + (10 + 4 * MAX_FAULTS) + (MAX_FAULTS + 1) * (3 + 4 * MAX_FAULTS);
+// No text is longer: 28 characters of counts; 10 of a signature's line and 6 for each entry, which are no more than faults; a line for each circuit, of 3 and
+// 4 for each entry.
+pub const MAX_TEXT: usize = 28 + (10 + 6 * MAX_FAULTS) + (MAX_FAULTS + 1) * (3 + 4 * MAX_FAULTS);
 
 // How many bytes the text has; or there is less room than the longest text has, and nothing is written.
 pub enum Reported {
@@ -59,29 +60,48 @@ fn put_number(out: &mut [u8], at: usize, n: usize) -> usize
     put_decimal(out, at + 1, n)
 }
 
-// Puts numbers, each behind a space.
-fn put_numbers(out: &mut [u8], at: usize, numbers: &[u16]) -> usize
-    requires { ⌜ Room (numbersText (now numbers)) at (now out) ⌝ }
-    ensures { λ r. ⌜ Puts (numbersText (now (numbers .entry))) (now (out .entry)) at r (now (out .exit)) ⌝ }
+// Puts an entry behind a space: index, colon, output.
+fn put_entry(out: &mut [u8], at: usize, index: usize, output: usize) -> usize
+    requires { ⌜ Room (entryText (record { index = index; output = output })) at (now out) ⌝ }
+    ensures { λ r. ⌜ Puts (entryText (record { index = index; output = output })) (now (out .entry)) at r (now (out .exit)) ⌝ }
+{
+    let end = put_number(out, at, index);
+    out[end] = b':';
+    put_decimal(out, end + 1, output)
+}
+
+// Puts entries, each behind a space.
+fn put_entries(out: &mut [u8], at: usize, indices: &[u16], outputs: &[u16]) -> usize
+    requires { ⌜ (length (now indices) ≡ length (now outputs)) × Room (entriesText (entriesAt (now indices) (now outputs))) at (now out) ⌝ }
+    ensures { λ r. ⌜ Puts (entriesText (entriesAt (now (indices .entry)) (now (outputs .entry)))) (now (out .entry)) at r (now (out .exit)) ⌝ }
 {
     let mut end = at;
     let mut i = 0;
-    while i < numbers.len() {
-        end = put_number(out, end, numbers[i] as usize);
+    while i < indices.len() {
+        end = put_entry(out, end, indices[i] as usize, outputs[i] as usize);
         i += 1;
     }
     end
 }
 
-// Puts the numbers of a row of the work at the listed indices, each behind a space.
-fn put_row(out: &mut [u8], at: usize, work: &[u16], start: usize, list: &[u16]) -> usize
-    requires { ⌜ Within start (now list) (length (now work)) × Room (numbersText (numbersAt (now work) start (now list))) at (now out) ⌝ }
-    ensures { λ r. ⌜ Puts (numbersText (numbersAt (now (work .entry)) start (now (list .entry)))) (now (out .entry)) at r (now (out .exit)) ⌝ }
+// Puts the numbers of a row of the work at the listed entries, each behind a space. The row has `size` numbers an output.
+fn put_row(
+    out: &mut [u8],
+    at: usize,
+    work: &[u16],
+    start: usize,
+    size: usize,
+    indices: &[u16],
+    outputs: &[u16],
+) -> usize
+    requires { ⌜ Within start size (now indices) (now outputs) (length (now work)) × Room (numbersText (numbersAt (now work) start size (entriesAt (now indices) (now outputs)))) at (now out) ⌝ }
+    ensures { λ r. ⌜ Puts (numbersText (numbersAt (now (work .entry)) start size (entriesAt (now (indices .entry)) (now (outputs .entry))))) (now (out .entry)) at r (now (out .exit)) ⌝ }
 {
     let mut end = at;
     let mut i = 0;
-    while i < list.len() {
-        end = put_number(out, end, work[start + list[i] as usize] as usize);
+    while i < indices.len() {
+        let place = outputs[i] as usize * size + indices[i] as usize;
+        end = put_number(out, end, work[start + place] as usize);
         i += 1;
     }
     end
@@ -102,12 +122,12 @@ fn put_counts(out: &mut [u8], counts: Counts) -> usize
 }
 
 // The line of the signature.
-fn put_signature(out: &mut [u8], at: usize, list: &[u16]) -> usize
-    requires { ⌜ Room (signatureLine (now list)) at (now out) ⌝ }
-    ensures { λ r. ⌜ Puts (signatureLine (now (list .entry))) (now (out .entry)) at r (now (out .exit)) ⌝ }
+fn put_signature(out: &mut [u8], at: usize, indices: &[u16], outputs: &[u16]) -> usize
+    requires { ⌜ (length (now indices) ≡ length (now outputs)) × Room (signatureLine (entriesAt (now indices) (now outputs))) at (now out) ⌝ }
+    ensures { λ r. ⌜ Puts (signatureLine (entriesAt (now (indices .entry)) (now (outputs .entry)))) (now (out .entry)) at r (now (out .exit)) ⌝ }
 {
     let entries_at = put(out, at, b"signature");
-    let end = put_numbers(out, entries_at, list);
+    let end = put_entries(out, entries_at, indices, outputs);
     put(out, end, b"\n")
 }
 
@@ -116,48 +136,51 @@ fn put_circuit(
     out: &mut [u8],
     at: usize,
     work: &[u16],
-    start: usize,
-    list: &[u16],
     c: usize,
+    counts: Counts,
+    indices: &[u16],
+    outputs: &[u16],
 ) -> usize
-    requires { ⌜ Within start (now list) (length (now work)) × Room (circuitLine c (numbersAt (now work) start (now list))) at (now out) ⌝ }
-    ensures { λ r. ⌜ Puts (circuitLine c (numbersAt (now (work .entry)) start (now (list .entry)))) (now (out .entry)) at r (now (out .exit)) ⌝ }
+    requires { ⌜ WorkRows counts (now indices) (now outputs) (length (now work)) × (c ≤ counts .faults) × Room (circuitLine c (workNumbers (now work) counts (entriesAt (now indices) (now outputs)) c)) at (now out) ⌝ }
+    ensures { λ r. ⌜ Puts (circuitLine c (workNumbers (now (work .entry)) counts (entriesAt (now (indices .entry)) (now (outputs .entry))) c)) (now (out .entry)) at r (now (out .exit)) ⌝ }
 {
+    let size = bits::table_size(counts.inputs);
     let row_at = put_decimal(out, at, c);
-    let end = put_row(out, row_at, work, start, list);
+    let start = c * (counts.outputs * size);
+    let end = put_row(out, row_at, work, start, size, indices, outputs);
     put(out, end, b"\n")
 }
 
-// The lines of the circuits, whose rows of the work have `size` numbers each.
+// The lines of the circuits.
 fn put_circuits(
     out: &mut [u8],
     at: usize,
     work: &[u16],
-    size: usize,
-    list: &[u16],
-    circuits: usize,
+    counts: Counts,
+    indices: &[u16],
+    outputs: &[u16],
 ) -> usize
-    requires { ⌜ WorkRows size circuits (now list) (length (now work)) × Room (circuitLines (λ c. numbersAt (now work) (c * size) (now list)) circuits) at (now out) ⌝ }
-    ensures { λ r. ⌜ Puts (circuitLines (λ c. numbersAt (now (work .entry)) (c * size) (now (list .entry))) circuits) (now (out .entry)) at r (now (out .exit)) ⌝ }
+    requires { ⌜ WorkRows counts (now indices) (now outputs) (length (now work)) × Room (circuitLines (workNumbers (now work) counts (entriesAt (now indices) (now outputs))) (counts .faults + 1)) at (now out) ⌝ }
+    ensures { λ r. ⌜ Puts (circuitLines (workNumbers (now (work .entry)) counts (entriesAt (now (indices .entry)) (now (outputs .entry)))) (counts .faults + 1)) (now (out .entry)) at r (now (out .exit)) ⌝ }
 {
+    let circuits = counts.faults + 1;
     let mut end = at;
     let mut c = 0;
     while c < circuits {
-        end = put_circuit(out, end, work, c * size, list, c);
+        end = put_circuit(out, end, work, c, counts, indices, outputs);
         c += 1;
     }
     end
 }
 
 // The whole text of a job, at the start.
-fn put_job(out: &mut [u8], counts: Counts, work: &[u16], list: &[u16]) -> usize
-    requires { ⌜ (counts .inputs ≤ 15) × WorkRows (2 ^ (counts .inputs)) (counts .faults + 1) (now list) (length (now work)) × Room (workText counts (now list) (now work)) 0 (now out) ⌝ }
-    ensures { λ r. ⌜ Puts (workText counts (now (list .entry)) (now (work .entry))) (now (out .entry)) 0 r (now (out .exit)) ⌝ }
+fn put_job(out: &mut [u8], counts: Counts, work: &[u16], indices: &[u16], outputs: &[u16]) -> usize
+    requires { ⌜ WorkRows counts (now indices) (now outputs) (length (now work)) × Room (workText counts (entriesAt (now indices) (now outputs)) (now work)) 0 (now out) ⌝ }
+    ensures { λ r. ⌜ Puts (workText counts (entriesAt (now (indices .entry)) (now (outputs .entry))) (now (work .entry))) (now (out .entry)) 0 r (now (out .exit)) ⌝ }
 {
     let signature_at = put_counts(out, counts);
-    let circuits_at = put_signature(out, signature_at, list);
-    let size = bits::table_size(counts.inputs);
-    put_circuits(out, circuits_at, work, size, list, counts.faults + 1)
+    let circuits_at = put_signature(out, signature_at, indices, outputs);
+    put_circuits(out, circuits_at, work, counts, indices, outputs)
 }
 
 // The line of a refusal, at the start.
@@ -197,8 +220,9 @@ fn put_verdict(
         Verdict::Alike(a, b) => put_alike(out, a, b),
         Verdict::Done => {
             let count = signature.count;
-            let entries = signature.entries;
-            put_job(out, counts, work, &entries[..count])
+            let indices = signature.indices;
+            let outputs = signature.outputs;
+            put_job(out, counts, work, &indices[..count], &outputs[..count])
         }
     }
 }

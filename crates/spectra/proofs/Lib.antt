@@ -1,5 +1,6 @@
 pub mod Acceptance
 pub mod Bounds
+pub mod Codes
 pub mod Combination
 pub mod Families
 pub mod HalfBytes

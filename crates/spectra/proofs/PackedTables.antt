@@ -1,11 +1,11 @@
 -- Packed tables are tables, and so those of a job's circuits are: they have their length, and spare bits 0.
 --
 --   packed-whole  a packed table passes the test of a table
---   table-whole   a circuit's table passes the test of a table
---   rows-whole    and so do rows that are circuits' tables
+--   table-whole   a circuit's table at an output passes the test of a table
+--   rows-whole    rows of which each does pass that of rows
 use Prim.Native.Nat.{ℕ, zero, suc, _+_, _*_, _-_, _^_, _≤_, _<_}
 use native.Mathlib.Omega.{arith}
-use mathlib.Core.Path.{_≡_, refl, ap, _∙_}
+use mathlib.Core.Path.{_≡_, refl, _∙_}
 use mathlib.Core.Bool.{true}
 use mathlib.Core.List.{List}
 use borrow.Author.Tests.{eq-eqb}
@@ -33,12 +33,11 @@ packed-whole n f bits =
     (zero-from (tableBytes n * 8 - 2 ^ n) (2 ^ n) (packed (2 ^ n) f)
     (λ i a b. packed-all (2 ^ n) f bits i (omega arith) ∙ tabulate-past (2 ^ n) f i a))
 
-pub table-whole : (j : Job) (c : ℕ) → Valid j → tableOk (j .inputs) (circuitTable j c) ≡ true
+pub table-whole : (j : Job) (c o : ℕ) → Valid j → o < j .«output_count» → tableOk (j .inputs) (circuitTable j c o) ≡ true
 unfolding circuitTable
-table-whole j c v = packed-whole (j .inputs) (circuitEntry j c) (λ m _. entry-bit j c m v)
+table-whole j c o v h = packed-whole (j .inputs) (circuitEntry j c o) (λ m _. entry-bit j c o m v h)
 
-pub rows-whole : (j : Job) (s : List ℕ) (d : ℕ) → Valid j → ((c : ℕ) → c < d → tableRow (j .inputs) s c ≡ circuitTable j c) → rowsOk (j .inputs) s d ≡ true
+pub rows-whole : (n : ℕ) (s : List ℕ) (rows : ℕ) → ((r : ℕ) → r < rows → tableOk n (tableRow n s r) ≡ true) → rowsOk n s rows ≡ true
 unfolding rowsOk
-rows-whole j s zero v same = refl
-rows-whole j s (suc d) v same =
-    and-i (rows-whole j s d v (λ c h. same c (omega arith))) (ap (tableOk (j .inputs)) (same d (omega arith)) ∙ table-whole j d v)
+rows-whole n s zero whole = refl
+rows-whole n s (suc r) whole = and-i (rows-whole n s r (λ i h. whole i (omega arith))) (whole r (omega arith))

@@ -39,9 +39,8 @@ use Rattle.bits.specs.Sizes.{tableBytes, tableSizeOf}
 use Rattle.bits.specs.Slices.{splice}
 use Rattle.bits.proofs.TableSizes.{table-size-exact}
 use Rattle.tables.proofs.Answers.{kept, put}
-use Rattle.spectra.specs.Operations.{tableOk, at, sameNumbers, isSpectrum, undoneOf}
+use Rattle.spectra.specs.Operations.{tableOk, at, spectrumOf, sameNumbers, isSpectrum, undoneOf}
 use Rattle.spectra.specs.Parities.{parityAt, Packs, Lent}
-use Rattle.spectra.specs.Rows.{rowsOf}
 use Rattle.spectra.specs.Spectrum.{spectrum, recovered}
 use Rattle.spectra.specs.declared.Kind.{Kind}
 use Rattle.spectra.specs.declared.Kind.the-variants.{Rm}
@@ -99,9 +98,9 @@ module _ {a b : List ℕ} where
 few-entries : (n : ℕ) → n ≤ maxInputs → 2 ^ n < 2 ^ 63
 few-entries n h = lt-of-le-of-lt (pow-mono {j = 15} (le-trans h most-inputs)) (lit< tt)
 
--- what the spectrum of one row leaves
+-- what the spectrum of a table leaves
 abbrev Transformed : Kind → ℕ → ℕ → List ℕ → List ℕ → Answer (Unit {0}) → List ℕ → Type 0
-Transformed kind n k table sums answer sums₁ = record { answer = answer; memory = sums₁ } ≡ leaves (rowsOf n 1 table kind k (length sums)) sums
+Transformed kind n k table sums answer sums₁ = record { answer = answer; memory = sums₁ } ≡ leaves (spectrumOf n table kind k (length sums)) sums
 
 module _ {n k : ℕ} {numbers table sums : List ℕ} (l : Lent n k numbers table sums) where
   pub packs-numbers : Packs 0 numbers table

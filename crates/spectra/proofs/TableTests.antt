@@ -1,11 +1,10 @@
--- The tests of refusal 12 (the functions `table_ok` and `rows_ok`).
+-- The tests of refusal 12 (the functions `table_ok`, `rows_ok` and `tables_ok`).
 --
 --   spare-bits       the lowest w bits of a table's only byte are 0
 --   table-length     bytes of another length are no table
 --   table-one, table-two   the spare bits of one and of two inputs
 --   table-full       more inputs leave no spare bits
 --   bytes-some       a table has at least one byte
---   rows-none, rows-many   no rows, or more than a list has circuits
 --   rows-other       as many rows have other bytes
 --   rows-small       these are a number
 --   Testing          the bytes are as many as the rows have, and the rows below r are tables
@@ -15,8 +14,12 @@
 --   testing-next     one row more is a table
 --   testing-stop     a row is none
 --   testing-end      all are
+--   faults-many, outputs-none, outputs-many   more faults or outputs than a job may have, or no output
+--   rows-few         no more rows than there may be
+--   rows-fit, circuits-fit   the rows and the circuits are numbers
+--   tables-counted   of so many the rows are left to test
 use Prim.Native.Nat.{ℕ, zero, suc, _+_, _-_, _*_, _/_, _%_, _^_, _≤_, _<_}
-use native.Mathlib.Nat.{zero-mul, zero-add, suc-mul, le-antisymm, le-of-eq, mul-le-mul, lt-of-le-of-lt}
+use native.Mathlib.Nat.{mul-one, zero-mul, zero-add, suc-mul, le-antisymm, le-of-eq, mul-le-mul, lt-of-le-of-lt}
 use native.Mathlib.Numerals.{add-one}
 use native.Mathlib.Omega.{arith}
 use mathlib.Core.Path.{_≡_, refl, sym, ap, ap₂, subst, _∙_}
@@ -24,7 +27,7 @@ use mathlib.Core.Bool.{Bool, true, false, not, _&&_}
 use mathlib.Core.List.{List}
 use mathlib.Core.Logic.{⊎-elim}
 use borrow.Author.Tests.{eq-eqb, ne-eqb, le-leb, lt-leb, not-true, not-false}
-use lib.Dec.{eqb, leb}
+use lib.Dec.{eqb}
 use lib.ListN.{length, getD, take, drop}
 use lib.Pow.{pow-pos, pow-mono, pow-add, mod-pow-add}
 use Rattle.bits.specs.Packed.{entry}
@@ -32,9 +35,11 @@ use Rattle.bits.proofs.Below.{lt-or-ge}
 use Rattle.bits.proofs.Packed.{entry-digit}
 use Rattle.bits.proofs.Tests.{and-i}
 use Rattle.bits.specs.Sizes.{tableBytes}
-use Rattle.job.specs.Layout.{maxFaults}
-use Rattle.spectra.specs.Operations.{zeroFrom, tableOk, tableRow, rowsOk, tablesOk}
-use Rattle.spectra.proofs.Sizes.{all-rows-fit}
+use Rattle.job.specs.Layout.{maxOutputs, maxFaults}
+use Rattle.tables.specs.declared.Counts.{Counts}
+use Rattle.spectra.specs.Operations.{zeroFrom, tableOk, tableRow, rowsIn, rowsOk, allRowsOk, tablesOk}
+use Rattle.spectra.specs.Rows.{maxRows}
+use Rattle.spectra.proofs.Sizes.{all-rows-fit, one-output}
 use Rattle.spectra.proofs.Rows.{row-place, row-slice}
 
 -- ---- one table
@@ -88,30 +93,11 @@ module _ (n : ℕ) {bytes : ℕ} (s : List ℕ) (e : bytes ≡ tableBytes n) whe
 pub bytes-some : (n : ℕ) {bytes : ℕ} → bytes ≡ tableBytes n → 0 < bytes
 bytes-some n e = let p = pow-pos n in omega arith
 
-module _ (n : ℕ) (s : List ℕ) (rows : ℕ) where
-  pub rows-none : rows < 1 → false ≡ tablesOk n rows s
-  unfolding tablesOk
-  rows-none h = sym (ap (λ (t : Bool). t && (leb rows (maxFaults + 1) && fit)) (lt-leb 1 rows h))
-    where
-      fit : Bool
-      fit = eqb (length s) (rows * tableBytes n) && rowsOk n s rows
+pub rows-other : (n : ℕ) (s : List ℕ) (rows : ℕ) {bytes : ℕ} → bytes ≡ tableBytes n → (length s ≡ rows * bytes → ⊥) → false ≡ allRowsOk n rows s
+rows-other n s rows e ne =
+    ap (λ (t : Bool). t && rowsOk n s rows) (sym (ne-eqb (length s) (rows * tableBytes n) (λ p. ne (p ∙ ap (λ (w : ℕ). rows * w) (sym e)))))
 
-  pub rows-many : 1 ≤ rows → maxFaults + 1 < rows → false ≡ tablesOk n rows s
-  unfolding tablesOk
-  rows-many h l = simp (le-leb 1 rows h, lt-leb rows (maxFaults + 1) l)
-
-  -- of so many rows the length and the tables are left to test
-  counted : 1 ≤ rows → rows ≤ maxFaults + 1 → eqb (length s) (rows * tableBytes n) && rowsOk n s rows ≡ tablesOk n rows s
-  unfolding tablesOk
-  counted h l = simp (le-leb 1 rows h, le-leb rows (maxFaults + 1) l)
-
-  pub rows-other : {bytes : ℕ} → bytes ≡ tableBytes n → 1 ≤ rows → rows ≤ maxFaults + 1 → (length s ≡ rows * bytes → ⊥) → false ≡ tablesOk n rows s
-  rows-other e h l ne =
-      ap (λ (t : Bool). t && rowsOk n s rows) (sym (ne-eqb (length s) (rows * tableBytes n) (λ p. ne (p ∙ ap (λ (w : ℕ). rows * w) (sym e)))))
-      ∙ counted h l
-
--- the rows are as many as a list may have circuits
-pub rows-small : (n : ℕ) {bytes rows : ℕ} → n ≤ 15 → bytes ≡ tableBytes n → rows ≤ maxFaults + 1 → rows * bytes < 2 ^ 64
+pub rows-small : (n : ℕ) {bytes rows : ℕ} → n ≤ 15 → bytes ≡ tableBytes n → rows ≤ maxRows → rows * bytes < 2 ^ 64
 rows-small n {bytes} {rows} h e l =
     let p : 2 ^ n ≤ 2 ^ 15 = pow-mono {i = n} {j = 15} h in
     let b : bytes ≤ 4096 = omega (arith, e) in
@@ -122,14 +108,10 @@ pub record Testing (n : ℕ) (s : List ℕ) (rows bytes r : ℕ) : Type 0 where
   pub size : length s ≡ rows * tableBytes n
   pub within : r ≤ rows
   pub ok : rowsOk n s r ≡ true
-  pub some : 1 ≤ rows
-  pub few : rows ≤ maxFaults + 1
 
-pub testing-start : {n bytes rows : ℕ} (s : List ℕ) → bytes ≡ tableBytes n → 1 ≤ rows → rows ≤ maxFaults + 1 → length s ≡ rows * bytes
-    → Testing n s rows bytes 0
+pub testing-start : {n bytes rows : ℕ} (s : List ℕ) → bytes ≡ tableBytes n → length s ≡ rows * bytes → Testing n s rows bytes 0
 unfolding rowsOk
-testing-start {n} {bytes} {rows} s e h l p =
-    record { wide = e; size = p ∙ ap (λ (x : ℕ). rows * x) e; within = omega arith; ok = refl; some = h; few = l }
+testing-start {n} {bytes} {rows} s e p = record { wide = e; size = p ∙ ap (λ (x : ℕ). rows * x) e; within = omega arith; ok = refl }
 
 fails : (n : ℕ) (s : List ℕ) (r rows : ℕ) → r < rows → tableOk n (tableRow n s r) ≡ false → rowsOk n s rows ≡ false
 unfolding rowsOk
@@ -152,11 +134,10 @@ module _ {n : ℕ} {s : List ℕ} {rows bytes r : ℕ} (g : Testing n s rows byt
   testing-place h = row-place (g .wide) h testing-room
 
   pub testing-stop : (t : Bool) → r < rows
-      → t ≡ tableOk n (take (r * bytes + bytes - r * bytes) (drop (r * bytes) s)) → not t ≡ true → false ≡ tablesOk n rows s
+      → t ≡ tableOk n (take (r * bytes + bytes - r * bytes) (drop (r * bytes) s)) → not t ≡ true → false ≡ allRowsOk n rows s
   testing-stop t h p q =
       sym (ap₂ _&&_ (eq-eqb (length s) (rows * tableBytes n) (g .size))
       (fails n s r rows h (sym (ap (tableOk n) (row-slice n s r (g .wide))) ∙ sym p ∙ not-true t q)))
-      ∙ counted n s rows (g .some) (g .few)
 
   pub testing-next : (t : Bool) → r < rows
       → t ≡ tableOk n (take (r * bytes + bytes - r * bytes) (drop (r * bytes) s)) → not t ≡ false → Testing n s rows bytes (r + 1)
@@ -166,14 +147,42 @@ module _ {n : ℕ} {s : List ℕ} {rows bytes r : ℕ} (g : Testing n s rows byt
         wide = g .wide;
         size = g .size;
         within = omega arith;
-        some = g .some;
-        few = g .few;
         ok =
             ap (rowsOk n s) (add-one r)
             ∙ and-i (g .ok) (sym (ap (tableOk n) (row-slice n s r (g .wide))) ∙ sym p ∙ not-false t q);
       }
 
-  pub testing-end : rows ≤ r → true ≡ tablesOk n rows s
+  pub testing-end : rows ≤ r → true ≡ allRowsOk n rows s
   testing-end h =
       sym (and-i (eq-eqb (length s) (rows * tableBytes n) (g .size)) (ap (rowsOk n s) (le-antisymm h (g .within)) ∙ g .ok))
-      ∙ counted n s rows (g .some) (g .few)
+
+-- ---- the tables of counted circuits
+
+pub rows-few : {faults outputs : ℕ} → faults ≤ maxFaults → outputs ≤ maxOutputs → (faults + 1) * outputs ≤ maxRows
+rows-few {faults} h l = let p : faults + 1 ≤ maxFaults + 1 = omega arith in mul-le-mul p l
+
+pub rows-fit : {faults outputs : ℕ} → faults ≤ maxFaults → outputs ≤ maxOutputs → (faults + 1) * outputs < 2 ^ 64
+rows-fit h l = omega (arith, rows-few h l, all-rows-fit)
+
+-- as many as the rows of one output
+pub circuits-fit : {faults : ℕ} → faults ≤ maxFaults → faults + 1 < 2 ^ 64
+circuits-fit {faults} h = subst (λ (x : ℕ). x < 2 ^ 64) (mul-one (faults + 1)) (rows-fit h one-output)
+
+module _ (counts : Counts) (s : List ℕ) where
+  pub faults-many : maxFaults < counts .faults → false ≡ tablesOk counts s
+  unfolding tablesOk
+  faults-many h = simp (lt-leb (counts .faults) maxFaults h)
+
+  module _ (few : counts .faults ≤ maxFaults) where
+    pub outputs-none : counts .outputs < 1 → false ≡ tablesOk counts s
+    unfolding tablesOk
+    outputs-none h = simp (le-leb (counts .faults) maxFaults few, lt-leb 1 (counts .outputs) h)
+
+    module _ (one : 1 ≤ counts .outputs) where
+      pub outputs-many : maxOutputs < counts .outputs → false ≡ tablesOk counts s
+      unfolding tablesOk
+      outputs-many h = simp (le-leb (counts .faults) maxFaults few, le-leb 1 (counts .outputs) one, lt-leb (counts .outputs) maxOutputs h)
+
+      pub tables-counted : counts .outputs ≤ maxOutputs → allRowsOk (counts .inputs) (rowsIn counts) s ≡ tablesOk counts s
+      unfolding tablesOk
+      tables-counted h = simp (le-leb (counts .faults) maxFaults few, le-leb 1 (counts .outputs) one, le-leb (counts .outputs) maxOutputs h)

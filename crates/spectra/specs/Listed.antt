@@ -1,13 +1,15 @@
--- Believed: the coefficients of listed circuits, and where they stand in the work (document 01, "Spectra", "Choosing" and "Words of demand 3").
+-- Believed: the coefficients of listed circuits, and where they stand in the work (document 01, "Spectra", "Choosing" and "Words of demand 3"; document 02,
+-- CR 2).
 --
---   Entry           an index, and the number of the output whose coefficient it is
+--   Entry           "A signature entry is an index and an output"
 --   coefOf          the coefficient of a circuit at an entry
 --   readingsOf      "A circuit's readings for a list are its coefficients at the list's indices, in list order"
 --   familySpectra   the spectra of all listed circuits
 --   places          as many numbers as they are
---   entriesAt       the entries that a list of indices stands for
+--   indicesOf, outputsOf   the indices and the outputs of entries
+--   entriesAt       the entries that indices and outputs stand for, an index and an output each
 use Prim.Native.Nat.{ℕ, _*_, _^_}
-use mathlib.Core.List.{List, map}
+use mathlib.Core.List.{List, [], _∷_, map}
 use Rattle.bits.specs.Blocks.{block}
 use Rattle.tables.specs.Family.{Family}
 use Rattle.spectra.specs.Spectrum.{coefficient, spectrum}
@@ -23,17 +25,22 @@ coefOf kind k F c e = coefficient kind (F .inputs) k (F .entry c (e .output)) (e
 abbrev pub readingsOf : Kind → ℕ → Family → List Entry → ℕ → List ℕ
 readingsOf kind k F list c = map (coefOf kind k F c) list
 
--- "Work place c × N + j holds coefficient j of circuit c": circuit after circuit, and output after output
+-- "Work place ((c × outputs) + output) × N + j holds a coefficient": circuit after circuit, and output after output
 abbrev pub familySpectra : Kind → ℕ → Family → List ℕ
 familySpectra kind k F = block (F .circuits) (λ c. block (F .outputs) (λ o. spectrum kind (F .inputs) k (F .entry c o)))
 
--- "(f+1) × N places"
+-- "and 10 follows that size"
 abbrev pub places : Family → ℕ
 places F = F .circuits * F .outputs * 2 ^ (F .inputs)
 
--- a job has one output: an index is the entry of output 0
-abbrev pub entryAt : ℕ → Entry
-entryAt i = record { index = i; output = 0 }
+abbrev pub indicesOf : List Entry → List ℕ
+indicesOf list = map (λ (e : Entry). e .index) list
 
-abbrev pub entriesAt : List ℕ → List Entry
-entriesAt indices = map entryAt indices
+abbrev pub outputsOf : List Entry → List ℕ
+outputsOf list = map (λ (e : Entry). e .output) list
+
+-- as far as both lists go
+unfoldable pub entriesAt : List ℕ → List ℕ → List Entry
+entriesAt [] outputs = []
+entriesAt (i ∷ indices) [] = []
+entriesAt (i ∷ indices) (o ∷ outputs) = record { index = i; output = o } ∷ entriesAt indices outputs

@@ -3,7 +3,7 @@
 --   tableOk         12: a packed table of n inputs has (N+7) div 8 bytes and spare bits 0
 --   polarityOk      13
 --   at              number j of a list
---   tablesOk        12, of the tables of circuits that stand one after the other
+--   tablesOk        12, of the tables of counted circuits that stand one after the other
 --   tablesChecked   2 and 12 of these
 --   fromTables      an operation on listed circuits, from their tables
 --   filledFrom      the spectra of listed circuits
@@ -18,9 +18,10 @@ use Rattle.bits.specs.Answer.{Answer, Fills, unless, onward}
 use Rattle.bits.specs.Answer.Answer.{gives}
 use Rattle.bits.specs.Packed.{entry, packed}
 use Rattle.job.specs.Check.{inputsOk}
-use Rattle.job.specs.Layout.{maxFaults}
+use Rattle.job.specs.Layout.{maxOutputs, maxFaults}
 use Rattle.bits.specs.Sizes.{tableBytes}
 use Rattle.tables.specs.Family.{Family}
+use Rattle.tables.specs.declared.Counts.{Counts}
 use Rattle.spectra.specs.Listed.{familySpectra, places}
 use Rattle.spectra.specs.Spectrum.{spectrum, recovered}
 use Rattle.spectra.specs.declared.Kind.{Kind}
@@ -50,26 +51,41 @@ unfoldable pub rowsOk : ℕ → List ℕ → ℕ → Bool
 rowsOk n s zero = true
 rowsOk n s (suc r) = rowsOk n s r && tableOk n (tableRow n s r)
 
--- 12 of the tables of circuits, one after the other: there are as many circuits as a list may have, and as many rows, each a table
-unfoldable pub tablesOk : ℕ → ℕ → List ℕ → Bool
-tablesOk n circuits s = leb 1 circuits && (leb circuits (maxFaults + 1) && (eqb (length s) (circuits * tableBytes n) && rowsOk n s circuits))
+-- a table for each circuit and each output
+abbrev pub rowsIn : Counts → ℕ
+rowsIn counts = (counts .faults + 1) * counts .outputs
+
+-- so many rows, each a table
+abbrev pub allRowsOk : ℕ → ℕ → List ℕ → Bool
+allRowsOk n rows s = eqb (length s) (rows * tableBytes n) && rowsOk n s rows
+
+-- 12 of the tables of counted circuits, circuit after circuit, output after output: no more faults and outputs than a job may have, and as many rows
+unfoldable pub tablesOk : Counts → List ℕ → Bool
+tablesOk counts s =
+    leb (counts .faults) maxFaults && (leb 1 (counts .outputs) && (leb (counts .outputs) maxOutputs && allRowsOk (counts .inputs) (rowsIn counts) s))
 
 -- 2; 12
-unfoldable pub tablesChecked : ℕ → ℕ → List ℕ → Answer (Unit {0})
-tablesChecked n circuits s =
-    unless (inputsOk n) 2
-    (unless (tablesOk n circuits s) 12
+unfoldable pub tablesChecked : Counts → List ℕ → Answer (Unit {0})
+tablesChecked counts s =
+    unless (inputsOk (counts .inputs)) 2
+    (unless (tablesOk counts s) 12
     (gives tt))
 
--- these tables as a family: one output
-abbrev pub tableFamily : ℕ → ℕ → List ℕ → Family
-tableFamily n circuits s = record { inputs = n; circuits = circuits; outputs = 1; entry = λ c o m. entry (tableRow n s c) m }
+-- these tables as a family
+abbrev pub tableFamily : Counts → List ℕ → Family
+tableFamily counts s =
+    record {
+      inputs = counts .inputs;
+      circuits = counts .faults + 1;
+      outputs = counts .outputs;
+      entry = λ c o m. entry (tableRow (counts .inputs) s (c * counts .outputs + o)) m;
+    }
 
--- an operation on listed circuits, from their tables
-abbrev pub fromTables : {A : Type 0} → ℕ → ℕ → List ℕ → (Family → Answer A) → Answer A
-fromTables n circuits s go = onward (tablesChecked n circuits s) (λ _. go (tableFamily n circuits s))
+-- an operation on listed circuits, from their counts and their tables
+abbrev pub fromTables : {A : Type 0} → Counts → List ℕ → (Family → Answer A) → Answer A
+fromTables counts s go = onward (tablesChecked counts s) (λ _. go (tableFamily counts s))
 
--- the spectra of listed circuits: 13; 10, fewer than (f+1) × N places
+-- the spectra of listed circuits: 13; 10, fewer than (f+1) × outputs × N places
 unfoldable pub filledFrom : Family → Kind → ℕ → ℕ → Answer (Fills (Unit {0}))
 filledFrom F kind k room =
     unless (polarityOk (F .inputs) k) 13

@@ -1,7 +1,7 @@
 // Reed-Muller spectra of tables, and their undoing (document 01, "Spectra").
 //
 // `fill` is the one way from tables to work: it checks the tables of listed circuits, which stand one after the other,
-// and makes their spectra. The spectrum of one table is that of one circuit.
+// a table for each output, and makes their spectra. The spectrum of one table is that of one circuit at one output.
 //
 // Undoing recovers and compares. The numbers are taken modulo 2 and transformed once more, which undoes an RM spectrum;
 // an MRM coefficient modulo 2 is the RM one, so this recovers the one table that can have these numbers. It is then
@@ -10,19 +10,21 @@ ghost use Prim.Native.Nat.{_+_, _^_, _≤_, _<_};
 ghost use Rattle.bits.specs.Answer.{outcome, leaves};
 ghost use Rattle.bits.specs.Bits.{valueFrom};
 ghost use Rattle.bits.specs.Packed.{packed, tabulate};
-ghost use Rattle.spectra.specs.Operations.{tableOk, tablesOk, tablesChecked, fromTables, filledFrom, at, spectrumOf, undoneOf, sameNumbers};
+ghost use Rattle.spectra.specs.Operations.{tableOk, allRowsOk, tablesOk, tablesChecked, fromTables, filledFrom, at, spectrumOf, undoneOf, sameNumbers};
 ghost use Rattle.spectra.specs.Parities.{parityAt, Closed, Packs, Lent};
+ghost use Rattle.spectra.specs.Rows.{maxRows, oneTable};
 ghost use Rattle.spectra.specs.Spectrum.{recovered};
 ghost use lib.ListN.{length};
 ghost use mathlib.Core.Path.{_≡_};
 use bits::Outcome;
 use bits::Refusal;
+use job::MAX_FAULTS;
+use job::MAX_INPUTS;
+use job::MAX_OUTPUTS;
+use tables::Counts;
 use tables::MAX_TABLE_BYTES;
 
 mod transform;
-
-// A list has no more circuits: the good one and each fault.
-const MAX_ROWS: usize = job::MAX_FAULTS + 1;
 
 // The kind of a spectrum: Reed-Muller, or modified Reed-Muller.
 pub enum Kind {
@@ -49,15 +51,9 @@ fn table_ok(table: &[u8], n: usize) -> bool
 
 // Whether the bytes are so many packed tables of n inputs, row after row.
 fn rows_ok(tables: &[u8], n: usize, rows: usize) -> bool
-    requires { ⌜ (1 ≤ n) × (n ≤ 15) ⌝ }
-    ensures { λ r. ⌜ r ≡ tablesOk n rows (now (tables .entry)) ⌝ }
+    requires { ⌜ (1 ≤ n) × (n ≤ 15) × (rows ≤ maxRows) ⌝ }
+    ensures { λ r. ⌜ r ≡ allRowsOk n rows (now (tables .entry)) ⌝ }
 {
-    if rows < 1 {
-        return false;
-    }
-    if MAX_ROWS < rows {
-        return false;
-    }
     let bytes = bits::table_bytes(n);
     if tables.len() != rows * bytes {
         return false;
@@ -72,57 +68,81 @@ fn rows_ok(tables: &[u8], n: usize, rows: usize) -> bool
     true
 }
 
-// Whether the bytes are the packed tables of so many circuits, one after the other: 2; 12.
-pub fn check_tables(n: usize, circuits: usize, tables: &[u8]) -> Outcome
-    ensures { λ r. ⌜ outcome r ≡ tablesChecked n circuits (now (tables .entry)) ⌝ }
+// Whether the bytes are a packed table for each counted circuit and each output, one after the other.
+fn tables_ok(counts: Counts, tables: &[u8]) -> bool
+    requires { ⌜ (1 ≤ counts .inputs) × (counts .inputs ≤ 15) ⌝ }
+    ensures { λ r. ⌜ r ≡ tablesOk counts (now (tables .entry)) ⌝ }
 {
-    if n < 1 {
+    if MAX_FAULTS < counts.faults {
+        return false;
+    }
+    if counts.outputs < 1 {
+        return false;
+    }
+    if MAX_OUTPUTS < counts.outputs {
+        return false;
+    }
+    rows_ok(tables, counts.inputs, (counts.faults + 1) * counts.outputs)
+}
+
+// Whether the bytes are the packed tables of the counted circuits, one after the other: 2; 12.
+pub fn check_tables(counts: Counts, tables: &[u8]) -> Outcome
+    ensures { λ r. ⌜ outcome r ≡ tablesChecked counts (now (tables .entry)) ⌝ }
+{
+    if counts.inputs < 1 {
         return Outcome::Refused(Refusal::Inputs);
     }
-    if job::MAX_INPUTS < n {
+    if MAX_INPUTS < counts.inputs {
         return Outcome::Refused(Refusal::Inputs);
     }
-    if !rows_ok(tables, n, circuits) {
+    if !tables_ok(counts, tables) {
         return Outcome::Refused(Refusal::Table);
     }
     Outcome::Done
 }
 
-// The spectra of all circuits whose tables are given: 2; 12; 13; 10.
-pub fn fill(
-    n: usize,
-    circuits: usize,
-    tables: &[u8],
-    kind: Kind,
-    polarity: usize,
-    work: &mut [u16],
-) -> Outcome
-    ensures { λ r. ⌜ record { answer = outcome r; memory = now (work .exit) } ≡ leaves (fromTables n circuits (now (tables .entry)) (λ F. filledFrom F kind polarity (length (now (work .entry))))) (now (work .entry)) ⌝ }
+// The spectra of the counted circuits, from their tables: 2; 12; 13; 10.
+pub fn fill(counts: Counts, tables: &[u8], kind: Kind, polarity: usize, work: &mut [u16]) -> Outcome
+    ensures { λ r. ⌜ record { answer = outcome r; memory = now (work .exit) } ≡ leaves (fromTables counts (now (tables .entry)) (λ F. filledFrom F kind polarity (length (now (work .entry))))) (now (work .entry)) ⌝ }
 {
-    let checked = check_tables(n, circuits, tables);
+    let checked = check_tables(counts, tables);
     if let Outcome::Refused(cause) = checked {
         return Outcome::Refused(cause);
     }
+    let n = counts.inputs;
+    let rows = (counts.faults + 1) * counts.outputs;
     let size = bits::table_size(n);
     if size <= polarity {
         return Outcome::Refused(Refusal::Polarity);
     }
-    if work.len() < circuits * size {
+    if work.len() < rows * size {
         return Outcome::Refused(Refusal::Memory);
     }
-    transform::fill_rows(work, tables, n, circuits, polarity, kind);
+    transform::fill_rows(work, tables, n, rows, polarity, kind);
     Outcome::Done
+}
+
+// The counts of one table.
+fn one_table(n: usize) -> Counts
+    ensures { λ r. ⌜ r ≡ oneTable n ⌝ }
+{
+    Counts {
+        inputs: n,
+        gates: 0,
+        outputs: 1,
+        faults: 0,
+    }
 }
 
 // The spectrum of one packed table, as that of one circuit: 2; 12; 13; 10.
 pub fn spectrum(n: usize, table: &[u8], kind: Kind, polarity: usize, out: &mut [u16]) -> Outcome
     ensures { λ r. ⌜ record { answer = outcome r; memory = now (out .exit) } ≡ leaves (spectrumOf n (now (table .entry)) kind polarity (length (now (out .entry)))) (now (out .entry)) ⌝ }
 {
-    fill(n, 1, table, kind, polarity, out)
+    fill(one_table(n), table, kind, polarity, out)
 }
 
 // The entries of the largest table.
-const MAX_TABLE_SIZE: usize = 1 << job::MAX_INPUTS;
+const MAX_TABLE_SIZE: usize = 1 << MAX_INPUTS;
 
 // The parity of number (m xor k); past the last number 0.
 fn parity(numbers: &[u16], m: usize, k: usize) -> u8
@@ -168,7 +188,7 @@ fn recover(table: &mut [u8], sums: &mut [u16], numbers: &[u16], n: usize, k: usi
     ensures { λ r. ⌜ now (table .exit) ≡ packed (2 ^ n) (recovered n k (at (now (numbers .entry)))) ⌝ }
 {
     pack(table, numbers, 0);
-    fill(n, 1, table, Kind::Rm, 0, sums);
+    spectrum(n, table, Kind::Rm, 0, sums);
     pack(table, sums, k);
 }
 
@@ -203,7 +223,7 @@ fn undo_in(
     ensures { λ r. ⌜ record { answer = outcome r; memory = now (out .exit) } ≡ leaves (undoneOf n (now (numbers .entry)) kind k (length (now (out .entry)))) (now (out .entry)) ⌝ }
 {
     recover(table, sums, numbers, n, k);
-    fill(n, 1, table, kind, k, sums);
+    spectrum(n, table, kind, k, sums);
     if !same(numbers, sums) {
         return Outcome::Refused(Refusal::NoSpectrum);
     }
@@ -221,7 +241,7 @@ pub fn undo(n: usize, numbers: &[u16], kind: Kind, polarity: usize, out: &mut [u
     if n < 1 {
         return Outcome::Refused(Refusal::Inputs);
     }
-    if job::MAX_INPUTS < n {
+    if MAX_INPUTS < n {
         return Outcome::Refused(Refusal::Inputs);
     }
     let size = bits::table_size(n);

@@ -1,25 +1,35 @@
 -- Laws of tables side by side (specs/Sizes.antt).
 --
 --   tabulate-block   bytes worked out one by one are a block of tables, each of the bytes at its own place
---   slice-block       rows that follow each other are a block
+--   length-slice     a slice that ends within its list has as many numbers as it says
+--   length-below     lists of one length together have so many times that length
 --   splice-none      no new bytes
 --   splice-append    new bytes put behind new bytes
 --   splice-again     new bytes put over as many new bytes
 --   block-row        where a block is put, each of its rows holds its table
 --   block-kept       every other row is as it was
-use Prim.Native.Nat.{ℕ, zero, suc, _+_, _*_, _≤_, _<_}
+--   Placed           what a loop has done that puts `count` lists of one length from a place on, one behind the other
+--   placed-none      it has put nothing yet
+--   placed-length    the bytes are as many as before
+--   placed-room, placed-one   there is room for the next lists, or the next one
+--   placed-place     their place fits a word, and so does its distance from the first (placed-offset)
+--   placed-width     so does the length of a list, where there is one to put
+--   placed-next, placed-more   so many lists more, or one, are put
+--   placed-all       all are put
+use Prim.Native.Nat.{ℕ, zero, suc, _+_, _*_, _^_, _≤_, _<_, zero-le}
 use native.Mathlib.Omega.{arith}
-use native.Mathlib.Nat.{add-zero, add-assoc, add-mul, suc-mul, zero-mul, not-suc-le-zero, le-of-suc-le-suc, eq-or-lt-of-le}
+use native.Mathlib.Nat.{add-zero, add-assoc, add-mul, suc-mul, zero-mul, one-mul, not-suc-le-zero, le-of-suc-le-suc, eq-or-lt-of-le, le-antisymm, mul-le-mul-right}
 use mathlib.Core.Path.{_≡_, sym, ap, ap₂, _∙_}
 use mathlib.Core.List.{List, [], _∷_, _++_, append-assoc, append-nil}
 use mathlib.Core.Logic.{⊎-elim}
-use lib.ListN.{length, getD, take, drop, length-append, length-take, take-append-drop}
+use lib.ListN.{length, take, drop, length-append, length-take, length-drop, take-append-drop}
 use lib.Seq.{length-take-le, take-at, drop-at, drop-drop, drop-append-add}
+use mir.Syntax.{w64}
+use mir.Val.{Fits}
 use Rattle.bits.specs.Packed.{tabulate}
-use Rattle.bits.proofs.Blocks.{block-ext, length-block}
-use Rattle.bits.proofs.Packed.{tabulate-ext}
+use Rattle.bits.proofs.Blocks.{block-append, length-block}
 use Rattle.bits.specs.Slices.{slice, splice}
-use Rattle.bits.proofs.Slices.{tabulate-slice, slice-same, slice-other}
+use Rattle.bits.proofs.Slices.{slice-same, slice-other}
 use Rattle.bits.proofs.Splice.{length-splice}
 use Rattle.bits.specs.Blocks.{block}
 
@@ -42,17 +52,16 @@ tabulate-block (suc c) w g =
 row-end : (r w c i : ℕ) → i < c → (r + i) * w + w ≤ (r + c) * w
 row-end r w c i h =
     let l : suc (r + i) ≤ r + c = omega arith in
-    omega (arith, native.Mathlib.Nat.mul-le-mul-right w l, suc-mul (r + i) w)
+    omega (arith, mul-le-mul-right w l, suc-mul (r + i) w)
 
-pub slice-block : (rows : List ℕ) (r w c : ℕ) → (r + c) * w ≤ length rows → slice (r * w) (c * w) rows ≡ block c (λ i. slice ((r + i) * w) w rows)
-slice-block rows r w c h =
-    sym (tabulate-slice rows (r * w) (c * w) (omega (arith, add-mul r c w)))
-    ∙ tabulate-block c w (λ t. getD rows (r * w + t) 0)
-    ∙ block-ext c (λ i. tabulate w (λ t. getD rows (r * w + (i * w + t)) 0)) (λ i. slice ((r + i) * w) w rows)
-    (λ i l.
-    tabulate-ext w (λ t. getD rows (r * w + (i * w + t)) 0) (λ t. getD rows ((r + i) * w + t) 0)
-    (λ t m. ap (λ (k : ℕ). getD rows k 0) (sym (add-assoc (r * w) (i * w) t) ∙ ap (λ (k : ℕ). k + t) (sym (add-mul r i w))))
-    ∙ tabulate-slice rows ((r + i) * w) w (omega (arith, row-end r w c i l)))
+pub length-slice : (at w : ℕ) (l : List ℕ) → at + w ≤ length l → length (slice at w l) ≡ w
+length-slice at w l h = length-take-le w (drop at l) (omega (arith, length-drop at l))
+
+pub length-below : (w : ℕ) (f : ℕ → List ℕ) (c : ℕ) → ((i : ℕ) → i < c → length (f i) ≡ w) → length (block c f) ≡ c * w
+unfolding block
+length-below w f zero long = sym (zero-mul w)
+length-below w f (suc c) long =
+    length-append (block c f) (f c) ∙ ap₂ _+_ (length-below w f c (λ i h. long i (omega arith))) (long c (omega arith)) ∙ sym (suc-mul c w)
 
 pub splice-append : (out : List ℕ) (at : ℕ) (a b : List ℕ) (k : ℕ) → at + length a ≡ k → k ≤ length out → splice (splice out at a) k b ≡ splice out at (a ++ b)
 splice-append out at a b k e h =
@@ -127,3 +136,62 @@ module _ (rows : List ℕ) (r w : ℕ) (f : ℕ → List ℕ) (long : (i : ℕ) 
       ap (slice (k * w) w) (put-more c (omega (arith, fits c h)))
       ∙ slice-other (putTo c) k (r + c) w (f c) (long c) (omega (arith, length-put c (omega (arith, fits c h)), fits c h)) (ne c (omega arith))
       ∙ block-kept c (omega (arith, fits c h)) k (λ i l. ne i (omega arith))
+
+pub record Placed (start : List ℕ) (to count width : ℕ) (f : ℕ → List ℕ) (out : List ℕ) (i : ℕ) : Type 0 where
+  pub room : to + count * width ≤ length start
+  pub long : (k : ℕ) → k < count → length (f k) ≡ width
+  pub within : i ≤ count
+  pub so-far : out ≡ splice start to (block i f)
+
+module _ {start : List ℕ} {to count width : ℕ} {f : ℕ → List ℕ} where
+  pub placed-none : to + count * width ≤ length start → ((k : ℕ) → k < count → length (f k) ≡ width) → Placed start to count width f start 0
+  unfolding block
+  placed-none h long = record { room = h; long = long; within = zero-le; so-far = sym (splice-none start to) }
+
+  module _ {out : List ℕ} {i : ℕ} (p : Placed start to count width f out i) where
+    placed-end : to + length (block i f) ≡ to + i * width
+    placed-end = ap (λ (k : ℕ). to + k) (length-below width f i (λ k h. p .long k (omega (arith, p .within))))
+
+    -- the next lists end within the room for all
+    next-end : (n : ℕ) → i + n ≤ count → to + i * width + n * width ≤ length start
+    next-end n h = omega (arith, mul-le-mul-right width h, add-mul i n width, p .room)
+
+    pub placed-length : length out ≡ length start
+    placed-length = ap length (p .so-far) ∙ length-splice start to (block i f) (omega (arith, placed-end, next-end 0 (omega (arith, p .within))))
+
+    pub placed-room : (n : ℕ) → i + n ≤ count → to + i * width + n * width ≤ length out
+    placed-room n h = omega (arith, next-end n h, placed-length)
+
+    pub placed-one : i < count → to + i * width + width ≤ length out
+    placed-one h = omega (arith, placed-room 1 (omega arith), one-mul width)
+
+    module _ (short : length start < 2 ^ 64) where
+      pub placed-place : Fits w64 (to + i * width)
+      placed-place = record { fits = omega (arith, next-end 0 (omega (arith, p .within))) }
+
+      pub placed-offset : Fits w64 (i * width)
+      placed-offset = record { fits = omega (arith, next-end 0 (omega (arith, p .within))) }
+
+      pub placed-width : i < count → Fits w64 width
+      placed-width h = record { fits = omega (arith, next-end 1 (omega arith), one-mul width) }
+
+    pub placed-next : (n : ℕ) {put : List ℕ} → i + n ≤ count → put ≡ splice out (to + i * width) (block n (λ k. f (i + k)))
+        → Placed start to count width f put (i + n)
+    placed-next n h e =
+        record {
+          room = p .room;
+          long = p .long;
+          within = h;
+          so-far =
+              e
+              ∙ ap (λ (l : List ℕ). splice l (to + i * width) (block n (λ k. f (i + k)))) (p .so-far)
+              ∙ splice-append start to (block i f) (block n (λ k. f (i + k))) (to + i * width) placed-end (omega (arith, next-end n h))
+              ∙ ap (splice start to) (block-append i n f);
+        }
+
+    pub placed-more : {put : List ℕ} → i < count → put ≡ splice out (to + i * width) (f i) → Placed start to count width f put (i + 1)
+    unfolding block
+    placed-more h e = placed-next 1 (omega arith) (e ∙ ap (λ (k : ℕ). splice out (to + i * width) (f k)) (sym (add-zero i)))
+
+    pub placed-all : count ≤ i → out ≡ splice start to (block count f)
+    placed-all h = p .so-far ∙ ap (λ (k : ℕ). splice start to (block k f)) (le-antisymm (p .within) h)

@@ -10,7 +10,6 @@
 --   tables-deliver       what a successful call of `tables` delivers
 --   delivery-unread      with room for the most tables it refuses only what reading refuses
 use Prim.Native.Nat.{ℕ, zero, suc, _+_, _*_, _^_, _≤_, _<_}
-use native.Mathlib.Nat.{mul-le-mul}
 use native.Mathlib.Omega.{arith}
 use mathlib.Core.Path.{_≡_, refl, sym, ap, _∙_}
 use mathlib.Core.Bool.{Bool, true}
@@ -22,26 +21,25 @@ use lib.Seq.{take-at}
 use Rattle.bits.specs.Answer.{Answer, Fills, number, outcome}
 use Rattle.bits.specs.Answer.Answer.{gives, refused}
 use Rattle.bits.specs.Bounds.{eachBelow}
-use Rattle.bits.specs.Sizes.{tableBytes}
 use Rattle.bits.specs.declared.Outcome.the-variants.{Done, Refused}
 use Rattle.bits.specs.declared.Refusal.{Refusal}
 use Rattle.bits.proofs.Bounds.{each-all, all-each}
 use Rattle.bits.proofs.Answers.{gives-same, never-gives, refused-same, unless-gives, onward-gives}
 use Rattle.job.specs.Check.{Valid}
-use Rattle.job.specs.Layout.{maxInputs, maxFaults}
-use Rattle.job.specs.Record.{faultAt, lines}
+use Rattle.job.specs.Layout.{maxInputs, maxOutputs, maxFaults}
+use Rattle.job.specs.Record.{outputAt, faultAt, lines}
 use Rattle.job.specs.declared.Job.{Job}
 use Rattle.reading.specs.Reading.{reading}
 use Rattle.reading.proofs.Validity.{reading-valid}
 use Rattle.tables.specs.Circuit.{circuitEntry, fixingOf, valuesTo, free}
 use Rattle.tables.specs.Family.{Family, familyOf, sameTables}
-use Rattle.tables.specs.Operations.{tablesOf, tablesTo, countsOf, Delivered, delivered}
+use Rattle.tables.specs.Operations.{tablesOf, tablesTo, tablesBytes, countsOf, Delivered, delivered}
 use Rattle.tables.specs.Work.{maxTableBytes, lineValue}
 use Rattle.tables.specs.declared.Counts.{Counts}
 use Rattle.tables.specs.declared.Delivery.{Delivery}
 use Rattle.tables.proofs.Faults.{fixedBy-bit}
-use Rattle.tables.proofs.Space.{tableBytes-most}
 use Rattle.tables.proofs.Values.{line-bit}
+use Rattle.tables.proofs.WrittenTables.{all-tables-room}
 
 -- ---- equal tables
 
@@ -67,7 +65,8 @@ pub record ValidFamily (F : Family) : Type 0 where
   pub good : 1 ≤ F .circuits
   pub circuits-few : F .circuits ≤ maxFaults + 1
   pub one : 1 ≤ F .outputs
-  pub bit : (c o m : ℕ) → F .entry c o m < 2
+  pub outputs-few : F .outputs ≤ maxOutputs
+  pub bit : (c o m : ℕ) → o < F .outputs → F .entry c o m < 2
 
 pub record SameFamily (F G : Family) : Type 0 where
   pub inputs : F .inputs ≡ G .inputs
@@ -81,9 +80,9 @@ unfolding fixingOf
 fixing-bit j zero m l v h = h
 fixing-bit j (suc i) m l v h = fixedBy-bit (faultAt j i) (valuesTo free j m (lines j)) l v h
 
-pub entry-bit : (j : Job) (c m : ℕ) → Valid j → circuitEntry j c m < 2
+pub entry-bit : (j : Job) (c o m : ℕ) → Valid j → o < j .«output_count» → circuitEntry j c o m < 2
 unfolding circuitEntry lineValue
-entry-bit j c m v = line-bit (fixingOf j c) j m (fixing-bit j c m) (j .output) (v .output)
+entry-bit j c o m v h = line-bit (fixingOf j c) j m (fixing-bit j c m) (outputAt j o) (v .output o h)
 
 pub family-valid : (j : Job) → Valid j → ValidFamily (familyOf j)
 family-valid j v =
@@ -92,16 +91,12 @@ family-valid j v =
       few = v .few;
       good = omega arith;
       circuits-few = omega (arith, v .faults-few);
-      one = omega arith;
-      bit = λ c o m. entry-bit j c m v;
+      one = v .outputs-some;
+      outputs-few = v .outputs-few;
+      bit = λ c o m h. entry-bit j c o m v h;
     }
 
 -- ---- what a call of `tables` delivers
-
-all-tables-room : (j : Job) → Valid j → (j .«fault_count» + 1) * tableBytes (j .inputs) ≤ (maxFaults + 1) * maxTableBytes
-all-tables-room j v =
-    let f : j .«fault_count» + 1 ≤ maxFaults + 1 = omega (arith, v .faults-few) in
-    mul-le-mul f (tableBytes-most (j .inputs) (v .few))
 
 pub record Delivers (s : List ℕ) (r : Delivery) (after : List ℕ) : Type 0 where
   pub job : Job
@@ -120,7 +115,7 @@ module _ (s out after : List ℕ) (r : Delivery) (p : atEnd r after ≡ delivere
   delivers (gives w) e q done =
       let read = onward-gives (reading s) _ (sym e) in
       let j = read .0 in
-      let room = unless-gives (leb ((j .«fault_count» + 1) * tableBytes (j .inputs)) (length out)) 10 _ (read .2) in
+      let room = unless-gives (leb (tablesBytes j) (length out)) 10 _ (read .2) in
       let same = gives-same (room .1) in
       let text : after ≡ w .filled ++ drop (length (w .filled)) out = ap (λ (x : Delivered). x .memory) q in
       let size : r .bytes ≡ length (w .filled) = ap (λ (x : Delivered). x .bytes) q in
@@ -139,7 +134,7 @@ module _ (s out after : List ℕ) (r : Delivery) (p : atEnd r after ≡ delivere
   pub tables-deliver : r .outcome ≡ Done → Delivers s r after
   tables-deliver done = delivers (tablesOf s (length out)) refl p done
 
-  unread : (a : Answer Job) → reading s ≡ a → length out ≡ (maxFaults + 1) * maxTableBytes → (k : ℕ) → outcome (r .outcome) ≡ refused k
+  unread : (a : Answer Job) → reading s ≡ a → length out ≡ (maxFaults + 1) * maxOutputs * maxTableBytes → (k : ℕ) → outcome (r .outcome) ≡ refused k
       → reading s ≡ refused k
   unfolding tablesOf
   unread (refused i) e size k q =
@@ -149,10 +144,10 @@ module _ (s out after : List ℕ) (r : Delivery) (p : atEnd r after ≡ delivere
       (sym (refused-same {A = Unit {0}}
       (sym q ∙ ap (λ (x : Delivered). x .answer) (p ∙ ap (λ (x : Answer (Fills Counts)). delivered x out) same))))
   unread (gives j) e size k q =
-      let room : (j .«fault_count» + 1) * tableBytes (j .inputs) ≤ length out = rw size (all-tables-room j (reading-valid s j e)) in
+      let room : tablesBytes j ≤ length out = rw size (all-tables-room j (reading-valid s j e)) in
       let gave : tablesOf s (length out) ≡ gives (record { value = countsOf j; filled = tablesTo j (j .«fault_count» + 1) }) =
-      simp (e, le-leb ((j .«fault_count» + 1) * tableBytes (j .inputs)) (length out) room) in
+      simp (e, le-leb (tablesBytes j) (length out) room) in
       absurd (never-gives (sym q ∙ ap (λ (x : Delivered). x .answer) (p ∙ ap (λ (x : Answer (Fills Counts)). delivered x out) gave)))
 
-  pub delivery-unread : (cause : Refusal) → length out ≡ (maxFaults + 1) * maxTableBytes → r .outcome ≡ Refused cause → reading s ≡ refused (number cause)
+  pub delivery-unread : (cause : Refusal) → length out ≡ (maxFaults + 1) * maxOutputs * maxTableBytes → r .outcome ≡ Refused cause → reading s ≡ refused (number cause)
   delivery-unread cause size e = unread (reading s) refl size (number cause) (ap outcome e)

@@ -1,3 +1,4 @@
+pub mod ASample
 pub mod Answers
 pub mod Batches
 pub mod Blocks

@@ -3,13 +3,13 @@
 --   table-fits        the largest table has as many bytes as are kept for one
 --   some-gates        the record has room for a gate
 --   byte-inputs       an input behind the third has a bit of a byte
---   all-tables-fit    places in the tables of the most circuits fit a word
+--   all-tables-fit    places in the tables of the most circuits at the most outputs fit a word
 --   block-fits        a block has room for the largest table
 --   faults-fit        a set has room for the faults of a job
 use Prim.Native.Nat.{_+_, _*_, _^_, _≤_, _<_}
 use lib.Dec.{lit<, lit≤}
 use Rattle.bits.specs.Sets.{maxMembers}
-use Rattle.job.specs.Layout.{maxInputs, maxGates, maxFaults}
+use Rattle.job.specs.Layout.{maxInputs, maxGates, maxOutputs, maxFaults}
 use Rattle.bits.specs.Sizes.{tableBytes}
 use Rattle.tables.specs.Work.{maxTableBytes, blockBytes}
 
@@ -25,8 +25,8 @@ pub byte-inputs : maxInputs ≤ 11
 unfolding maxInputs
 byte-inputs = lit≤ tt
 
-pub all-tables-fit : (maxFaults + 1) * maxTableBytes < 2 ^ 64
-unfolding maxFaults maxTableBytes
+pub all-tables-fit : (maxFaults + 1) * maxOutputs * maxTableBytes < 2 ^ 64
+unfolding maxFaults maxOutputs maxTableBytes
 all-tables-fit = lit< tt
 
 pub block-fits : maxTableBytes ≤ blockBytes

@@ -58,7 +58,7 @@ tableBytes-most n h = let p : 2 ^ n ≤ 2 ^ maxInputs = pow-mono h in le-trans (
 pub bytes-some : (n : ℕ) → 1 ≤ tableBytes n
 bytes-some n = omega (arith, pow-pos n)
 
-row-order : (r s w : ℕ) → r < s → r * w + w ≤ s * w
+pub row-order : (r s w : ℕ) → r < s → r * w + w ≤ s * w
 row-order r s w h = omega (arith, mul-le-mul-right w h, suc-mul r w)
 
 pub times-some : (row bytes : ℕ) → 1 ≤ bytes → row * bytes < 2 ^ 64 → row < 2 ^ 64

@@ -1,10 +1,10 @@
--- Believed: the table of a circuit (document 01, "Tables").
+-- Believed: the tables of a circuit (document 01, "Tables"; document 02, CR 2).
 --
 --   Fixing         what the readers of a line see, where the line by itself would have a value
 --   valuesTo       the values of the lines below a line, for one input number, as everyone reads them
 --   fixedBy        the lines that a fault fixes, and at what
---   circuitEntry   entry m of circuit c's table
---   circuitTable   circuit c's packed table
+--   circuitEntry   entry m of the table of circuit c at output o
+--   circuitTable   that table, packed
 use Prim.Native.Nat.{ℕ, zero, suc, _-_, _^_}
 use mathlib.Core.Bool.{cond, _||_}
 use mathlib.Core.List.{List}
@@ -12,7 +12,7 @@ use lib.ListN.{getD}
 use lib.Dec.{ltb, eqb}
 use Rattle.bits.specs.Building.{builtTo}
 use Rattle.bits.specs.Packed.{packed}
-use Rattle.job.specs.Record.{gateKind, gateA, gateB, gateAt, faultAt, lines, levelNumber}
+use Rattle.job.specs.Record.{gateKind, gateA, gateB, gateAt, outputAt, faultAt, lines, levelNumber}
 use Rattle.job.specs.declared.Gate.{Gate}
 use Rattle.job.specs.declared.Fault.{Fault}
 use Rattle.job.specs.declared.Fault.the-variants.{Stuck, Bridge}
@@ -47,9 +47,10 @@ unfoldable pub fixingOf : Job → ℕ → ℕ → Fixing
 fixingOf j zero m = free
 fixingOf j (suc i) m = fixedBy (faultAt j i) (valuesTo free j m (lines j))
 
-unfoldable pub circuitEntry : Job → ℕ → ℕ → ℕ
-circuitEntry j c m = getD (valuesTo (fixingOf j c m) j m (lines j)) (j .output) 0
+-- "Outputs number from 0 in field order and may repeat a line."
+unfoldable pub circuitEntry : Job → ℕ → ℕ → ℕ → ℕ
+circuitEntry j c o m = getD (valuesTo (fixingOf j c m) j m (lines j)) (outputAt j o) 0
 
 -- "N = 2 to the power n"
-unfoldable pub circuitTable : Job → ℕ → List ℕ
-circuitTable j c = packed (2 ^ (j .inputs)) (circuitEntry j c)
+unfoldable pub circuitTable : Job → ℕ → ℕ → List ℕ
+circuitTable j c o = packed (2 ^ (j .inputs)) (circuitEntry j c o)

@@ -17,10 +17,10 @@ pub record Family : Type 0 where
   pub outputs : ℕ
   pub entry : ℕ → ℕ → ℕ → ℕ
 
--- "The listed circuits are 0 to f, the good one included"; a job has one output, number 0
+-- "The listed circuits are 0 to f, the good one included"
 abbrev pub familyOf : Job → Family
-familyOf j = record { inputs = j .inputs; circuits = j .«fault_count» + 1; outputs = 1; entry = λ c o m. circuitEntry j c m }
+familyOf j = record { inputs = j .inputs; circuits = j .«fault_count» + 1; outputs = j .«output_count»; entry = circuitEntry j }
 
--- at every output, for every input number
+-- "Two circuits are alike when all outputs agree on every input."
 abbrev pub sameTables : Family → ℕ → ℕ → Bool
 sameTables F a b = eachBelow (F .outputs) (λ o. eachBelow (2 ^ (F .inputs)) (λ m. eqb (F .entry a o m) (F .entry b o m)))

@@ -1,12 +1,13 @@
--- Believed: the operations on tables (document 01, "Tables" and "Refusal by operation").
+-- Believed: the operations on tables (document 01, "Tables" and "Refusal by operation"; document 02, CR 2).
 --
---   tableOf      the table of one circuit, given the bytes of a job, the circuit's number and the length of the lent memory
---   tablesTo     the tables of the first circuits of a job, circuit after circuit
+--   tableOf      the table of one circuit at one output, given the bytes of a job, both numbers and the length of the lent memory
+--   tablesTo     the tables of the first circuits of a job, circuit after circuit, output after output
+--   tablesBytes  as many bytes as those of all its circuits
 --   tablesOf     those of all its circuits, with the job's counts
 --   delivered    what the second operation answers and leaves
 use Prim.Native.Nat.{ℕ, _+_, _*_}
 use mathlib.Core.List.{List}
-use lib.Dec.{leb}
+use lib.Dec.{leb, ltb}
 use lib.ListN.{length}
 use Rattle.bits.specs.Answer.{Answer, Fills, leaves, unless, onward}
 use Rattle.bits.specs.Answer.Answer.{gives, refused}
@@ -17,30 +18,34 @@ use Rattle.bits.specs.Sizes.{tableBytes}
 use Rattle.tables.specs.Circuit.{circuitTable}
 use Rattle.tables.specs.declared.Counts.{Counts}
 
--- "Table of a circuit: reading's, then 11, circuit number over f, then 10"
-unfoldable pub tableOf : List ℕ → ℕ → ℕ → Answer (Fills (Unit {0}))
-tableOf s c room =
+-- "Table of a circuit: reading's, then 11, circuit number over f, then 10"; "20: output number too high, in the table operation after 11"
+unfoldable pub tableOf : List ℕ → ℕ → ℕ → ℕ → Answer (Fills (Unit {0}))
+tableOf s c o room =
     onward (reading s) (λ j.
     unless (leb c (j .«fault_count»)) 11
+    (unless (ltb o (j .«output_count»)) 20
     (unless (leb (tableBytes (j .inputs)) room) 10
-    (gives (record { value = tt; filled = circuitTable j c }))))
+    (gives (record { value = tt; filled = circuitTable j c o })))))
 
 -- the tables of circuits 0 to c − 1
 abbrev pub tablesTo : Job → ℕ → List ℕ
-tablesTo j c = block c (circuitTable j)
+tablesTo j c = block c (λ i. block (j .«output_count») (circuitTable j i))
+
+abbrev pub tablesBytes : Job → ℕ
+tablesBytes j = (j .«fault_count» + 1) * j .«output_count» * tableBytes (j .inputs)
 
 abbrev pub countsOf : Job → Counts
-countsOf j = record { inputs = j .inputs; gates = j .«gate_count»; faults = j .«fault_count» }
+countsOf j = record { inputs = j .inputs; gates = j .«gate_count»; outputs = j .«output_count»; faults = j .«fault_count» }
 
--- reading's refusals, then 10: fewer than (f+1) × ((N+7) div 8) bytes are lent
+-- reading's refusals, then 10: fewer than (f+1) × outputs × ((N+7) div 8) bytes are lent
 unfoldable pub tablesOf : List ℕ → ℕ → Answer (Fills Counts)
 tablesOf s room =
     onward (reading s) (λ j.
-    unless (leb ((j .«fault_count» + 1) * tableBytes (j .inputs)) room) 10
+    unless (leb (tablesBytes j) room) 10
     (gives (record { value = countsOf j; filled = tablesTo j (j .«fault_count» + 1) })))
 
 abbrev pub noCounts : Counts
-noCounts = record { inputs = 0; gates = 0; faults = 0 }
+noCounts = record { inputs = 0; gates = 0; outputs = 0; faults = 0 }
 
 pub record Delivered : Type 0 where
   pub answer : Answer (Unit {0})

@@ -21,7 +21,12 @@
 --   sideTable    the table of a line in a column of the batch
 --   Side         the blocks of the first lines are their tables in each circuit of the batch, and the good circuit's rows stand
 --   Made         so for the lines before one; its own block has its tables in the columns that are not in a set, and those of the set fix it
---   tablesFrom   the tables of a batch
+--   Asked        lines of the circuit, as those whose tables are asked for
+--   tablesAt     the tables of a circuit at some lines, one after the other
+--   tablesFrom   so for a batch of circuits
+--   askedRow     the row of a batch's column at one of some lines
+--   rowsAt       its rows at these lines, one after the other
+--   RowsThere    a batch's rows at these lines lie within so many bytes
 use Prim.Native.Nat.{ℕ, zero, suc, _+_, _-_, _*_, _^_, _≤_, _<_}
 use mathlib.Core.Path.{_≡_}
 use mathlib.Core.Bool.{Bool, true, false, cond, _&&_, _||_}
@@ -41,7 +46,7 @@ use Rattle.bits.specs.Sizes.{tableBytes}
 use Rattle.bits.specs.Slices.{slice, splice}
 use Rattle.gates.specs.Values.{inputValue}
 use Rattle.gates.specs.declared.Polynomial.{Polynomial}
-use Rattle.tables.specs.Circuit.{Fixing, free, valuesTo, fixedBy, fixingOf, circuitTable}
+use Rattle.tables.specs.Circuit.{Fixing, free, valuesTo, fixedBy, fixingOf}
 use Rattle.bits.specs.Blocks.{block}
 use Rattle.tables.specs.Sizes.{shapeOf}
 use Rattle.tables.specs.declared.evaluator.Batch.{Batch}
@@ -145,5 +150,21 @@ pub record Made (j : Job) (b : Batch) (l left : ℕ) (rows : List ℕ) : Type 0 
   pub fixed : (i : ℕ) → has left i ≡ true → ltb i (b .count) && fixesLine j (b .first + i) l ≡ true
   pub done : (i : ℕ) → i < b .count → has left i ≡ false → rowAt j (rowOf b l + i) rows ≡ sideTable j b i l
 
-abbrev pub tablesFrom : Job → ℕ → ℕ → List ℕ
-tablesFrom j first count = block count (λ i. circuitTable j (first + i))
+abbrev pub Asked : Job → List ℕ → Type 0
+Asked j asked = (p : ℕ) → p < length asked → getD asked p 0 < lines j
+
+abbrev pub tablesAt : Job → List ℕ → ℕ → List ℕ
+tablesAt j asked c = block (length asked) (λ p. lineTable (fixingOf j c) j (getD asked p 0))
+
+abbrev pub tablesFrom : Job → List ℕ → ℕ → ℕ → List ℕ
+tablesFrom j asked first count = block count (λ i. tablesAt j asked (first + i))
+
+abbrev pub askedRow : Batch → ℕ → List ℕ → List ℕ → ℕ → ℕ → List ℕ
+askedRow b bytes asked rows i p = slice ((rowOf b (getD asked p 0) + i) * bytes) bytes rows
+
+abbrev pub rowsAt : Batch → ℕ → List ℕ → List ℕ → ℕ → List ℕ
+rowsAt b bytes asked rows i = block (length asked) (askedRow b bytes asked rows i)
+
+pub record RowsThere (b : Batch) (bytes : ℕ) (asked : List ℕ) (room : ℕ) : Type 0 where
+  pub some : 1 ≤ bytes
+  pub there : (p : ℕ) → p < length asked → rowOf b (getD asked p 0) * bytes + b .count * bytes ≤ room

@@ -1,19 +1,17 @@
-// The packed truth tables of a job's circuits (document 01, "Tables"): of one circuit, and of all. The job is read, its
-// circuits are worked out in batches (evaluator.rt), and the rows of the output line are copied to the lent bytes.
+// The packed truth tables of a job's circuits (document 01, "Tables"): of one circuit at one output, and of all. The job
+// is read, its circuits are worked out in batches (evaluator.rt), and the rows of the output lines are copied to the lent
+// bytes, circuit after circuit, output after output.
 ghost use mathlib.Core.Path.{_≡_};
-ghost use mathlib.Core.Bool.{cond};
-ghost use Prim.Native.Nat.{_+_, _*_, _/_, _≤_};
-ghost use lib.Dec.{leb};
+ghost use Prim.Native.Nat.{_+_, _*_, _/_, _≤_, _<_};
 ghost use lib.ListN.{length};
 ghost use Rattle.bits.specs.Answer.{outcome, leaves};
 ghost use Rattle.bits.specs.Sizes.{tableBytes};
-ghost use Rattle.bits.specs.Slices.{slice, splice};
+ghost use Rattle.bits.specs.Blocks.{block};
+ghost use Rattle.bits.specs.Slices.{splice};
 ghost use Rattle.bits.specs.declared.Outcome.the-variants.{Refused};
-ghost use Rattle.job.specs.Layout.{maxFaults};
-ghost use Rattle.tables.specs.Circuit.{circuitTable};
-ghost use Rattle.tables.specs.Operations.{tableOf, tablesOf, tablesTo, noCounts, delivered};
+ghost use Rattle.tables.specs.Operations.{tableOf, tablesOf, noCounts, delivered};
 ghost use Rattle.tables.specs.Sizes.{Formed};
-ghost use Rattle.tables.specs.Work.{blockBytes, rowOf, Wide, Sound, Good, tablesFrom};
+ghost use Rattle.tables.specs.Work.{blockBytes, Wide, Sound, Good, Asked, tablesAt, tablesFrom, rowsAt, RowsThere};
 use bits::Outcome;
 use bits::Refusal;
 use evaluator::Batch;
@@ -21,6 +19,7 @@ use evaluator::MAX_LINES;
 use job::Job;
 use job::MAX_FAULTS;
 use job::MAX_INPUTS;
+use job::MAX_OUTPUTS;
 use rows::Polynomials;
 use rows::Shape;
 
@@ -30,8 +29,8 @@ mod rows;
 // The bytes of the largest table, "(N+7) div 8".
 pub const MAX_TABLE_BYTES: usize = ((1 << MAX_INPUTS) + 7) / 8;
 
-// The tables of the most circuits: the good one and each fault.
-pub const ALL_TABLES_BYTES: usize = (MAX_FAULTS + 1) * MAX_TABLE_BYTES;
+// The tables of the most circuits at the most outputs: the good circuit's and each fault's.
+pub const ALL_TABLES_BYTES: usize = (MAX_FAULTS + 1) * MAX_OUTPUTS * MAX_TABLE_BYTES;
 
 // A row for each line of the good circuit, and one for each of a faulty one.
 const ROW_BYTES: usize = 2 * MAX_LINES * MAX_TABLE_BYTES;
@@ -43,21 +42,12 @@ const BLOCK_BYTES: usize = 512;
 // A row for each line of the good circuit, and a block for each of a batch.
 const ALL_ROW_BYTES: usize = MAX_LINES * (MAX_TABLE_BYTES + BLOCK_BYTES);
 
-// How many inputs, gates and faults a job has.
+// How many inputs, gates, outputs and faults a job has.
 pub struct Counts {
     pub inputs: usize,
     pub gates: usize,
+    pub outputs: usize,
     pub faults: usize,
-}
-
-// How many circuits are listed, the good one and each fault; 0 where there are more than a list may have.
-pub fn circuits_of(counts: Counts) -> usize
-    ensures { λ r. ⌜ r ≡ cond (leb (counts .faults) maxFaults) (counts .faults + 1) 0 ⌝ }
-{
-    if MAX_FAULTS < counts.faults {
-        return 0;
-    }
-    counts.faults + 1
 }
 
 // Whether the tables of a job are written, its counts, and how many bytes the tables have; these are 0 beside a refusal.
@@ -67,9 +57,9 @@ pub struct Delivery {
     pub bytes: usize,
 }
 
-// The packed table of circuit `circuit` of the job that the bytes give.
-pub fn table(bytes: &[u8], circuit: usize, out: &mut [u8]) -> Outcome
-    ensures { λ r. ⌜ record { answer = outcome r; memory = now (out .exit) } ≡ leaves (tableOf (now (bytes .entry)) circuit (length (now (out .entry)))) (now (out .entry)) ⌝ }
+// The packed table of circuit `circuit` at output `output` of the job that the bytes give.
+pub fn table(bytes: &[u8], circuit: usize, output: usize, out: &mut [u8]) -> Outcome
+    ensures { λ r. ⌜ record { answer = outcome r; memory = now (out .exit) } ≡ leaves (tableOf (now (bytes .entry)) circuit output (length (now (out .entry)))) (now (out .entry)) ⌝ }
 {
     let reading = reading::read(bytes);
     let outcome = reading.outcome;
@@ -80,12 +70,17 @@ pub fn table(bytes: &[u8], circuit: usize, out: &mut [u8]) -> Outcome
     if (job.fault_count as usize) < circuit {
         return Outcome::Refused(Refusal::Circuit);
     }
+    if job.output_count as usize <= output {
+        return Outcome::Refused(Refusal::OutputNumber);
+    }
     let shape = rows::shape_of(job.inputs as usize);
     if out.len() < shape.bytes {
         return Outcome::Refused(Refusal::Memory);
     }
     let mut rows = [0u8; ROW_BYTES];
-    put_table(out, &mut rows, job, circuit, shape);
+    let lines = job.outputs;
+    let asked = &lines[output..output + 1];
+    put_table(out, &mut rows, job, circuit, asked, shape);
     Outcome::Done
 }
 
@@ -98,13 +93,14 @@ fn undelivered(cause: Refusal) -> Delivery
         counts: Counts {
             inputs: 0,
             gates: 0,
+            outputs: 0,
             faults: 0,
         },
         bytes: 0,
     }
 }
 
-// The packed tables of all circuits of the job that the bytes give, circuit after circuit.
+// The packed tables of all circuits of the job that the bytes give, circuit after circuit, output after output.
 pub fn tables(bytes: &[u8], out: &mut [u8]) -> Delivery
     ensures { λ r. ⌜ record { answer = outcome (r .outcome); counts = r .counts; bytes = r .bytes; memory = now (out .exit) } ≡ delivered (tablesOf (now (bytes .entry)) (length (now (out .entry)))) (now (out .entry)) ⌝ }
 {
@@ -114,71 +110,108 @@ pub fn tables(bytes: &[u8], out: &mut [u8]) -> Delivery
         return undelivered(cause);
     }
     let job = reading.job;
+    let outputs = job.output_count as usize;
     let faults = job.fault_count as usize;
     let shape = rows::shape_of(job.inputs as usize);
-    let bytes = (faults + 1) * shape.bytes;
+    let bytes = (faults + 1) * outputs * shape.bytes;
     if out.len() < bytes {
         return undelivered(Refusal::Memory);
     }
     let mut rows = [0u8; ALL_ROW_BYTES];
-    put_tables(out, &mut rows, job, shape);
+    let lines = job.outputs;
+    put_tables(out, &mut rows, job, &lines[..outputs], shape);
     Delivery {
         outcome: Outcome::Done,
         counts: Counts {
             inputs: job.inputs as usize,
             gates: job.gate_count as usize,
+            outputs,
             faults,
         },
         bytes,
     }
 }
 
-// Copies the block of the output line: the tables of a batch's circuits.
-fn put_output(out: &mut [u8], to: usize, rows: &[u8], output: usize, batch: Batch, bytes: usize)
-    requires { ⌜ (1 ≤ bytes) × (to + batch .count * bytes ≤ length (now out)) × (rowOf batch output * bytes + batch .count * bytes ≤ length (now rows)) ⌝ }
-    ensures { λ r. ⌜ now (out .exit) ≡ splice (now (out .entry)) to (slice (rowOf batch output * bytes) (batch .count * bytes) (now (rows .entry))) ⌝ }
+// Copies the tables of one circuit, a column of a batch, at the lines asked for.
+fn put_column(
+    out: &mut [u8],
+    to: usize,
+    rows: &[u8],
+    asked: &[u8],
+    batch: Batch,
+    column: usize,
+    bytes: usize,
+)
+    requires { ⌜ RowsThere batch bytes (now asked) (length (now rows)) × (column < batch .count) × (to + length (now asked) * bytes ≤ length (now out)) ⌝ }
+    ensures { λ r. ⌜ now (out .exit) ≡ splice (now (out .entry)) to (rowsAt batch bytes (now (asked .entry)) (now (rows .entry)) column) ⌝ }
 {
-    let at = evaluator::block_place(batch, output, bytes);
-    bits::copy(out, to, rows, at, batch.count * bytes);
+    let mut p = 0;
+    while p < asked.len() {
+        let at = evaluator::block_place(batch, asked[p] as usize, bytes) + column * bytes;
+        bits::copy(out, to + p * bytes, rows, at, bytes);
+        p += 1;
+    }
 }
 
-// Works out a batch, and puts its circuits' tables at a place of the lent bytes.
+// Copies the tables of a batch's circuits at the lines asked for, circuit after circuit.
+fn put_columns(out: &mut [u8], to: usize, rows: &[u8], asked: &[u8], batch: Batch, bytes: usize)
+    requires { ⌜ RowsThere batch bytes (now asked) (length (now rows)) × (to + batch .count * (length (now asked) * bytes) ≤ length (now out)) ⌝ }
+    ensures { λ r. ⌜ now (out .exit) ≡ splice (now (out .entry)) to (block (batch .count) (rowsAt batch bytes (now (asked .entry)) (now (rows .entry)))) ⌝ }
+{
+    let count = batch.count;
+    let mut i = 0;
+    while i < count {
+        let step = asked.len() * bytes;
+        put_column(out, to + i * step, rows, asked, batch, i, bytes);
+        i += 1;
+    }
+}
+
+// Works out a batch, and puts its circuits' tables at the lines asked for to a place of the lent bytes.
 fn put_batch(
     out: &mut [u8],
     to: usize,
     rows: &mut [u8],
     job: Job,
     polynomials: Polynomials,
+    asked: &[u8],
     batch: Batch,
     shape: Shape,
 )
-    requires { ⌜ Sound job shape batch (now rows) × Formed (shape .mask) polynomials × (1 ≤ batch .first → Good job (now rows)) × (to + batch .count * tableBytes (job .inputs) ≤ length (now out)) ⌝ }
-    ensures { λ r. ⌜ Good job (now (rows .exit)) × (now (out .exit) ≡ splice (now (out .entry)) to (tablesFrom job (batch .first) (batch .count))) ⌝ }
+    requires { ⌜ Sound job shape batch (now rows) × Formed (shape .mask) polynomials × (1 ≤ batch .first → Good job (now rows)) × Asked job (now asked) × (to + batch .count * (length (now asked) * tableBytes (job .inputs)) ≤ length (now out)) ⌝ }
+    ensures { λ r. ⌜ Good job (now (rows .exit)) × (now (out .exit) ≡ splice (now (out .entry)) to (tablesFrom job (now (asked .entry)) (batch .first) (batch .count))) ⌝ }
 {
     evaluator::work_out(rows, job, polynomials, batch, shape);
-    put_output(out, to, rows, job.output as usize, batch, shape.bytes);
+    put_columns(out, to, rows, asked, batch, shape.bytes);
 }
 
-// The good circuit by itself: its rows come first, and its table at the start of the lent bytes.
-fn put_good(out: &mut [u8], rows: &mut [u8], job: Job, polynomials: Polynomials, shape: Shape)
-    requires { ⌜ Wide job shape 0 (now rows) × Formed (shape .mask) polynomials × (tableBytes (job .inputs) ≤ length (now out)) ⌝ }
-    ensures { λ r. ⌜ Good job (now (rows .exit)) × (now (out .exit) ≡ splice (now (out .entry)) 0 (circuitTable job 0)) ⌝ }
+// The good circuit by itself: its rows come first, and its tables at the start of the lent bytes.
+fn put_good(
+    out: &mut [u8],
+    rows: &mut [u8],
+    job: Job,
+    polynomials: Polynomials,
+    asked: &[u8],
+    shape: Shape,
+)
+    requires { ⌜ Wide job shape 0 (now rows) × Formed (shape .mask) polynomials × Asked job (now asked) × (length (now asked) * tableBytes (job .inputs) ≤ length (now out)) ⌝ }
+    ensures { λ r. ⌜ Good job (now (rows .exit)) × (now (out .exit) ≡ splice (now (out .entry)) 0 (tablesAt job (now (asked .entry)) 0)) ⌝ }
 {
     let batch = Batch {
         base: 0,
         first: 0,
         count: 1,
     };
-    put_batch(out, 0, rows, job, polynomials, batch, shape);
+    put_batch(out, 0, rows, job, polynomials, asked, batch, shape);
 }
 
-// The table of one circuit, at the start of the lent bytes: the good one's gives way to that of a faulty one.
-fn put_table(out: &mut [u8], rows: &mut [u8], job: Job, circuit: usize, shape: Shape)
-    requires { ⌜ Wide job shape 1 (now rows) × (circuit ≤ job .«fault_count») × (tableBytes (job .inputs) ≤ length (now out)) ⌝ }
-    ensures { λ r. ⌜ now (out .exit) ≡ splice (now (out .entry)) 0 (circuitTable job circuit) ⌝ }
+// The tables of one circuit, at the start of the lent bytes: the good one's give way to those of a faulty one.
+fn put_table(out: &mut [u8], rows: &mut [u8], job: Job, circuit: usize, asked: &[u8], shape: Shape)
+    requires { ⌜ Wide job shape 1 (now rows) × (circuit ≤ job .«fault_count») × Asked job (now asked) × (length (now asked) * tableBytes (job .inputs) ≤ length (now out)) ⌝ }
+    ensures { λ r. ⌜ now (out .exit) ≡ splice (now (out .entry)) 0 (tablesAt job (now (asked .entry)) circuit) ⌝ }
 {
     let polynomials = rows::polynomials_of(shape.mask);
-    put_good(out, rows, job, polynomials, shape);
+    put_good(out, rows, job, polynomials, asked, shape);
     if circuit == 0 {
         return;
     }
@@ -188,26 +221,34 @@ fn put_table(out: &mut [u8], rows: &mut [u8], job: Job, circuit: usize, shape: S
         first: circuit,
         count: 1,
     };
-    put_batch(out, 0, rows, job, polynomials, batch, shape);
+    put_batch(out, 0, rows, job, polynomials, asked, batch, shape);
 }
 
 // The tables of all circuits, from the start of the lent bytes on.
-fn put_tables(out: &mut [u8], rows: &mut [u8], job: Job, shape: Shape)
-    requires { ⌜ Wide job shape (blockBytes / tableBytes (job .inputs)) (now rows) × ((job .«fault_count» + 1) * tableBytes (job .inputs) ≤ length (now out)) ⌝ }
-    ensures { λ r. ⌜ now (out .exit) ≡ splice (now (out .entry)) 0 (tablesTo job (job .«fault_count» + 1)) ⌝ }
+fn put_tables(out: &mut [u8], rows: &mut [u8], job: Job, asked: &[u8], shape: Shape)
+    requires { ⌜ Wide job shape (blockBytes / tableBytes (job .inputs)) (now rows) × Asked job (now asked) × ((job .«fault_count» + 1) * (length (now asked) * tableBytes (job .inputs)) ≤ length (now out)) ⌝ }
+    ensures { λ r. ⌜ now (out .exit) ≡ splice (now (out .entry)) 0 (tablesFrom job (now (asked .entry)) 0 (job .«fault_count» + 1)) ⌝ }
 {
     let polynomials = rows::polynomials_of(shape.mask);
-    put_good(out, rows, job, polynomials, shape);
-    put_faults(out, rows, job, polynomials, shape);
+    put_good(out, rows, job, polynomials, asked, shape);
+    put_faults(out, rows, job, polynomials, asked, shape);
 }
 
 // The tables of all faulty circuits behind the good circuit's, batch after batch.
-fn put_faults(out: &mut [u8], rows: &mut [u8], job: Job, polynomials: Polynomials, shape: Shape)
-    requires { ⌜ Wide job shape (blockBytes / tableBytes (job .inputs)) (now rows) × Formed (shape .mask) polynomials × Good job (now rows) × ((job .«fault_count» + 1) * tableBytes (job .inputs) ≤ length (now out)) ⌝ }
-    ensures { λ r. ⌜ now (out .exit) ≡ splice (now (out .entry)) (tableBytes (job .inputs)) (tablesFrom job 1 (job .«fault_count»)) ⌝ }
+fn put_faults(
+    out: &mut [u8],
+    rows: &mut [u8],
+    job: Job,
+    polynomials: Polynomials,
+    asked: &[u8],
+    shape: Shape,
+)
+    requires { ⌜ Wide job shape (blockBytes / tableBytes (job .inputs)) (now rows) × Formed (shape .mask) polynomials × Good job (now rows) × Asked job (now asked) × ((job .«fault_count» + 1) * (length (now asked) * tableBytes (job .inputs)) ≤ length (now out)) ⌝ }
+    ensures { λ r. ⌜ now (out .exit) ≡ splice (now (out .entry)) (length (now (asked .entry)) * tableBytes (job .inputs)) (tablesFrom job (now (asked .entry)) 1 (job .«fault_count»)) ⌝ }
 {
     let faults = job.fault_count as usize;
     let bytes = shape.bytes;
+    let step = asked.len() * bytes;
     let most = BLOCK_BYTES / bytes;
     let base = job.inputs as usize + job.gate_count as usize;
     let mut done = 0;
@@ -215,7 +256,16 @@ fn put_faults(out: &mut [u8], rows: &mut [u8], job: Job, polynomials: Polynomial
         let count = bits::least(most, faults - done);
         let first = done + 1;
         let batch = Batch { base, first, count };
-        put_batch(out, first * bytes, rows, job, polynomials, batch, shape);
+        put_batch(
+            out,
+            first * step,
+            rows,
+            job,
+            polynomials,
+            asked,
+            batch,
+            shape,
+        );
         done += count;
     }
 }

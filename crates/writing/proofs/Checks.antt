@@ -1,20 +1,27 @@
 -- Laws of checking a record entry by entry (job's specs/Check.antt).
 --
---   gates-step, gates-next, gates-end      what the checks from a gate on give: where a gate is left, where it passes, where none is left
---   faults-step, faults-next, faults-end   the same for the faults
+--   turn-end, turn-stop, turn-next         what the checks from an entry on give: where none is left, where the next is refused, where it passes
+--   outputs-lent                           the checks of the outputs in use are those of the list of them
+--   gates-first, gates-second, gates-next  a gate whose first line is not below its own, whose second is not, and one that passes
+--   faults-step, faults-next, faults-end   the checks from a fault on, which has two tests
 --   checked-rest                           what is left to check once the gates have passed
-use Prim.Native.Nat.{ℕ, suc, _+_, _-_, _≤_, _<_}
-use mathlib.Core.Path.{_≡_, ap, _∙_, sym}
-use mathlib.Core.Bool.{true}
+use Prim.Native.Nat.{ℕ, zero, suc, _+_, _-_, _≤_, _<_}
+use mathlib.Core.Path.{_≡_, refl, ap, ap₂, _∙_}
+use mathlib.Core.Bool.{Bool, true, false, _&&_}
 use native.Mathlib.Numerals.{add-one}
 use native.Mathlib.Omega.{arith}
-use borrow.Author.Tests.{lt-ltb, le-leb}
-use Rattle.bits.specs.Answer.{unless}
-use Rattle.bits.specs.Answer.Answer.{gives}
-use Rattle.job.specs.Check.{gateOk, outputOk, faultCountOk, faultLineOk, faultOrderOk, gatesChecked, faultsChecked, checked}
-use Rattle.job.specs.Dependence.{noLoose}
+use borrow.Author.Tests.{lt-ltb, le-ltb, le-leb}
+use lib.Dec.{ltb}
+use lib.ListN.{length, getD}
+use lib.Seq.{length-take-le, getD-take}
+use Rattle.bits.specs.Answer.{Answer, unless, onward}
+use Rattle.bits.specs.Answer.Answer.{gives, refused}
+use Rattle.bits.proofs.Answers.{unless-true, unless-false}
+use Rattle.bits.proofs.Tests.{and-i}
+use Rattle.job.specs.Check.{inTurn, gateOk, outputCountOk, outputOk, faultCountOk, faultLineOk, faultOrderOk, gatesChecked, outputsChecked, faultsChecked, checked}
+use Rattle.job.specs.Dependence.{outputLines, noLoose}
 use Rattle.job.specs.Layout.{maxInputs, maxGates}
-use Rattle.job.specs.Record.{gateA, gateB, gateAt, faultAt, lines}
+use Rattle.job.specs.Record.{gateA, gateB, gateAt, outputAt, faultAt, lines}
 use Rattle.job.specs.declared.Job.{Job}
 
 -- so many checks from number i on: one, and then those from i + 1 on
@@ -23,18 +30,53 @@ turn run count i h =
     let e : count - i ≡ suc (count - (i + 1)) = omega arith in
     ap (λ (k : ℕ). run k i) e
 
-module _ (j : Job) (count i : ℕ) where
-  pub gates-end : count ≤ i → gatesChecked j (count - i) i ≡ gives tt
-  unfolding gatesChecked
-  gates-end h = let e : count - i ≡ 0 = omega arith in ap (λ (k : ℕ). gatesChecked j k i) e
+module _ (ok : ℕ → Bool) (number count i : ℕ) where
+  pub turn-end : count ≤ i → inTurn ok number (count - i) i ≡ gives tt
+  unfolding inTurn
+  turn-end h = let e : count - i ≡ 0 = omega arith in ap (λ (k : ℕ). inTurn ok number k i) e
 
-  pub gates-step : i < count → gatesChecked j (count - i) i ≡ unless (gateOk (j .inputs + i) (gateAt j i)) 4 (gatesChecked j (count - (i + 1)) (i + 1))
-  unfolding gatesChecked
-  gates-step h = turn (gatesChecked j) count i h ∙ simp add-one
+  turn-step : i < count → inTurn ok number (count - i) i ≡ unless (ok i) number (inTurn ok number (count - (i + 1)) (i + 1))
+  unfolding inTurn
+  turn-step h = turn (inTurn ok number) count i h ∙ simp add-one
+
+  pub turn-stop : i < count → ok i ≡ false → inTurn ok number (count - i) i ≡ refused number
+  turn-stop h e = turn-step h ∙ unless-false number (inTurn ok number (count - (i + 1)) (i + 1)) e
+
+  pub turn-next : i < count → ok i ≡ true → inTurn ok number (count - i) i ≡ inTurn ok number (count - (i + 1)) (i + 1)
+  turn-next h e = turn-step h ∙ unless-true number (inTurn ok number (count - (i + 1)) (i + 1)) e
+
+turn-same : (ok other : ℕ → Bool) (number left i : ℕ) → ((k : ℕ) → k < i + left → ok k ≡ other k) → inTurn ok number left i ≡ inTurn other number left i
+unfolding inTurn
+turn-same ok other number zero i h = refl
+turn-same ok other number (suc left) i h =
+    ap₂ (λ (t : Bool) (r : Answer (Unit {0})). unless t number r) (h i (omega arith)) (turn-same ok other number left (suc i) (λ k l. h k (omega arith)))
+
+pub outputs-lent : (j : Job) → j .«output_count» ≤ length (j .outputs)
+    → inTurn (λ o. outputOk (lines j) (getD (outputLines j) o 0)) 6 (length (outputLines j)) 0 ≡ outputsChecked j (j .«output_count») 0
+outputs-lent j room =
+    ap (λ (k : ℕ). inTurn (λ o. outputOk (lines j) (getD (outputLines j) o 0)) 6 k 0) (length-take-le (j .«output_count») (j .outputs) room)
+    ∙ turn-same (λ o. outputOk (lines j) (getD (outputLines j) o 0)) (λ o. outputOk (lines j) (outputAt j o)) 6 (j .«output_count») 0
+    (λ k h. ap (outputOk (lines j)) (getD-take (j .«output_count») (j .outputs) k 0 (omega arith)))
+
+module _ (j : Job) (count i : ℕ) where
+  abbrev ownOk : ℕ → Bool
+  ownOk q = gateOk (j .inputs + q) (gateAt j q)
+
+  pub gates-first : {a : ℕ} → i < count → a ≡ gateA (gateAt j i) → j .inputs + i ≤ a → gatesChecked j (count - i) i ≡ refused 4
+  gates-first h first p =
+      turn-stop ownOk 4 count i h (ap (λ (t : Bool). t && ltb (gateB (gateAt j i)) (j .inputs + i)) (le-ltb (gateA (gateAt j i)) (j .inputs + i) (rw first at p)))
+
+  pub gates-second : {a b : ℕ} → i < count → a ≡ gateA (gateAt j i) → b ≡ gateB (gateAt j i) → a < j .inputs + i → j .inputs + i ≤ b
+      → gatesChecked j (count - i) i ≡ refused 4
+  gates-second h first second p q =
+      turn-stop ownOk 4 count i h
+      (ap₂ (λ (t u : Bool). t && u) (lt-ltb (gateA (gateAt j i)) (j .inputs + i) (rw first at p)) (le-ltb (gateB (gateAt j i)) (j .inputs + i) (rw second at q)))
 
   pub gates-next : {a b : ℕ} → i < count → a ≡ gateA (gateAt j i) → b ≡ gateB (gateAt j i) → a < j .inputs + i → b < j .inputs + i
       → gatesChecked j (count - i) i ≡ gatesChecked j (count - (i + 1)) (i + 1)
-  gates-next {a} {b} h first second p q = gates-step h ∙ simp (sym first, sym second, lt-ltb a (j .inputs + i) p, lt-ltb b (j .inputs + i) q)
+  gates-next h first second p q =
+      turn-next ownOk 4 count i h
+      (and-i (lt-ltb (gateA (gateAt j i)) (j .inputs + i) (rw first at p)) (lt-ltb (gateB (gateAt j i)) (j .inputs + i) (rw second at q)))
 
   pub faults-end : count ≤ i → faultsChecked j (count - i) i ≡ gives tt
   unfolding faultsChecked
@@ -53,7 +95,8 @@ module _ (j : Job) (count i : ℕ) where
 -- the checks past the gates, once those before them have passed
 pub checked-rest : (j : Job) → 1 ≤ j .inputs → j .inputs ≤ maxInputs → j .«gate_count» ≤ maxGates → gatesChecked j (j .«gate_count») 0 ≡ gives tt
     → checked j
-    ≡ unless (outputOk (lines j) (j .output)) 6
-    (unless (noLoose j) 19 (unless (faultCountOk (j .«fault_count»)) 18 (faultsChecked j (j .«fault_count») 0)))
+    ≡ unless (outputCountOk (j .«output_count»)) 20
+    (onward (outputsChecked j (j .«output_count») 0) (λ _.
+    unless (noLoose j) 19 (unless (faultCountOk (j .«fault_count»)) 18 (faultsChecked j (j .«fault_count») 0))))
 unfolding checked
 checked-rest j some few gates-few gates = simp (le-leb 1 (j .inputs) some, le-leb (j .inputs) maxInputs few, le-leb (j .«gate_count») maxGates gates-few, gates)

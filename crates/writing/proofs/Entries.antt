@@ -1,22 +1,23 @@
 -- Laws of the bits of a job, entry by entry (specs/Writing.antt).
 --
---   fromGateCount, fromGates, fromOutput, fromFaultCount   the bits of a job from a place on
+--   fromGateCount, fromGates, fromOutputCount, fromOutputs, fromFaultCount   the bits of a job from a place on
 --   entry-same      equal kinds and lines have equal bits
 --   entries-ready   where all entries have room, the next one has
 --   entries-none, entries-next, entries-done   no entry is put, one more is put, all are put
+--   whole-ready, whole-done   the same of a list that is put whole: its room, and the end
 --   bytes-jobBits   the number of a job's bytes, as the code works it out
-use Prim.Native.Nat.{ℕ, suc, _+_, _*_, _/_, _≤_, _<_}
+use Prim.Native.Nat.{ℕ, suc, _+_, _*_, _-_, _/_, _≤_, _<_}
 use mathlib.Core.Path.{_≡_, refl, sym, ap, ap₂, _∙_, subst}
 use mathlib.Core.List.{List, [], _∷_, _++_, append-assoc, append-nil}
-use native.Mathlib.Nat.{suc-mul, add-comm}
+use native.Mathlib.Nat.{suc-mul, add-comm, le-refl}
 use native.Mathlib.Numerals.{add-one}
 use native.Mathlib.Omega.{arith}
 use lib.ListN.{length, getD, take, drop, length-append, take-append-drop}
-use lib.Seq.{take-suc, take-take, length-take-le}
+use lib.Seq.{take-suc, take-take, take-all, length-take-le}
 use Rattle.bits.specs.Bits.{bitsOf, bytesOf}
 use Rattle.bits.proofs.Bits.{length-bitsOf}
 use Rattle.bits.proofs.Bytes.{length-bytesOf}
-use Rattle.job.specs.Layout.{inputCountBits, gateCountBits, gateKindBits, lineBits, faultCountBits, faultKindBits}
+use Rattle.job.specs.Layout.{inputCountBits, gateCountBits, gateKindBits, lineBits, outputCountBits, faultCountBits, faultKindBits}
 use Rattle.job.specs.Record.{gateKind, gateA, gateB, faultKind, faultA, faultB}
 use Rattle.job.specs.declared.Job.{Job}
 use Rattle.writing.specs.Pen.{Ready, Puts}
@@ -24,15 +25,18 @@ use Rattle.writing.specs.Writing.{entryBits, gateBits, faultBits, allBit
 use Rattle.writing.specs.declared.Pen.{Pen}
 use Rattle.writing.proofs.PutBits.{puts-none, puts-then, ready-front, ready-after}
 
--- the bits of a job from its gate count, its gates, its output line, its fault count on
+-- the bits of a job from its gate count, its gates, its output count, its outputs, its fault count on
 abbrev pub fromFaultCount : Job → List ℕ
 fromFaultCount j = bitsOf faultCountBits (j .«fault_count») ++ allBits faultBits (take (j .«fault_count») (j .faults))
 
-abbrev pub fromOutput : Job → List ℕ
-fromOutput j = bitsOf lineBits (j .output) ++ fromFaultCount j
+abbrev pub fromOutputs : Job → List ℕ
+fromOutputs j = allBits (bitsOf lineBits) (take (j .«output_count») (j .outputs)) ++ fromFaultCount j
+
+abbrev pub fromOutputCount : Job → List ℕ
+fromOutputCount j = bitsOf outputCountBits (j .«output_count» - 1) ++ fromOutputs j
 
 abbrev pub fromGates : Job → List ℕ
-fromGates j = allBits gateBits (take (j .«gate_count») (j .gates)) ++ fromOutput j
+fromGates j = allBits gateBits (take (j .«gate_count») (j .gates)) ++ fromOutputCount j
 
 abbrev pub fromGateCount : Job → List ℕ
 fromGateCount j = bitsOf gateCountBits (j .«gate_count») ++ fromGates j
@@ -58,6 +62,11 @@ module _ {A : Type 0} (bits : A → List ℕ) where
   length-allBits w h [] = sym (omega arith)
   length-allBits w h (e ∷ entries) = length-append (bits e) (allBits bits entries) ∙ ap₂ _+_ (h e) (length-allBits w h entries) ∙ sym (suc-mul (length entries) w ∙ add-comm (length entries * w) w)
 
+  length-used : (w : ℕ) → ((e : A) → length (bits e) ≡ w) → (entries : List A) {count : ℕ} → count ≤ length entries
+      → length (allBits bits (take count entries)) ≡ count * w
+  length-used w h entries {count} room =
+      length-allBits w h (take count entries) ∙ ap (λ (n : ℕ). n * w) (length-take-le count entries room)
+
   pub entries-none : (entries : List A) {out more : List ℕ} {p : Pen} → Ready out p more → Puts out p (allBits bits (take 0 entries)) out p
   unfolding allBits
   entries-none entries ready = puts-none ready
@@ -67,6 +76,14 @@ module _ {A : Type 0} (bits : A → List ℕ) where
   entries-done entries {count} {i} {out} {after} {p} {q} h k x =
       let e : i ≡ count = omega arith in
       subst (λ (n : ℕ). Puts out p (allBits bits (take n entries)) after q) e x
+
+  pub whole-ready : (entries : List A) {out : List ℕ} {p : Pen} → Ready out p (allBits bits entries) → Ready out p (allBits bits (take (length entries) entries))
+  whole-ready entries {out} {p} ready =
+      subst (λ (l : List A). Ready out p (allBits bits l)) (sym (take-all (length entries) entries (le-refl (length entries)))) ready
+
+  pub whole-done : (entries : List A) {i : ℕ} {out after : List ℕ} {p q : Pen} → length entries ≤ i → Puts out p (allBits bits (take i entries)) after q
+      → Puts out p (allBits bits entries) after q
+  whole-done entries {i} {out} {after} {p} {q} h x = subst (λ (l : List A). Puts out p (allBits bits l) after q) (take-all i entries h) x
 
   module _ (d : A) (entries : List A) (i : ℕ) {out mid : List ℕ} {p q : Pen} (put : Puts out p (allBits bits (take i entries)) mid q)
       {next : List ℕ} (same : next ≡ bits (getD entries i d)) where
@@ -91,20 +108,29 @@ length-entryBits : (kindBits kind a b : ℕ) → length (entryBits kindBits kind
 unfolding entryBits
 length-entryBits kindBits kind a b = simp (length-append, length-bitsOf) (omega arith)
 
-pub bytes-jobBits : (j : Job) → j .«gate_count» ≤ length (j .gates) → j .«fault_count» ≤ length (j .faults)
-    → (inputCountBits + gateCountBits + j .«gate_count» * (gateKindBits + 2 * lineBits) + lineBits + faultCountBits + j .«fault_count» * (faultKindBits + 2 * lineBits) + 7) / 8
+pub bytes-jobBits : (j : Job) → j .«gate_count» ≤ length (j .gates) → j .«output_count» ≤ length (j .outputs) → j .«fault_count» ≤ length (j .faults)
+    → (inputCountBits + gateCountBits + j .«gate_count» * (gateKindBits + 2 * lineBits) + outputCountBits + j .«output_count» * lineBits + faultCountBits
+    + j .«fault_count» * (faultKindBits + 2 * lineBits)
+    + 7)
+    / 8
     ≡ length (bytesOf (jobBits j))
 unfolding jobBits
-bytes-jobBits j g f =
+bytes-jobBits j g o f =
     let gates : length (allBits gateBits (take (j .«gate_count») (j .gates))) ≡ j .«gate_count» * (gateKindBits + 2 * lineBits) =
-    length-allBits gateBits (gateKindBits + 2 * lineBits) (λ e. length-entryBits gateKindBits (gateKind (e .gate)) (gateA (e .gate)) (gateB (e .gate))) (take (j .«gate_count») (j .gates))
-    ∙ ap (λ (n : ℕ). n * (gateKindBits + 2 * lineBits)) (length-take-le (j .«gate_count») (j .gates) g)
+    length-used gateBits (gateKindBits + 2 * lineBits) (λ e. length-entryBits gateKindBits (gateKind (e .gate)) (gateA (e .gate)) (gateB (e .gate))) (j .gates) g
+    in
+    let outputs : length (allBits (bitsOf lineBits) (take (j .«output_count») (j .outputs))) ≡ j .«output_count» * lineBits =
+    length-used (bitsOf lineBits) lineBits (length-bitsOf lineBits) (j .outputs) o
     in
     let faults : length (allBits faultBits (take (j .«fault_count») (j .faults))) ≡ j .«fault_count» * (faultKindBits + 2 * lineBits) =
-    length-allBits faultBits (faultKindBits + 2 * lineBits) (λ e. length-entryBits faultKindBits (faultKind (e .fault)) (faultA (e .fault)) (faultB (e .fault))) (take (j .«fault_count») (j .faults))
-    ∙ ap (λ (n : ℕ). n * (faultKindBits + 2 * lineBits)) (length-take-le (j .«fault_count») (j .faults) f)
+    length-used faultBits (faultKindBits + 2 * lineBits) (λ e. length-entryBits faultKindBits (faultKind (e .fault)) (faultA (e .fault)) (faultB (e .fault))) (j .faults) f
     in
-    sym (length-bytesOf (jobBits j) ∙ ap (λ (n : ℕ). (n + 7) / 8) (simp (length-append, length-bitsOf, gates, faults) (regroup inputCountBits gateCountBits (j .«gate_count» * (gateKindBits + 2 * lineBits)) lineBits faultCountBits (j .«fault_count» * (faultKindBits + 2 * lineBits)))))
+    sym
+    (length-bytesOf (jobBits j)
+    ∙ ap (λ (n : ℕ). (n + 7) / 8)
+    (simp (length-append, length-bitsOf, gates, outputs, faults)
+    (regroup inputCountBits gateCountBits (j .«gate_count» * (gateKindBits + 2 * lineBits)) outputCountBits (j .«output_count» * lineBits) faultCountBits
+    (j .«fault_count» * (faultKindBits + 2 * lineBits)))))
   where
-    regroup : (a b c d e f : ℕ) → a + (b + (c + (d + (e + f)))) ≡ a + b + c + d + e + f
-    regroup a b c d e f = omega arith
+    regroup : (a b c d e f g : ℕ) → a + (b + (c + (d + (e + (f + g))))) ≡ a + b + c + d + e + f + g
+    regroup a b c d e f g = omega arith

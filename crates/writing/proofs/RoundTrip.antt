@@ -6,7 +6,7 @@
 --   read-written     reading the bytes of a record gives the record, its unused entries reset
 --   read-filled      so reading what writing filled in gives that
 --   reset-read       a record that was read has its unused entries reset
-use Prim.Native.Nat.{ℕ, suc, _+_, _^_, _≤_, _<_, suc-le-suc}
+use Prim.Native.Nat.{ℕ, suc, _+_, _-_, _^_, _≤_, _<_, suc-le-suc}
 use native.Mathlib.Nat.{add-zero, zero-add, le-trans}
 use native.Mathlib.Omega.{arith}
 use mathlib.Core.Path.{_≡_, refl, sym, ap, ap₂, _∙_}
@@ -28,8 +28,8 @@ use Rattle.bits.proofs.Tests.{and-l, and-r}
 use Rattle.bits.proofs.SpareBits.{spareCount, stringOf-bytesOf, zeros-spare, bytesOf-spare}
 use Rattle.job.specs.Check.{Valid, checked, gateOk, faultLineOk, faultOrderOk}
 use Rattle.job.specs.Dependence.{gatesOf, noneLoose, outputLines}
-use Rattle.job.specs.Layout.{maxInputs, maxGates, maxFaults, inputCountBits, gateCountBits, gateKindBits, lineBits, faultCountBits, faultKindBits}
-use Rattle.job.specs.Record.{gateKind, gateA, gateB, faultKind, faultA, faultB, lines, emptyJob, reset, noGates, noFaults, unusedGate, unusedFault}
+use Rattle.job.specs.Layout.{maxInputs, maxGates, maxOutputs, maxFaults, inputCountBits, gateCountBits, gateKindBits, lineBits, outputCountBits, faultCountBits, faultKindBits}
+use Rattle.job.specs.Record.{gateKind, gateA, gateB, faultKind, faultA, faultB, lines, emptyJob, reset, noGates, noOutputs, noFaults, unusedGate, unusedFault}
 use Rattle.job.specs.declared.BinaryKind.the-variants.{And, Or, Nand, Nor, Xor, Xnor}
 use Rattle.job.specs.declared.UnaryKind.the-variants.{Buf, Not}
 use Rattle.job.specs.declared.Gate.{Gate}
@@ -39,14 +39,15 @@ use Rattle.job.specs.declared.Fault.the-variants.{Stuck, Bridge}
 use Rattle.job.specs.declared.FaultEntry.{FaultEntry}
 use Rattle.job.specs.declared.GateEntry.{GateEntry}
 use Rattle.job.specs.declared.Job.{Job}
-use Rattle.job.proofs.Sizes.{all-lines, all-inputs, all-gates, all-faults}
-use Rattle.job.proofs.Unused.{length-noGates, length-noFaults}
+use Rattle.job.proofs.Sizes.{all-lines}
+use Rattle.job.proofs.Unused.{length-noGates, length-noOutputs, length-noFaults}
 use Rattle.job.proofs.Validity.{valid}
 use Rattle.job.proofs.Numbers.{gateKind-of, gateA-of, gateB-of, faultKind-of, faultA-of, faultB-of, gateOf-parts, faultOf-parts, gateKind-lt, faultKind-lt}
-use Rattle.reading.specs.Reading.{entryFields, unaryLinesOk, gate, faultLinesOk, fault, entriesFrom, spare, fromEnd, fromFaults, fromFaultCount, fromOutput, fromGates, wholeJob, valueRead, reading}
-use Rattle.reading.proofs.Inversion.{GateTaken, FaultTaken, Chain, EntriesTaken, sets-taken, Parts, reading-parts}
+use Rattle.reading.specs.Reading.{entryFields, unaryLinesOk, gate, outputLine, faultLinesOk, fault, entriesFrom, spare, fromEnd, fromFaults, fromFaultCount, fromOutputs, fromOutputCount, fromGates, wholeJob, valueRead, reading}
+use Rattle.reading.proofs.Inversion.{GateTaken, OutputTaken, FaultTaken, Chain, EntriesTaken, sets-taken, Parts, reading-parts}
 use Rattle.reading.proofs.Validity.{reading-checked, reading-lengths, reading-valid}
 use Rattle.writing.specs.Writing.{entryBits, gateBits, faultBits, allBits, jobBits, written}
+use Rattle.writing.proofs.Widths.{line-fits, inputs-fit, gates-fit, outputs-fit, faults-fit}
 
 -- ---- the string of a job
 
@@ -58,9 +59,10 @@ jobBits-append : (j : Job) (rest : List ℕ) → jobBits j ++ rest
     ≡ bitsOf inputCountBits (j .inputs)
     ++ (bitsOf gateCountBits (j .«gate_count»)
     ++ (allBits gateBits (take (j .«gate_count») (j .gates))
-    ++ (bitsOf lineBits (j .output)
+    ++ (bitsOf outputCountBits (j .«output_count» - 1)
+    ++ (allBits (bitsOf lineBits) (take (j .«output_count») (j .outputs))
     ++ (bitsOf faultCountBits (j .«fault_count»)
-    ++ (allBits faultBits (take (j .«fault_count») (j .faults)) ++ rest)))))
+    ++ (allBits faultBits (take (j .«fault_count») (j .faults)) ++ rest))))))
 unfolding jobBits
 jobBits-append j rest = simp append-assoc
 
@@ -81,9 +83,10 @@ bits-jobBits j =
     bits-append (bitsOf inputCountBits (j .inputs)) _ (bits-bitsOf inputCountBits (j .inputs))
     (bits-append (bitsOf gateCountBits (j .«gate_count»)) _ (bits-bitsOf gateCountBits (j .«gate_count»))
     (bits-append (allBits gateBits (take (j .«gate_count») (j .gates))) _ (bits-allBits gateBits (λ e. bits-entryBits gateKindBits (gateKind (e .gate)) (gateA (e .gate)) (gateB (e .gate))) (take (j .«gate_count») (j .gates)))
-    (bits-append (bitsOf lineBits (j .output)) _ (bits-bitsOf lineBits (j .output))
+    (bits-append (bitsOf outputCountBits (j .«output_count» - 1)) _ (bits-bitsOf outputCountBits (j .«output_count» - 1))
+    (bits-append (allBits (bitsOf lineBits) (take (j .«output_count») (j .outputs))) _ (bits-allBits (bitsOf lineBits) (bits-bitsOf lineBits) (take (j .«output_count») (j .outputs)))
     (bits-append (bitsOf faultCountBits (j .«fault_count»)) _ (bits-bitsOf faultCountBits (j .«fault_count»))
-    (bits-allBits faultBits (λ e. bits-entryBits faultKindBits (faultKind (e .fault)) (faultA (e .fault)) (faultB (e .fault))) (take (j .«fault_count») (j .faults)))))))
+    (bits-allBits faultBits (λ e. bits-entryBits faultKindBits (faultKind (e .fault)) (faultA (e .fault)) (faultB (e .fault))) (take (j .«fault_count») (j .faults))))))))
 
 -- ---- from bytes to a record and back
 
@@ -134,9 +137,13 @@ parts-text bits j v p =
     ∙ ap (λ (x : List ℕ). bitsOf inputCountBits (j .inputs) ++ (bitsOf gateCountBits (j .«gate_count») ++ x))
     (entries-text (λ q. GateTaken (j .inputs + q)) gateBits (gate-text (j .inputs)) (j .«gate_count») noGates (p .before-gates) (j .gates) (p .after-gates) (p .gates) (rw length-noGates (v .gates-few))
     ∙ ap (λ (x : List ℕ). allBits gateBits (take (j .«gate_count») (j .gates)) ++ x)
-    (p .output-text
-    ∙ ap (λ (x : List ℕ). bitsOf lineBits (j .output) ++ (bitsOf faultCountBits (j .«fault_count») ++ x))
-    (entries-text (λ _. FaultTaken (j .inputs) (lines j)) faultBits (fault-text (j .inputs) (lines j)) (j .«fault_count») noFaults (p .before-faults) (j .faults) (p .spare-bits) (p .faults) (rw length-noFaults (v .faults-few)))))
+    (p .output-count-text
+    ∙ ap (λ (x : List ℕ). bitsOf outputCountBits (j .«output_count» - 1) ++ x)
+    (entries-text (λ _. OutputTaken (lines j)) (bitsOf lineBits) (λ _ bits line rest t. t .taken .text) (j .«output_count») noOutputs (p .before-outputs) (j .outputs) (p .after-outputs) (p .outputs) (rw length-noOutputs (v .outputs-few))
+    ∙ ap (λ (x : List ℕ). allBits (bitsOf lineBits) (take (j .«output_count») (j .outputs)) ++ x)
+    (p .fault-count-text
+    ∙ ap (λ (x : List ℕ). bitsOf faultCountBits (j .«fault_count») ++ x)
+    (entries-text (λ _. FaultTaken (j .inputs) (lines j)) faultBits (fault-text (j .inputs) (lines j)) (j .«fault_count») noFaults (p .before-faults) (j .faults) (p .spare-bits) (p .faults) (rw length-noFaults (v .faults-few)))))))
     ∙ sym (jobBits-append j (p .spare-bits))
 
 pub written-read : (s : List ℕ) (j : Job) → Bytes s → reading s ≡ gives j → bytesOf (jobBits j) ≡ s
@@ -179,6 +186,10 @@ gate-takes own e rest ok fit =
     let a : gateA g < 2 ^ lineBits = le-trans (ltb-true (gateA g) own (and-l (ltb (gateA g) own) (ltb (gateB g) own) ok)) fit in
     let b : gateB g < 2 ^ lineBits = le-trans (ltb-true (gateB g) own (and-r (ltb (gateA g) own) (ltb (gateB g) own) ok)) fit in
     rw (entryFields-takes gateKindBits (gateKind g) (gateA g) (gateB g) rest (gateKind-lt g) a b, ok, unary-lines g, gateOf-parts g)
+
+output-takes : (count line : ℕ) (rest : List ℕ) → line < count → line < 2 ^ lineBits → outputLine count (bitsOf lineBits line ++ rest) ≡ parsed line rest
+unfolding outputLine
+output-takes count line rest below fit = rw (field-takes lineBits line rest fit, lt-ltb line count below)
 
 fault-lines : (x : Fault) → faultOrderOk x ≡ true → faultLinesOk (faultKind x) (faultA x) (faultB x) ≡ true
 fault-lines (Stuck l false) o = eq-eqb l l refl
@@ -233,6 +244,15 @@ module _ (j : Job) (v : Valid j) (rest : List ℕ) where
       (j .«gate_count») (j .gates) noGates rest (omega arith)
       (λ q h. (v .gate q h, le-trans (omega arith) all-lines))
 
+  outputs-taken : length (j .outputs) ≡ maxOutputs
+      → entriesFrom (λ _. outputLine (lines j)) (j .«output_count») 0 noOutputs (allBits (bitsOf lineBits) (take (j .«output_count») (j .outputs)) ++ rest)
+      ≡ parsed (sets noOutputs 0 (take (j .«output_count») (j .outputs))) rest
+  outputs-taken lo =
+      let few = v .outputs-few in
+      front-takes (λ _. outputLine (lines j)) (bitsOf lineBits) (λ _ line. line < lines j) 0
+      (λ o line rest h. output-takes (lines j) line rest h (line-fits v h))
+      (j .«output_count») (j .outputs) noOutputs rest (omega arith) (v .output)
+
   faults-taken : length (j .faults) ≡ maxFaults
       → entriesFrom (λ _. fault (j .inputs) (lines j)) (j .«fault_count») 0 noFaults (allBits faultBits (take (j .«fault_count») (j .faults)) ++ rest)
       ≡ parsed (sets noFaults 0 (take (j .«fault_count») (j .faults))) rest
@@ -246,58 +266,67 @@ module _ (j : Job) (v : Valid j) (rest : List ℕ) where
       (j .«fault_count») (j .faults) noFaults rest (omega arith)
       (λ i h. (v .fault-line i h, v .fault-order i h))
 
--- the entries that are taken are the gates that were written, so that no more of them are loose
-tight-taken : (j : Job) → Valid j → length (j .gates) ≡ maxGates
-    → noneLoose (j .inputs) (take (j .«gate_count») (sets noGates 0 (take (j .«gate_count») (j .gates)))) (outputLines j) ≡ true
-tight-taken j v lg =
-    let gates = gatesOf j in
-    let few = v .gates-few in
-    let many : length gates ≡ j .«gate_count» = length-take-le (j .«gate_count») (j .gates) (omega arith) in
-    ap (λ (es : List GateEntry). noneLoose (j .inputs) es (outputLines j))
-    (ap (λ (k : ℕ). take k (sets noGates 0 gates)) (sym many) ∙ sets-taken gates noGates (omega (arith, length-noGates)))
+-- the first entries that are left are those that were taken
+front-left : {A : Type 0} (count : ℕ) (es entries : List A) → count ≤ length es → count ≤ length entries → take count (sets entries 0 (take count es)) ≡ take count es
+front-left count es entries room more =
+    let many : length (take count es) ≡ count = length-take-le count es room in
+    ap (λ (k : ℕ). take k (sets entries 0 (take count es))) (sym many) ∙ sets-taken (take count es) entries (omega arith)
+
+-- so that what was written has no loose gate when it is read
+tight-taken : (j : Job) → Valid j → length (j .gates) ≡ maxGates → length (j .outputs) ≡ maxOutputs
+    → noneLoose (j .inputs) (take (j .«gate_count») (sets noGates 0 (gatesOf j))) (take (j .«output_count») (sets noOutputs 0 (outputLines j))) ≡ true
+tight-taken j v lg lo =
+    let gates-few = v .gates-few in
+    let outputs-few = v .outputs-few in
+    ap₂ (noneLoose (j .inputs))
+    (front-left (j .«gate_count») (j .gates) noGates (omega arith) (omega (arith, length-noGates)))
+    (front-left (j .«output_count») (j .outputs) noOutputs (omega arith) (omega (arith, length-noOutputs)))
     ∙ v .tight
 
-wholeJob-takes : (j : Job) (rest : List ℕ) → Valid j → length (j .gates) ≡ maxGates → length (j .faults) ≡ maxFaults → spareOnly rest ≡ true
-    → wholeJob (jobBits j ++ rest) ≡ parsed (reset j) []
-unfolding wholeJob fromGates fromOutput fromFaultCount fromFaults fromEnd spare emptyJob reset
-wholeJob-takes j rest v lg lf spare-ok =
+wholeJob-takes : (j : Job) (rest : List ℕ) → Valid j → length (j .gates) ≡ maxGates → length (j .outputs) ≡ maxOutputs → length (j .faults) ≡ maxFaults
+    → spareOnly rest ≡ true → wholeJob (jobBits j ++ rest) ≡ parsed (reset j) []
+unfolding wholeJob fromGates fromOutputCount fromOutputs fromFaultCount fromFaults fromEnd spare emptyJob reset
+wholeJob-takes j rest v lg lo lf spare-ok =
     let faults = allBits faultBits (take (j .«fault_count») (j .faults)) ++ rest in
-    let from-count = bitsOf faultCountBits (j .«fault_count») ++ faults in
-    let from-output = bitsOf lineBits (j .output) ++ from-count in
-    let gates = allBits gateBits (take (j .«gate_count») (j .gates)) ++ from-output in
-    let output : j .output < maxInputs + maxGates = let a = v .few in let b = v .gates-few in let c = v .output in omega arith in
+    let from-fault-count = bitsOf faultCountBits (j .«fault_count») ++ faults in
+    let outputs = allBits (bitsOf lineBits) (take (j .«output_count») (j .outputs)) ++ from-fault-count in
+    let from-output-count = bitsOf outputCountBits (j .«output_count» - 1) ++ outputs in
+    let gates = allBits gateBits (take (j .«gate_count») (j .gates)) ++ from-output-count in
+    let one-more : j .«output_count» - 1 + 1 ≡ j .«output_count» = let some = v .outputs-some in omega arith in
     rw (
       jobBits-append j rest,
-      field-takes inputCountBits (j .inputs) (bitsOf gateCountBits (j .«gate_count») ++ gates) (le-trans (suc-le-suc (v .few)) all-inputs),
+      field-takes inputCountBits (j .inputs) (bitsOf gateCountBits (j .«gate_count») ++ gates) (inputs-fit v),
       le-leb 1 (j .inputs) (v .some),
       le-leb (j .inputs) maxInputs (v .few),
-      field-takes gateCountBits (j .«gate_count») gates (le-trans (suc-le-suc (v .gates-few)) all-gates),
+      field-takes gateCountBits (j .«gate_count») gates (gates-fit v),
       le-leb (j .«gate_count») maxGates (v .gates-few),
-      gates-taken j v from-output lg,
-      field-takes lineBits (j .output) from-count (le-trans output all-lines),
-      lt-ltb (j .output) (lines j) (v .output),
-      tight-taken j v lg,
-      field-takes faultCountBits (j .«fault_count») faults (le-trans (suc-le-suc (v .faults-few)) all-faults),
+      gates-taken j v from-output-count lg,
+      field-takes outputCountBits (j .«output_count» - 1) outputs (outputs-fit v),
+      one-more,
+      outputs-taken j v from-fault-count lo,
+      tight-taken j v lg lo,
+      field-takes faultCountBits (j .«fault_count») faults (faults-fit v),
       faults-taken j v rest lf,
       spare-ok,
     )
 
-pub read-written : (j : Job) → checked j ≡ gives tt → length (j .gates) ≡ maxGates → length (j .faults) ≡ maxFaults → reading (bytesOf (jobBits j)) ≡ gives (reset j)
+pub read-written : (j : Job) → checked j ≡ gives tt → length (j .gates) ≡ maxGates → length (j .outputs) ≡ maxOutputs → length (j .faults) ≡ maxFaults
+    → reading (bytesOf (jobBits j)) ≡ gives (reset j)
 unfolding reading
-read-written j e lg lf =
+read-written j e lg lo lf =
     ap (λ (x : List ℕ). valueRead (wholeJob x)) (stringOf-bytesOf (jobBits j) (bits-jobBits j))
     ∙ ap valueRead
-    (wholeJob-takes j (replicate (spareCount (length (jobBits j))) 0) (valid j e) lg lf (zeros-spare (spareCount (length (jobBits j))) (omega arith)))
+    (wholeJob-takes j (replicate (spareCount (length (jobBits j))) 0) (valid j e) lg lo lf (zeros-spare (spareCount (length (jobBits j))) (omega arith)))
 
-pub read-filled : (j : Job) (room : ℕ) (w : Fills ℕ) → length (j .gates) ≡ maxGates → length (j .faults) ≡ maxFaults → written j room ≡ gives w
+pub read-filled : (j : Job) (room : ℕ) (w : Fills ℕ) → length (j .gates) ≡ maxGates → length (j .outputs) ≡ maxOutputs → length (j .faults) ≡ maxFaults → written j room ≡ gives w
     → reading (w .filled) ≡ gives (reset j)
 unfolding written
-read-filled j room w lg lf e =
+read-filled j room w lg lo lf e =
     let c = onward-gives (checked j) _ e in
     let f = unless-gives (leb (length (bytesOf (jobBits j))) room) 10 _ (c .2) in
-    ap (λ (x : Fills ℕ). reading (x .filled)) (sym (gives-same (f .1))) ∙ read-written j (c .1) lg lf
+    ap (λ (x : Fills ℕ). reading (x .filled)) (sym (gives-same (f .1))) ∙ read-written j (c .1) lg lo lf
 
 pub reset-read : (s : List ℕ) (j : Job) → Bytes s → reading s ≡ gives j → reset j ≡ j
 reset-read s j h e =
     let l = reading-lengths s j e in
-    gives-same (sym (read-written j (reading-checked s j e) (l .0) (l .1)) ∙ ap reading (written-read s j h e) ∙ e)
+    gives-same (sym (read-written j (reading-checked s j e) (l .0) (l .1) (l .2)) ∙ ap reading (written-read s j h e) ∙ e)

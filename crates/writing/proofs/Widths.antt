@@ -1,25 +1,28 @@
 -- What a valid record says of the widths of its fields (job's specs/Check.antt).
 --
 --   line-fits                             a line fits its field
---   inputs-fit, gates-fit, faults-fit     the counts fit theirs
+--   inputs-fit, gates-fit, outputs-fit, faults-fit   the counts fit theirs, the outputs' less 1
+--   lines-fit                             the output lines fit theirs
 --   gate-fits, fault-fits                 a gate's and a fault's kind and lines fit theirs
 --   fits-same                             equal kinds and lines fit alike
-use Prim.Native.Nat.{ℕ, _+_, _^_, _≤_, _<_}
+use Prim.Native.Nat.{ℕ, _+_, _-_, _^_, _≤_, _<_}
 use mathlib.Core.Path.{_≡_}
 use mathlib.Core.Bool.{true}
 use native.Mathlib.Omega.{arith}
 use borrow.Author.Tests.{ltb-true}
 use lib.Dec.{ltb}
+use lib.ListN.{length, take}
+use lib.Seq.{length-take-le, getD-take}
 use Rattle.bits.proofs.Tests.{and-l, and-r}
 use Rattle.job.specs.Check.{faultLineOk, Valid}
-use Rattle.job.specs.Layout.{inputCountBits, gateCountBits, gateKindBits, lineBits, faultCountBits, faultKindBits}
+use Rattle.job.specs.Layout.{inputCountBits, gateCountBits, gateKindBits, lineBits, outputCountBits, faultCountBits, faultKindBits}
 use Rattle.job.specs.Record.{gateKind, gateA, gateB, gateAt, faultKind, faultA, faultB, faultAt, lines}
 use Rattle.job.specs.declared.Fault.{Fault}
 use Rattle.job.specs.declared.Fault.the-variants.{Stuck, Bridge}
 use Rattle.job.specs.declared.Job.{Job}
 use Rattle.job.proofs.Numbers.{gateKind-lt, faultKind-lt}
-use Rattle.job.proofs.Sizes.{all-lines, all-inputs, all-gates, all-faults}
-use Rattle.writing.specs.Pen.{EntryFits}
+use Rattle.job.proofs.Sizes.{all-lines, all-inputs, all-gates, counts-of-outputs, all-faults}
+use Rattle.writing.specs.Pen.{EntryFits, AllFit}
 
 fault-lines : (n count : ℕ) (x : Fault) → n ≤ count → faultLineOk n count x ≡ true → (faultA x < count) × (faultB x < count)
 fault-lines n count (Stuck l level) h e = (ltb-true l count e, ltb-true l count e)
@@ -40,6 +43,15 @@ module _ {j : Job} (v : Valid j) where
 
   pub gates-fit : j .«gate_count» < 2 ^ gateCountBits
   gates-fit = let e = all-gates in omega arith
+
+  pub outputs-fit : j .«output_count» - 1 < 2 ^ outputCountBits
+  outputs-fit = let e = counts-of-outputs in omega (arith, v .outputs-some, v .outputs-few)
+
+  pub lines-fit : j .«output_count» ≤ length (j .outputs) → AllFit lineBits (take (j .«output_count») (j .outputs))
+  lines-fit room o h =
+      let many : length (take (j .«output_count») (j .outputs)) ≡ j .«output_count» = length-take-le (j .«output_count») (j .outputs) room in
+      let inside : o < j .«output_count» = omega arith in
+      rw (getD-take (j .«output_count») (j .outputs) o 0 inside) (line-fits (v .output o inside))
 
   pub faults-fit : j .«fault_count» < 2 ^ faultCountBits
   faults-fit = let e = all-faults in omega arith

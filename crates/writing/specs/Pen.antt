@@ -6,10 +6,11 @@
 --   Ready        a pen whose waiting bits are fewer than a byte, with room for more bits
 --   Puts         what putting bits does to the bytes and the pen
 --   EntryFits    a kind and two lines that fit their fields
+--   AllFit       numbers that fit fields of a width
 use Prim.Native.Nat.{ℕ, _+_, _*_, _^_, _≤_, _<_}
 use mathlib.Core.Path.{_≡_}
 use mathlib.Core.List.{List, _++_}
-use lib.ListN.{length, take, drop}
+use lib.ListN.{length, getD, take, drop}
 use Rattle.bits.specs.Bits.{bitsOf, stringOf, bytesOf}
 use Rattle.job.specs.Layout.{lineBits}
 use Rattle.writing.specs.declared.Pen.{Pen}
@@ -40,3 +41,6 @@ pub record EntryFits (kindBits kind a b : ℕ) : Type 0 where
   pub kind-fits : kind < 2 ^ kindBits
   pub a-fits : a < 2 ^ lineBits
   pub b-fits : b < 2 ^ lineBits
+
+abbrev pub AllFit : ℕ → List ℕ → Type 0
+AllFit width numbers = (i : ℕ) → i < length numbers → getD numbers i 0 < 2 ^ width

@@ -5,14 +5,13 @@
 ghost use mathlib.Core.Path.{_≡_};
 ghost use mathlib.Core.List.{[]};
 ghost use Prim.Native.Nat.{_≤_, _<_, _^_};
-ghost use lib.ListN.{length, take};
-ghost use Rattle.bits.specs.Answer.{outcome, unless, leaves};
+ghost use lib.ListN.{length, getD, take};
+ghost use Rattle.bits.specs.Answer.{outcome, unless, onward, leaves};
 ghost use Rattle.bits.specs.Bits.{bitsOf, bytesOf};
-ghost use Rattle.job.specs.Check.{outputOk, faultCountOk, faultOrderOk, gatesChecked, faultsChecked, checked, Valid};
+ghost use Rattle.job.specs.Check.{inTurn, outputCountOk, outputOk, faultCountOk, faultOrderOk, gatesChecked, outputsChecked, faultsChecked, checked, Valid};
 ghost use Rattle.job.specs.Dependence.{noLoose};
-ghost use Rattle.job.specs.Layout.{maxGates, maxFaults};
-ghost use Rattle.job.specs.Record.{lines};
-ghost use Rattle.writing.specs.Pen.{inkedBytes, filled, EntryFits, Ready, Puts};
+ghost use Rattle.job.specs.Layout.{maxGates, maxFaults, lineBits};
+ghost use Rattle.writing.specs.Pen.{inkedBytes, filled, EntryFits, AllFit, Ready, Puts};
 ghost use Rattle.writing.specs.Writing.{written, writtenTold, entryBits, gateBits, faultBits, allBits, jobBits};
 use bits::Outcome;
 use bits::Refusal;
@@ -27,6 +26,8 @@ use job::LINE_BITS;
 use job::MAX_FAULTS;
 use job::MAX_GATES;
 use job::MAX_INPUTS;
+use job::MAX_OUTPUTS;
+use job::OUTPUT_COUNT_BITS;
 
 // The number of bytes written, or the refusal.
 pub enum Written {
@@ -58,20 +59,22 @@ fn job_bytes(job: Job) -> usize
     ensures { λ r. ⌜ r ≡ length (bytesOf (jobBits job)) ⌝ }
 {
     let g = job.gate_count as usize;
+    let outputs = job.output_count as usize;
     let f = job.fault_count as usize;
     let gate_bits = GATE_KIND_BITS + 2 * LINE_BITS;
     let fault_bits = FAULT_KIND_BITS + 2 * LINE_BITS;
     (INPUT_COUNT_BITS
         + GATE_COUNT_BITS
         + g * gate_bits
-        + LINE_BITS
+        + OUTPUT_COUNT_BITS
+        + outputs * LINE_BITS
         + FAULT_COUNT_BITS
         + f * fault_bits
         + 7)
         / 8
 }
 
-// The first refusal of a record: 2, 3, 4 gate by gate, 6, 19, 18, then 7 and 8 fault by fault.
+// The first refusal of a record: 2, 3, 4 gate by gate, 20, 6 output by output, 19, 18, then 7 and 8 fault by fault.
 fn check(job: Job) -> Outcome
     ensures { λ r. ⌜ outcome r ≡ checked job ⌝ }
 {
@@ -88,18 +91,47 @@ fn check(job: Job) -> Outcome
     }
     match check_gates(job) {
         Outcome::Refused(cause) => Outcome::Refused(cause),
+        Outcome::Done => check_behind_gates(job),
+    }
+}
+
+// Refusals 20, 6 output by output, then the rest.
+fn check_behind_gates(job: Job) -> Outcome
+    ensures { λ r. ⌜ outcome r ≡ unless (outputCountOk (job .«output_count»)) 20 (onward (outputsChecked job (job .«output_count») 0) (λ _. unless (noLoose job) 19 (unless (faultCountOk (job .«fault_count»)) 18 (faultsChecked job (job .«fault_count») 0)))) ⌝ }
+{
+    let count = job.output_count as usize;
+    if count < 1 {
+        return Outcome::Refused(Refusal::OutputNumber);
+    }
+    if MAX_OUTPUTS < count {
+        return Outcome::Refused(Refusal::OutputNumber);
+    }
+    let lines = job.inputs as usize + job.gate_count as usize;
+    let outputs = job.outputs;
+    match check_outputs(&outputs[..count], lines) {
+        Outcome::Refused(cause) => Outcome::Refused(cause),
         Outcome::Done => check_rest(job),
     }
 }
 
-// Refusals 6, 19, 18, then 7 and 8 fault by fault.
-fn check_rest(job: Job) -> Outcome
-    ensures { λ r. ⌜ outcome r ≡ unless (outputOk (lines job) (job .output)) 6 (unless (noLoose job) 19 (unless (faultCountOk (job .«fault_count»)) 18 (faultsChecked job (job .«fault_count») 0))) ⌝ }
+// Refusal 6, output by output, of a circuit with so many lines.
+fn check_outputs(outputs: &[u8], lines: usize) -> Outcome
+    ensures { λ r. ⌜ outcome r ≡ inTurn (λ o. outputOk lines (getD (now (outputs .entry)) o 0)) 6 (length (now (outputs .entry))) 0 ⌝ }
 {
-    let lines = job.inputs as usize + job.gate_count as usize;
-    if lines <= job.output as usize {
-        return Outcome::Refused(Refusal::Output);
+    let mut o = 0;
+    while o < outputs.len() {
+        if lines <= outputs[o] as usize {
+            return Outcome::Refused(Refusal::Output);
+        }
+        o += 1;
     }
+    Outcome::Done
+}
+
+// Refusals 19, 18, then 7 and 8 fault by fault.
+fn check_rest(job: Job) -> Outcome
+    ensures { λ r. ⌜ outcome r ≡ unless (noLoose job) 19 (unless (faultCountOk (job .«fault_count»)) 18 (faultsChecked job (job .«fault_count») 0)) ⌝ }
+{
     if !job::no_loose(job) {
         return Outcome::Refused(Refusal::LooseGate);
     }
@@ -225,6 +257,20 @@ fn put_gates(out: &mut [u8], start: Pen, job: Job) -> Pen
     pen
 }
 
+// Puts the output lines in use.
+fn put_outputs(out: &mut [u8], start: Pen, outputs: &[u8]) -> Pen
+    requires { ⌜ Ready (now out) start (allBits (bitsOf lineBits) (now outputs)) × AllFit lineBits (now outputs) ⌝ }
+    ensures { λ r. ⌜ Puts (now (out .entry)) start (allBits (bitsOf lineBits) (now (outputs .entry))) (now (out .exit)) r ⌝ }
+{
+    let mut pen = start;
+    let mut o = 0;
+    while o < outputs.len() {
+        pen = put_field(out, pen, LINE_BITS, outputs[o] as usize);
+        o += 1;
+    }
+    pen
+}
+
 // Puts the faults in use.
 fn put_faults(out: &mut [u8], start: Pen, job: Job) -> Pen
     requires { ⌜ Valid job × Ready (now out) start (allBits faultBits (take (job .«fault_count») (job .faults))) ⌝ }
@@ -275,8 +321,11 @@ fn put_job(out: &mut [u8], job: Job)
     let inputs = put_field(out, start, INPUT_COUNT_BITS, job.inputs as usize);
     let counts = put_field(out, inputs, GATE_COUNT_BITS, job.gate_count as usize);
     let gates = put_gates(out, counts, job);
-    let output = put_field(out, gates, LINE_BITS, job.output as usize);
-    let faults = put_field(out, output, FAULT_COUNT_BITS, job.fault_count as usize);
+    let less = put_field(out, gates, OUTPUT_COUNT_BITS, job.output_count as usize - 1);
+    let lines = job.outputs;
+    let count = job.output_count as usize;
+    let outputs = put_outputs(out, less, &lines[..count]);
+    let faults = put_field(out, outputs, FAULT_COUNT_BITS, job.fault_count as usize);
     let last = put_faults(out, faults, job);
     put_spare(out, last);
 }

@@ -5,7 +5,7 @@ use mathlib.Core.List.{List}
 use denote.Ref.{now}
 use lib.ListN.{replicate, length-replicate}
 use lib.Seq.{length-take-le}
-use Rattle.job.specs.Layout.{maxFaults}
+use Rattle.job.specs.Layout.{maxOutputs, maxFaults}
 use Rattle.tables.specs.Work.{maxTableBytes}
 use Rattle.tables.proofs.Families.{Delivers, tables-deliver, delivery-unread}
 use Rattle.choosing.proofs.Findings.{job-unread, job-chosen}
@@ -14,7 +14,7 @@ use Rattle.choosing.proofs.choose.Tie as tie
 
 -- the memory that is lent for the tables
 abbrev zeros : List ℕ
-zeros = replicate 2048 0
+zeros = replicate 8192 0
 
 slice-aggregate-tables : tie.Need-slice-aggregate-tables
 slice-aggregate-tables c = refl
@@ -44,11 +44,11 @@ choose-tables-requires : tie.Need-choose-tables-requires
 choose-tables-requires c κs = tt
 
 returns : tie.Need-returns
-unfolding maxFaults maxTableBytes
+unfolding maxFaults maxOutputs maxTableBytes
 returns c =
     let a = c .before .before .before .before .before .before .before .before .before .args in
     job-unread (a .purpose) (now (a .bytes)) (a .kind) (a .polarity) (now (a .work))
-    (delivery-unread (now (a .bytes)) zeros (c .before .before .before .before .before .tables .last .1 .0) (c .before .before .before .before .before .tables .result) (c .before .before .before .before .before .tables .ensures) _ (length-replicate {A = ℕ} 2048 0) (c .before .before .outcome .given .1))
+    (delivery-unread (now (a .bytes)) zeros (c .before .before .before .before .before .tables .last .1 .0) (c .before .before .before .before .before .tables .result) (c .before .before .before .before .before .tables .ensures) _ (length-replicate {A = ℕ} 8192 0) (c .before .before .outcome .given .1))
     (c .unchosen .ensures)
 
 same-length : tie.Need-same-length

@@ -4,9 +4,6 @@ use Rattle.choosing.proofs.Findings.{chosen-unfilled, chosen-room, chos
 use Rattle.choosing.proofs.choose_tables.Statement.{statement}
 use Rattle.choosing.proofs.choose_tables.Tie as tie
 
-circuits-of-requires : tie.Need-circuits-of-requires
-circuits-of-requires c κs = tt
-
 fill-requires : tie.Need-fill-requires
 fill-requires c κs = tt
 
@@ -21,30 +18,29 @@ enum-told c = c .match .keys2
 
 choose-filled-requires : tie.Need-choose-filled-requires
 choose-filled-requires c κs =
-    let a = c .before .before .before .before .before .before .before .before .before .before .args in
-    chosen-room (a .purpose) (a .counts) (now (a .tables)) (a .kind) (a .polarity) (now (a .work)) (c .before .before .before .before .before .before .before .circuits-of .ensures) (c .before .before .before .before .before .fill .result) _ (c .before .before .before .before .before .fill .ensures) (c .before .enum-told .given .1)
+    let a = c .before .before .before .before .before .before .before .before .before .args in
+    chosen-room (a .purpose) (a .counts) (now (a .tables)) (a .kind) (a .polarity) (now (a .work)) (c .before .before .before .before .before .fill .result) _ (c .before .before .before .before .before .fill .ensures) (c .before .enum-told .given .1)
 
 same-length : tie.Need-same-length
-same-length c = c .before .before .before .before .before .before .fill .kept .1 .1 .1 .1 .1 .0
+same-length c = c .before .before .before .before .before .before .fill .kept .1 .1 .1 .1 .0
 
 returns : tie.Need-returns
 returns c =
-    let a = c .before .before .before .before .before .before .before .before .before .before .before .args in
-    chosen-unfilled (a .purpose) (a .counts) (now (a .tables)) (a .kind) (a .polarity) (now (a .work)) (c .before .before .before .before .before .before .before .before .circuits-of .ensures) (c .before .before .before .before .before .before .fill .result) _ (c .before .before .before .before .before .before .fill .ensures) (c .before .before .outcome .given .1) (c .unchosen .ensures)
+    let a = c .before .before .before .before .before .before .before .before .before .before .args in
+    chosen-unfilled (a .purpose) (a .counts) (now (a .tables)) (a .kind) (a .polarity) (now (a .work)) (c .before .before .before .before .before .before .fill .result) _ (c .before .before .before .before .before .before .fill .ensures) (c .before .before .outcome .given .1) (c .unchosen .ensures)
 
 same-length-2 : tie.Need-same-length-2
-same-length-2 c = c .before .before .before .before .before .before .fill .kept .1 .1 .1 .1 .1 .0
+same-length-2 c = c .before .before .before .before .before .before .fill .kept .1 .1 .1 .1 .0
 
 returns-2 : tie.Need-returns-2
 returns-2 c =
-    let a = c .before .before .before .before .before .before .before .before .before .before .before .args in
-    chosen-filled (a .purpose) (a .counts) (now (a .tables)) (a .kind) (a .polarity) (now (a .work)) (c .before .before .before .before .before .before .before .before .circuits-of .ensures) (c .before .before .before .before .before .before .fill .result) _ (c .before .before .before .before .before .before .fill .ensures) (c .before .before .enum-told .given .1) (c .choose-filled .ensures)
+    let a = c .before .before .before .before .before .before .before .before .before .before .args in
+    chosen-filled (a .purpose) (a .counts) (now (a .tables)) (a .kind) (a .polarity) (now (a .work)) (c .before .before .before .before .before .before .fill .result) _ (c .before .before .before .before .before .before .fill .ensures) (c .before .before .enum-told .given .1) (c .choose-filled .ensures)
 
 pub choose-tables-spec : {M : Type 1} → statement M
 choose-tables-spec =
     tie.close
     (tie.spec
-    circuits-of-requires
     fill-requires
     enum-known-outcome
     unchosen-requires

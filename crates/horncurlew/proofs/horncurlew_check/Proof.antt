@@ -21,9 +21,12 @@ cast-t7 c = search needs
 cast-t8 : tie.Need-cast-t8
 cast-t8 c = search needs
 
+cast-t9 : tie.Need-cast-t9
+cast-t9 c = search needs
+
 returns : tie.Need-returns
-returns c = counts-told (c .before .before .before .before .before .read .result) (reading (now (c .before .before .before .before .before .before .before .args .bytes))) (c .before .before .before .before .before .read .ensures) (c .before .before .before .number-of .ensures)
+returns c = counts-told (c .before .before .before .before .before .before .read .result) (reading (now (c .before .before .before .before .before .before .before .before .args .bytes))) (c .before .before .before .before .before .before .read .ensures) (c .before .before .before .before .number-of .ensures)
 
 pub horncurlew-check-spec : {M : Type 1} → statement M
 horncurlew-check-spec =
-    tie.close (tie.spec read-requires number-of-requires cast-t6 cast-t7 cast-t8 returns)
+    tie.close (tie.spec read-requires number-of-requires cast-t6 cast-t7 cast-t8 cast-t9 returns)

@@ -23,8 +23,8 @@ same-length c = search needs
 
 returns : tie.Need-returns
 returns c =
-    let a = c .before .before .before .before .before .before .before .before .before .before .args in
-    located-by (λ (kind : Kind). leaves (locatedOf (now (a .bytes)) kind (a .polarity) (now (a .indices)) (now (a .readings)) (length (now (a .work)))) (now (a .work))) (a .kind) (c .before .before .before .locate .result) (c .before .before .before .before .before .kind-of .ensures) (c .before .before .before .locate .ensures) (c .location-of .ensures)
+    let a = (c .before .before .before .before .before .before .before .before .before .before .before .args) in
+    located-by (λ (kind : Kind). leaves (locatedOf (now (a .bytes)) kind (a .polarity) (now (a .indices)) (now (a .outputs)) (now (a .readings)) (length (now (a .work)))) (now (a .work))) (a .kind) (c .before .before .before .locate .result) (c .before .before .before .before .before .kind-of .ensures) (c .before .before .before .locate .ensures) (c .location-of .ensures)
 
 pub horncurlew-locate-spec : {M : Type 1} → statement M
 horncurlew-locate-spec =

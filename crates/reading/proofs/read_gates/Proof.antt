@@ -81,11 +81,11 @@ loop-again c =
     let c-loop-test = c .before .before .before .before .loop-test in
     (omega arith, omega (arith, c-loop .inv .1, c-read-gate .ensures .1, ap gateEnd (c-gate .given .1)), (c-loop .inv .2 .0 ∙ entries-next (λ i. gate (c-args .before .inputs + i)) (c-args .before .«gate_count») (c-loop .q) (c-loop .job .gates) (from (now (c-args .s)) (c-loop .c)) (c-loop-test .taken) (sym (c-read-gate .ensures .0) ∙ ap (gateTold (now (c-args .s))) (c-gate .given .1)), ap (λ (x : Job). withGates x (set (c-loop .job .gates) (c-loop .q) (record { gate = c-gate .given .0 .0 }))) (c-loop .inv .2 .1)))
 
-read-output-requires : tie.Need-read-output-requires Inv-loop μ-loop
-read-output-requires c κs = omega (arith, c .before .loop .inv .1, c .before .loop .inv .0, c .before .before .before .before .before .pre .0, c .before .before .before .before .before .pre .1)
+read-output-count-requires : tie.Need-read-output-count-requires Inv-loop μ-loop
+read-output-count-requires c κs = omega (arith, c .before .loop .inv .1, c .before .loop .inv .0, c .before .before .before .before .before .pre .0, c .before .before .before .before .before .pre .1)
 
 returns-2 : tie.Need-returns-2 Inv-loop μ-loop
-returns-2 c = c .read-output .ensures ∙ ap (λ (x : Answer (Parsed Job)). due (valueRead x)) (sym (fromGates-done (c .before .before .before .before .before .before .args .before) (from (now (c .before .before .before .before .before .before .args .s)) (c .before .before .before .before .before .before .args .at)) (c .before .before .loop .job) (from (now (c .before .before .before .before .before .before .args .s)) (c .before .before .loop .c)) (c .before .before .loop .inv .2 .0 ∙ entries-end (λ i. gate (c .before .before .before .before .before .before .args .before .inputs + i)) (c .before .before .before .before .before .before .args .before .«gate_count») (c .before .before .loop .q) (c .before .before .loop .job .gates) (from (now (c .before .before .before .before .before .before .args .s)) (c .before .before .loop .c)) (c .before .loop-test .left)) (c .before .before .loop .inv .2 .1)))
+returns-2 c = c .read-output-count .ensures ∙ ap (λ (x : Answer (Parsed Job)). due (valueRead x)) (sym (fromGates-done (c .before .before .before .before .before .before .args .before) (from (now (c .before .before .before .before .before .before .args .s)) (c .before .before .before .before .before .before .args .at)) (c .before .before .loop .job) (from (now (c .before .before .before .before .before .before .args .s)) (c .before .before .loop .c)) (c .before .before .loop .inv .2 .0 ∙ entries-end (λ i. gate (c .before .before .before .before .before .before .args .before .inputs + i)) (c .before .before .before .before .before .before .args .before .«gate_count») (c .before .before .loop .q) (c .before .before .loop .job .gates) (from (now (c .before .before .before .before .before .before .args .s)) (c .before .before .loop .c)) (c .before .loop-test .left)) (c .before .before .loop .inv .2 .1)))
 
 pub read-gates-spec : {M : Type 1} → statement M
 read-gates-spec =
@@ -107,5 +107,5 @@ read-gates-spec =
     add-q
     loop-less
     loop-again
-    read-output-requires
+    read-output-count-requires
     returns-2)

@@ -17,10 +17,10 @@ choose-requires c κs = search needs
 put-verdict-requires : tie.Need-put-verdict-requires
 unfolding maxText maxFaults
 put-verdict-requires c κs =
-    let c-args = c .before .before .before .before .before .before .before .before .before .before .args in
-    let c-choose = c .before .before .before .before .choose in
-    let c-if1 = c .before .before .before .before .before .before .if1 in
-    (verdict-printable (now (c-args .bytes)) (now (c-args .work)) (c-choose .result .verdict) (c-choose .result .counts) (c-choose .result .signature) (c-choose .last .1 .1 .1 .1 .0) (c-choose .ensures), verdict-room (now (c-args .bytes)) (now (c-args .work)) (c-choose .result .verdict) (c-choose .result .counts) (c-choose .result .signature) (c-choose .last .1 .1 .1 .1 .0) (c-choose .ensures) (now (c-args .out)) (c-if1 .left))
+    let a = c .before .before .before .before .before .before .before .before .before .before .args in
+    let chosen = c .before .before .before .before .choose in
+    let memory = chosen .last .1 .1 .1 .1 .0 in
+    (verdict-printable (now (a .bytes)) (now (a .work)) (chosen .result .verdict) (chosen .result .counts) (chosen .result .signature) memory (chosen .ensures), verdict-room (now (a .bytes)) (now (a .work)) (chosen .result .verdict) (chosen .result .counts) (chosen .result .signature) memory (chosen .ensures) (now (a .out)) (c .before .before .before .before .before .before .if1 .left))
 
 same-length : tie.Need-same-length
 same-length c = search needs
@@ -30,7 +30,10 @@ same-length-2 c = search needs
 
 returns-2 : tie.Need-returns-2
 unfolding maxText maxFaults
-returns-2 c = reported-written (now (c .before .before .before .before .before .before .before .before .before .before .before .before .before .args .bytes)) (now (c .before .before .before .before .before .before .before .before .before .before .before .before .before .args .work)) (c .before .before .before .before .before .before .before .choose .result .verdict) (c .before .before .before .before .before .before .before .choose .result .counts) (c .before .before .before .before .before .before .before .choose .result .signature) (c .before .before .before .before .before .before .before .choose .last .1 .1 .1 .1 .0) (c .before .before .before .before .before .before .before .choose .ensures) (now (c .before .before .before .before .before .before .before .before .before .before .before .before .before .args .out)) (c .before .before .before .before .before .before .before .before .before .if1 .left) (c .before .before .put-verdict .ensures)
+returns-2 c =
+    let a = c .before .before .before .before .before .before .before .before .before .before .before .before .before .args in
+    let chosen = c .before .before .before .before .before .before .before .choose in
+    reported-written (now (a .bytes)) (now (a .work)) (chosen .result .verdict) (chosen .result .counts) (chosen .result .signature) (chosen .last .1 .1 .1 .1 .0) (chosen .ensures) (now (a .out)) (c .before .before .before .before .before .before .before .before .before .if1 .left) (c .before .before .put-verdict .ensures)
 
 pub report-spec : {M : Type 1} → statement M
 report-spec =

@@ -3,9 +3,8 @@ use native.Mathlib.Omega.{arith}
 use Prim.Native.Nat.{_-_}
 use denote.Ref.{now}
 use borrow.Author.Count.{falls}
-use Rattle.job.specs.Layout.{maxFaults}
 use Rattle.bits.proofs.TableSizes.{table-bytes-exact, fifteen-few}
-use Rattle.spectra.proofs.TableTests.{Testing, rows-none, rows-many, rows-other, rows-small, testing-start, testing-place, testing-stop, testing-next, testing-end}
+use Rattle.spectra.proofs.TableTests.{Testing, rows-other, rows-small, testing-start, testing-place, testing-stop, testing-next, testing-end}
 use Rattle.spectra.proofs.rows_ok.Statement.{statement}
 use Rattle.spectra.proofs.rows_ok.Tie as tie
 
@@ -15,27 +14,17 @@ Inv-loop tables n rows bytes r₀ r = Testing n tables rows bytes r
 abbrev μ-loop : tie.MeasureT-loop
 μ-loop tables n rows bytes r₀ r = rows - r
 
-returns : tie.Need-returns Inv-loop μ-loop
-returns c = rows-none (c .before .before .args .n) (now (c .before .before .args .tables)) (c .before .before .args .rows) (c .if1 .taken)
-
-returns-2 : tie.Need-returns-2 Inv-loop μ-loop
-unfolding maxFaults
-returns-2 c = rows-many (c .before .before .before .args .n) (now (c .before .before .before .args .tables)) (c .before .before .before .args .rows) (c .before .if1 .left) (c .if2 .taken)
-
 table-bytes-requires : tie.Need-table-bytes-requires Inv-loop μ-loop
 table-bytes-requires c κs = tt
 
-mul-if3 : tie.Need-mul-if3 Inv-loop μ-loop
-unfolding maxFaults
-mul-if3 c = record { fits = rows-small (c .before .before .before .before .args .n) (c .before .before .before .before .pre .1) (table-bytes-exact (fifteen-few (c .before .before .before .before .pre .1)) (c .table-bytes .ensures)) (c .before .if2 .left) }
+mul-if1 : tie.Need-mul-if1 Inv-loop μ-loop
+mul-if1 c = record { fits = rows-small (c .before .before .args .n) (c .before .before .pre .1) (table-bytes-exact (fifteen-few (c .before .before .pre .1)) (c .table-bytes .ensures)) (c .before .before .pre .2) }
 
-returns-3 : tie.Need-returns-3 Inv-loop μ-loop
-unfolding maxFaults
-returns-3 c = rows-other (c .before .before .before .before .before .args .n) (now (c .before .before .before .before .before .args .tables)) (c .before .before .before .before .before .args .rows) (table-bytes-exact (fifteen-few (c .before .before .before .before .before .pre .1)) (c .before .table-bytes .ensures)) (c .before .before .before .if1 .left) (c .before .before .if2 .left) (c .if3 .taken)
+returns : tie.Need-returns Inv-loop μ-loop
+returns c = rows-other (c .before .before .before .args .n) (now (c .before .before .before .args .tables)) (c .before .before .before .args .rows) (table-bytes-exact (fifteen-few (c .before .before .before .pre .1)) (c .before .table-bytes .ensures)) (c .if1 .taken)
 
 loop-holds : tie.Need-loop-holds Inv-loop μ-loop
-unfolding maxFaults
-loop-holds c = testing-start (now (c .before .before .before .before .before .args .tables)) (table-bytes-exact (fifteen-few (c .before .before .before .before .before .pre .1)) (c .before .table-bytes .ensures)) (c .before .before .before .if1 .left) (c .before .before .if2 .left) (c .if3 .left)
+loop-holds c = testing-start (now (c .before .before .before .args .tables)) (table-bytes-exact (fifteen-few (c .before .before .before .pre .1)) (c .before .table-bytes .ensures)) (c .if1 .left)
 
 mul-table-ok : tie.Need-mul-table-ok Inv-loop μ-loop
 mul-table-ok c = omega (arith, testing-place (c .before .loop .inv) (c .loop-test .taken))
@@ -56,10 +45,10 @@ part-table-ok-end : tie.Need-part-table-ok-end Inv-loop μ-loop
 part-table-ok-end c = omega (arith, testing-place (c .before .loop .inv) (c .loop-test .taken))
 
 table-ok-requires : tie.Need-table-ok-requires Inv-loop μ-loop
-table-ok-requires c κs = c .before .before .before .before .before .before .before .before .pre
+table-ok-requires c κs = (c .before .before .before .before .before .before .pre .0, c .before .before .before .before .before .before .pre .1)
 
-returns-4 : tie.Need-returns-4 Inv-loop μ-loop
-returns-4 c = testing-stop (c .before .before .before .before .loop .inv) (c .before .table-ok .result) (c .before .before .before .loop-test .taken) (c .before .table-ok .ensures) (c .if4 .taken)
+returns-2 : tie.Need-returns-2 Inv-loop μ-loop
+returns-2 c = testing-stop (c .before .before .before .before .loop .inv) (c .before .table-ok .result) (c .before .before .before .loop-test .taken) (c .before .table-ok .ensures) (c .if2 .taken)
 
 add-r : tie.Need-add-r Inv-loop μ-loop
 add-r c = omega (arith, c .before .before .before .loop-test .taken)
@@ -68,10 +57,10 @@ loop-less : tie.Need-loop-less Inv-loop μ-loop
 loop-less c = falls _ _ (c .before .before .before .loop-test .taken)
 
 loop-again : tie.Need-loop-again Inv-loop μ-loop
-loop-again c = testing-next (c .before .before .before .before .loop .inv) (c .before .table-ok .result) (c .before .before .before .loop-test .taken) (c .before .table-ok .ensures) (c .if4 .left)
+loop-again c = testing-next (c .before .before .before .before .loop .inv) (c .before .table-ok .result) (c .before .before .before .loop-test .taken) (c .before .table-ok .ensures) (c .if2 .left)
 
-returns-5 : tie.Need-returns-5 Inv-loop μ-loop
-returns-5 c = testing-end (c .before .loop .inv) (c .loop-test .left)
+returns-3 : tie.Need-returns-3 Inv-loop μ-loop
+returns-3 c = testing-end (c .before .loop .inv) (c .loop-test .left)
 
 pub rows-ok-spec : {M : Type 1} → statement M
 rows-ok-spec =
@@ -79,11 +68,9 @@ rows-ok-spec =
     (tie.spec
     Inv-loop
     μ-loop
-    returns
-    returns-2
     table-bytes-requires
-    mul-if3
-    returns-3
+    mul-if1
+    returns
     loop-holds
     mul-table-ok
     mul-table-ok-2
@@ -92,8 +79,8 @@ rows-ok-spec =
     part-table-ok-start
     part-table-ok-end
     table-ok-requires
-    returns-4
+    returns-2
     add-r
     loop-less
     loop-again
-    returns-5)
+    returns-3)

@@ -37,8 +37,8 @@ enum-known-cause c = search needs
 enum-told : tie.Need-enum-told
 enum-told c = search needs
 
-check-rest-requires : tie.Need-check-rest-requires
-check-rest-requires c κs = search needs
+check-behind-gates-requires : tie.Need-check-behind-gates-requires
+check-behind-gates-requires c κs = search needs
 
 returns-4 : tie.Need-returns-4
 unfolding checked maxInputs maxGates
@@ -46,7 +46,7 @@ returns-4 c = simp (le-leb _ _ (c .before .before .before .before .before .befor
 
 returns-5 : tie.Need-returns-5
 unfolding maxInputs maxGates
-returns-5 c = c .check-rest .ensures ∙ sym (checked-rest (c .before .before .before .before .before .before .before .before .before .args .job) (c .before .before .before .before .before .before .if1 .left) (c .before .before .before .before .before .if2 .left) (c .before .before .before .before .if3 .left) (sym (c .before .before .before .check-gates .ensures) ∙ ap outcome (c .before .enum-told .given .1)))
+returns-5 c = c .check-behind-gates .ensures ∙ sym (checked-rest (c .before .before .before .before .before .before .before .before .before .args .job) (c .before .before .before .before .before .before .if1 .left) (c .before .before .before .before .before .if2 .left) (c .before .before .before .before .if3 .left) (sym (c .before .before .before .check-gates .ensures) ∙ ap outcome (c .before .enum-told .given .1)))
 
 pub check-spec : {M : Type 1} → statement M
 check-spec =
@@ -60,6 +60,6 @@ check-spec =
     check-gates-requires
     enum-known-cause
     enum-told
-    check-rest-requires
+    check-behind-gates-requires
     returns-4
     returns-5)

@@ -3,13 +3,16 @@ use mathlib.Core.Path.{_≡_, sym, _∙_}
 use native.Mathlib.Omega.{arith}
 use borrow.Author.Needs.{needs}
 use lib.ListN.{length-map, length}
-use Rattle.job.specs.Layout.{maxGates, maxFaults, inputCountBits, gateCountBits, gateKindBits, lineBits, faultCountBits, faultKindBits}
+use Rattle.job.specs.Layout.{maxGates, maxOutputs, maxFaults, inputCountBits, gateCountBits, gateKindBits, lineBits, outputCountBits, faultCountBits, faultKindBits}
 use Rattle.writing.proofs.Entries.{bytes-jobBits}
 use Rattle.writing.proofs.job_bytes.Statement.{statement}
 use Rattle.writing.proofs.job_bytes.Tie as tie
 
 cast-g : tie.Need-cast-g
 cast-g c = search needs
+
+cast-outputs : tie.Need-cast-outputs
+cast-outputs c = search needs
 
 cast-f : tie.Need-cast-f
 cast-f c = search needs
@@ -38,30 +41,39 @@ add-result-2 c = search needs
 add-result-3 : tie.Need-add-result-3
 add-result-3 c = search needs
 
-add-result-4 : tie.Need-add-result-4
-add-result-4 c = search needs
-
 mul-result-2 : tie.Need-mul-result-2
 mul-result-2 c = search needs
+
+add-result-4 : tie.Need-add-result-4
+add-result-4 c = search needs
 
 add-result-5 : tie.Need-add-result-5
 add-result-5 c = search needs
 
+mul-result-3 : tie.Need-mul-result-3
+mul-result-3 c = search needs
+
 add-result-6 : tie.Need-add-result-6
 add-result-6 c = search needs
 
+add-result-7 : tie.Need-add-result-7
+add-result-7 c = search needs
+
 returns : tie.Need-returns
-unfolding maxGates maxFaults inputCountBits gateCountBits gateKindBits lineBits faultCountBits faultKindBits
+unfolding maxGates maxOutputs maxFaults inputCountBits gateCountBits gateKindBits lineBits outputCountBits faultCountBits faultKindBits
 returns c =
-    let gates : length (c .before .before .args .job .gates) ≡ maxGates = sym (length-map (c .before .before .args .job .gates) _) ∙ c .before .before .good .0 .1 .1 .1 .1 .0 .1 .0 .1 in
-    let faults : length (c .before .before .args .job .faults) ≡ maxFaults = sym (length-map (c .before .before .args .job .faults) _) ∙ c .before .before .good .0 .1 .1 .1 .1 .1 .1 .1 .0 .1 .0 .1 in
-    bytes-jobBits (c .before .before .args .job) (omega arith) (omega arith)
+    let job = c .before .before .before .args .job in
+    let gates : length (job .gates) ≡ maxGates = sym (length-map (job .gates) _) ∙ c .before .before .before .good .0 .1 .1 .1 .1 .0 .1 .0 .1 in
+    let outputs : length (job .outputs) ≡ maxOutputs = sym (length-map (job .outputs) _) ∙ c .before .before .before .good .0 .1 .1 .1 .1 .1 .1 .0 .1 .0 .1 in
+    let faults : length (job .faults) ≡ maxFaults = sym (length-map (job .faults) _) ∙ c .before .before .before .good .0 .1 .1 .1 .1 .1 .1 .1 .1 .0 .1 .0 .1 in
+    bytes-jobBits job (omega arith) (omega arith) (omega arith)
 
 pub job-bytes-spec : {M : Type 1} → statement M
 job-bytes-spec =
     tie.close
     (tie.spec
     cast-g
+    cast-outputs
     cast-f
     mul-gate-bits
     add-gate-bits
@@ -71,8 +83,10 @@ job-bytes-spec =
     mul-result
     add-result-2
     add-result-3
-    add-result-4
     mul-result-2
+    add-result-4
     add-result-5
+    mul-result-3
     add-result-6
+    add-result-7
     returns)

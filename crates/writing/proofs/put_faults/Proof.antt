@@ -23,7 +23,7 @@ abbrev μ-loop : tie.MeasureT-loop
 -- what owning a record tells of its array
 faults-long : (c : tie.Start Inv-loop μ-loop) → length (c .args .t3 .faults) ≡ maxFaults
 unfolding maxFaults
-faults-long c = sym (length-map (c .args .t3 .faults) _) ∙ c .good .1 .1 .0 .1 .1 .1 .1 .1 .1 .1 .0 .1 .0 .1
+faults-long c = sym (length-map (c .args .t3 .faults) _) ∙ c .good .1 .1 .0 .1 .1 .1 .1 .1 .1 .1 .1 .0 .1 .0 .1
 
 cast-f : tie.Need-cast-f Inv-loop μ-loop
 cast-f c = search needs

@@ -12,7 +12,7 @@ use Rattle.papers.proofs.jobs.list_fault.Tie as tie
 
 -- the memory that is lent for the tables
 abbrev zeros : List ℕ
-zeros = replicate 2048 0
+zeros = replicate 8192 0
 
 slice-aggregate-tables : tie.Need-slice-aggregate-tables
 slice-aggregate-tables c = search needs

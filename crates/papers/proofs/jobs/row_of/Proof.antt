@@ -1,13 +1,13 @@
--- `papers::jobs::row_of` meets its contract: a circuit of few has a row of few places.
-use Prim.Native.Nat.{ℕ, _*_, _≤_}
-use native.Mathlib.Nat.{mul-le-mul}
+-- `papers::jobs::row_of` meets its contract: a row of few has few places.
+use Prim.Native.Nat.{ℕ, _*_, _≤_, _<_}
+use native.Mathlib.Nat.{mul-le-mul, le-of-lt}
 use native.Mathlib.Omega.{arith}
 use borrow.Author.Needs.{needs}
 use Rattle.papers.proofs.jobs.row_of.Statement.{statement}
 use Rattle.papers.proofs.jobs.row_of.Tie as tie
 
-start-le : (circuit size : ℕ) → circuit ≤ 63 → size ≤ 256 → circuit * size ≤ 63 * 256
-start-le circuit size h i = mul-le-mul {n₁ = circuit} {m₁ = size} {n₂ = 63} {m₂ = 256} h i
+start-le : (row size : ℕ) → row < 256 → size ≤ 256 → row * size ≤ 256 * 256
+start-le row size h i = mul-le-mul {n₁ = row} {m₁ = size} {n₂ = 256} {m₂ = 256} (le-of-lt h) i
 
 returns : tie.Need-returns
 returns c = search needs
@@ -16,10 +16,10 @@ returns-2 : tie.Need-returns-2
 returns-2 c = search needs
 
 mul-start : tie.Need-mul-start
-mul-start c = omega (arith, start-le (c .before .before .args .circuit) (c .before .before .args .size) (c .before .if1 .left) (c .if2 .left))
+mul-start c = omega (arith, start-le (c .before .before .args .row) (c .before .before .args .size) (c .before .if1 .left) (c .if2 .left))
 
 add-end : tie.Need-add-end
-add-end c = omega (arith, start-le (c .before .before .args .circuit) (c .before .before .args .size) (c .before .if1 .left) (c .if2 .left), c .if2 .left)
+add-end c = omega (arith, start-le (c .before .before .args .row) (c .before .before .args .size) (c .before .if1 .left) (c .if2 .left), c .if2 .left)
 
 returns-3 : tie.Need-returns-3
 returns-3 c = search needs

@@ -7,22 +7,16 @@ use Rattle.papers.proofs.listing.unlike.Statement.{statement}
 use Rattle.papers.proofs.listing.unlike.Tie as tie
 
 abbrev Inv-loop : tie.InvT-loop
-Inv-loop good faulty end i₀ t6 t7 i = (end ≤ length good) × (end ≤ length faulty)
+Inv-loop good faulty output end i₀ i = (end ≤ length good) × (end ≤ length faulty)
 
 abbrev μ-loop : tie.MeasureT-loop
-μ-loop good faulty end i₀ t6 t7 i = end - i
-
-slice-aggregate-put : tie.Need-slice-aggregate-put Inv-loop μ-loop
-slice-aggregate-put c = search needs
-
-put-requires : tie.Need-put-requires Inv-loop μ-loop
-put-requires c κs = search needs
+μ-loop good faulty output end i₀ i = end - i
 
 least-requires : tie.Need-least-requires Inv-loop μ-loop
 least-requires c κs = search needs
 
 loop-holds : tie.Need-loop-holds Inv-loop μ-loop
-loop-holds c = let a = c .before .before .before .before .before .args in (least-left (length (a .good .now)) (length (a .faulty .now)) (c .least .ensures), least-right (length (a .good .now)) (length (a .faulty .now)) (c .least .ensures))
+loop-holds c = let a = c .before .before .before .args in (least-left (length (a .good .now)) (length (a .faulty .now)) (c .least .ensures), least-right (length (a .good .now)) (length (a .faulty .now)) (c .least .ensures))
 
 mul-if1 : tie.Need-mul-if1 Inv-loop μ-loop
 mul-if1 c = search needs
@@ -36,11 +30,8 @@ mul-if1-2 c = search needs
 shared-slice-read-if1-2 : tie.Need-shared-slice-read-if1-2 Inv-loop μ-loop
 shared-slice-read-if1-2 c = search needs
 
-slice-aggregate-put-number : tie.Need-slice-aggregate-put-number Inv-loop μ-loop
-slice-aggregate-put-number c = search needs
-
-put-number-requires : tie.Need-put-number-requires Inv-loop μ-loop
-put-number-requires c κs = search needs
+put-pair-requires : tie.Need-put-pair-requires Inv-loop μ-loop
+put-pair-requires c κs = search needs
 
 add-i : tie.Need-add-i Inv-loop μ-loop
 add-i c = search needs
@@ -51,12 +42,6 @@ loop-less c = search needs
 loop-again : tie.Need-loop-again Inv-loop μ-loop
 loop-again c = search needs
 
-slice-aggregate-put-2 : tie.Need-slice-aggregate-put-2 Inv-loop μ-loop
-slice-aggregate-put-2 c = search needs
-
-put-requires-2 : tie.Need-put-requires-2 Inv-loop μ-loop
-put-requires-2 c κs = search needs
-
 returns : tie.Need-returns Inv-loop μ-loop
 returns c = search needs
 
@@ -66,19 +51,14 @@ unlike-spec =
     (tie.spec
     Inv-loop
     μ-loop
-    slice-aggregate-put
-    put-requires
     least-requires
     loop-holds
     mul-if1
     shared-slice-read-if1
     mul-if1-2
     shared-slice-read-if1-2
-    slice-aggregate-put-number
-    put-number-requires
+    put-pair-requires
     add-i
     loop-less
     loop-again
-    slice-aggregate-put-2
-    put-requires-2
     returns)

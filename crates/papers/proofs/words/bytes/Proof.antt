@@ -32,8 +32,8 @@ byte-at-requires c κs = search needs
 slice-write-out : tie.Need-slice-write-out Inv-loop μ-loop
 slice-write-out c = search needs
 
-next-word-requires : tie.Need-next-word-requires Inv-loop μ-loop
-next-word-requires c κs = search needs
+behind-requires : tie.Need-behind-requires Inv-loop μ-loop
+behind-requires c κs = search needs
 
 add-count : tie.Need-add-count Inv-loop μ-loop
 add-count c = search needs
@@ -62,7 +62,7 @@ bytes-spec =
     returns
     byte-at-requires
     slice-write-out
-    next-word-requires
+    behind-requires
     add-count
     loop-less
     loop-again

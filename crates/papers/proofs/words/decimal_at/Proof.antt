@@ -1,11 +1,14 @@
 -- `papers::words::decimal_at` meets its contract: every turn bounds the value.
 use Prim.Native.Nat.{_-_, _≤_}
+use native.Mathlib.Nat.{le-trans}
+use lib.ListN.{length}
+use Rattle.bits.proofs.Minimum.{least-left}
 use borrow.Author.Needs.{needs}
 use Rattle.papers.proofs.words.decimal_at.Statement.{statement}
 use Rattle.papers.proofs.words.decimal_at.Tie as tie
 
 abbrev Inv-loop : tie.InvT-loop
-Inv-loop line from end value₀ i₀ value i = value ≤ 65535
+Inv-loop line from end value₀ i₀ value i = (end ≤ length line) × (value ≤ 65535)
 
 abbrev μ-loop : tie.MeasureT-loop
 μ-loop line from end value₀ i₀ value i = end - i
@@ -13,8 +16,14 @@ abbrev μ-loop : tie.MeasureT-loop
 place-of-requires : tie.Need-place-of-requires Inv-loop μ-loop
 place-of-requires c κs = search needs
 
+place-of-requires-2 : tie.Need-place-of-requires-2 Inv-loop μ-loop
+place-of-requires-2 c κs = search needs
+
+least-requires : tie.Need-least-requires Inv-loop μ-loop
+least-requires c κs = search needs
+
 loop-holds : tie.Need-loop-holds Inv-loop μ-loop
-loop-holds c = search needs
+loop-holds c = (le-trans (least-left (c .before .before .place-of .result) (c .before .place-of2 .result) (c .least .ensures)) (c .before .before .place-of .ensures .0 .0), search needs)
 
 shared-slice-read-next-value : tie.Need-shared-slice-read-next-value Inv-loop μ-loop
 shared-slice-read-next-value c = search needs
@@ -41,6 +50,8 @@ decimal-at-spec =
     Inv-loop
     μ-loop
     place-of-requires
+    place-of-requires-2
+    least-requires
     loop-holds
     shared-slice-read-next-value
     next-value-requires

@@ -9,13 +9,13 @@ use Rattle.papers.proofs.words.decimals.Statement.{statement}
 use Rattle.papers.proofs.words.decimals.Tie as tie
 
 abbrev Inv-loop : tie.InvT-loop
-Inv-loop line first out₀ at₀ count₀ out at count = (count ≤ length out₀) × (length out ≡ length out₀)
+Inv-loop line first separator out₀ at₀ count₀ out at count = (count ≤ length out₀) × (length out ≡ length out₀)
 
 abbrev μ-loop : tie.MeasureT-loop
-μ-loop line first out₀ at₀ count₀ out at count = length out₀ - count
+μ-loop line first separator out₀ at₀ count₀ out at count = length out₀ - count
 
-word-requires : tie.Need-word-requires Inv-loop μ-loop
-word-requires c κs = search needs
+field-requires : tie.Need-field-requires Inv-loop μ-loop
+field-requires c κs = search needs
 
 loop-holds : tie.Need-loop-holds Inv-loop μ-loop
 loop-holds c = search needs
@@ -38,8 +38,8 @@ mul-out c = search needs
 slice-write-out : tie.Need-slice-write-out Inv-loop μ-loop
 slice-write-out c = search needs
 
-next-word-requires : tie.Need-next-word-requires Inv-loop μ-loop
-next-word-requires c κs = search needs
+behind-requires : tie.Need-behind-requires Inv-loop μ-loop
+behind-requires c κs = search needs
 
 add-count : tie.Need-add-count Inv-loop μ-loop
 add-count c = search needs
@@ -62,7 +62,7 @@ decimals-spec =
     (tie.spec
     Inv-loop
     μ-loop
-    word-requires
+    field-requires
     loop-holds
     same-length
     returns
@@ -70,7 +70,7 @@ decimals-spec =
     cast-out
     mul-out
     slice-write-out
-    next-word-requires
+    behind-requires
     add-count
     loop-less
     loop-again

@@ -1,0 +1,67 @@
+-- `choosing::put_entries` meets its contract: the entries of an index a turn.
+use Prim.Native.Nat.{_-_}
+use native.Mathlib.Omega.{arith}
+use denote.Ref.{now}
+use lib.ListN.{length}
+use borrow.Author.Needs.{needs}
+use Rattle.bits.proofs.Bounds.{entry-below}
+use Rattle.choosing.proofs.EntryNumbers.{CodesTo, codes-none, codes-next, codes-length, codes-room, codes-done}
+use Rattle.choosing.proofs.put_entries.Statement.{statement}
+use Rattle.choosing.proofs.put_entries.Tie as tie
+
+abbrev Inv-loop : tie.InvT-loop
+Inv-loop of₀ indices size outputs i₀ of i = CodesTo size outputs indices of₀ of i
+
+abbrev μ-loop : tie.MeasureT-loop
+μ-loop of₀ indices size outputs i₀ of i = length indices - i
+
+loop-holds : tie.Need-loop-holds Inv-loop μ-loop
+loop-holds c = codes-none (c .before .before .pre .3)
+
+mul-put-outputs : tie.Need-mul-put-outputs Inv-loop μ-loop
+mul-put-outputs c = omega (arith, codes-room (c .before .before .loop .inv) (c .before .loop-test .taken), codes-length (c .before .before .loop .inv), c .before .before .before .before .before .good .0 .0)
+
+mul-put-outputs-2 : tie.Need-mul-put-outputs-2 Inv-loop μ-loop
+mul-put-outputs-2 c = search needs
+
+shared-slice-read-put-outputs : tie.Need-shared-slice-read-put-outputs Inv-loop μ-loop
+shared-slice-read-put-outputs c = c .before .before .loop-test .taken
+
+cast-put-outputs : tie.Need-cast-put-outputs Inv-loop μ-loop
+cast-put-outputs c = omega (arith, c .shared-slice-known2 .given (c .before .before .before .loop .i))
+
+put-outputs-requires : tie.Need-put-outputs-requires Inv-loop μ-loop
+put-outputs-requires c κs = (entry-below (c .before .before .before .before .before .before .args .size) (now (c .before .before .before .before .before .before .args .indices)) (c .before .before .before .loop .i) (c .before .before .before .before .before .before .pre .0) (c .before .before .loop-test .taken), c .before .before .before .before .before .before .pre .1, c .before .before .before .before .before .before .pre .2, codes-room (c .before .before .before .loop .inv) (c .before .before .loop-test .taken))
+
+add-i : tie.Need-add-i Inv-loop μ-loop
+add-i c = search needs
+
+loop-less : tie.Need-loop-less Inv-loop μ-loop
+loop-less c = omega (arith, c .before .before .before .before .before .loop-test .taken)
+
+loop-again : tie.Need-loop-again Inv-loop μ-loop
+loop-again c = codes-next (c .before .before .before .before .before .before .loop .inv) (c .before .before .before .before .before .loop-test .taken) (c .before .before .put-outputs .ensures)
+
+same-length : tie.Need-same-length Inv-loop μ-loop
+same-length c = codes-length (c .before .loop .inv)
+
+returns : tie.Need-returns Inv-loop μ-loop
+returns c = codes-done (c .before .loop .inv) (c .loop-test .left)
+
+pub put-entries-spec : {M : Type 1} → statement M
+put-entries-spec =
+    tie.close
+    (tie.spec
+    Inv-loop
+    μ-loop
+    loop-holds
+    mul-put-outputs
+    mul-put-outputs-2
+    shared-slice-read-put-outputs
+    cast-put-outputs
+    put-outputs-requires
+    add-i
+    loop-less
+    loop-again
+    same-length
+    returns)
