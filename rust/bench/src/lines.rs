@@ -1,6 +1,5 @@
 //! What is measured: calls of both libraries with the same arguments.
 
-use horncurlew::Entry;
 use std::hint::black_box;
 
 /// The library that is called.
@@ -15,8 +14,9 @@ pub struct Case {
     pub bytes: Vec<u8>,
     inputs: usize,
     polarity: usize,
-    /// The circuit of the table, and the table.
+    /// The circuit and the output of the table, and the table.
     circuit: usize,
+    output: usize,
     table: Vec<u8>,
     /// The isolating signatures by RM and by MRM, and a circuit's readings for them.
     lists: [List; 2],
@@ -25,7 +25,7 @@ pub struct Case {
 
 struct List {
     indices: Vec<u16>,
-    entries: Vec<Entry>,
+    outputs: Vec<u16>,
     readings: Vec<u16>,
 }
 
@@ -44,24 +44,31 @@ impl Memory {
 const KINDS: [reference::Kind; 2] = [reference::Kind::Rm, reference::Kind::Mrm];
 
 impl Case {
-    /// The calls of a job without alike circuits. The circuit that is located is the last.
+    /// The calls of a job without alike circuits. The circuit that is located is the last, at the last output.
     pub fn new(bytes: Vec<u8>) -> Case {
         let job = reference::read(&bytes).expect("a job");
         let (inputs, circuit) = (usize::from(job.inputs), usize::from(job.fault_count));
+        let outputs = usize::from(job.output_count);
         let places = 1usize << inputs;
         // A polarity of both levels.
         let polarity = 0x5a & (places - 1);
         let mut table = vec![0; places.div_ceil(8)];
-        reference::table(&bytes, circuit, &mut table).expect("a table");
-        let mut work = vec![0; (circuit + 1) * places];
+        reference::table(&bytes, circuit, outputs - 1, &mut table).expect("a table");
+        let mut work = vec![0; (circuit + 1) * outputs * places];
         let lists = KINDS.map(|kind| {
             let chosen = reference::choose(&bytes, reference::Purpose::Isolating, kind, polarity, &mut work);
             let reference::Chosen::Signature { count, entries, .. } = chosen else { panic!("{chosen:?}") };
-            let indices = entries[..count].to_vec();
-            let readings = indices.iter().map(|index| work[circuit * places + usize::from(*index)]).collect();
-            List { entries: indices.iter().copied().map(Entry::new).collect(), indices, readings }
+            let entries = &entries[..count];
+            let place = |entry: &reference::Entry| {
+                (circuit * outputs + usize::from(entry.output)) * places + usize::from(entry.index)
+            };
+            List {
+                indices: entries.iter().map(|entry| entry.index).collect(),
+                outputs: entries.iter().map(|entry| entry.output).collect(),
+                readings: entries.iter().map(|entry| work[place(entry)]).collect(),
+            }
         });
-        Case { bytes, inputs, polarity, circuit, table, lists, work: work.len() }
+        Case { bytes, inputs, polarity, circuit, output: outputs - 1, table, lists, work: work.len() }
     }
 }
 
@@ -106,6 +113,9 @@ pub const LINES: [Line; 12] = [
     Line::Locating(Rm),
     Line::Locating(Mrm),
 ];
+
+/// From this line on the number of outputs counts.
+pub const FIRST_OF_OUTPUTS: usize = 4;
 
 impl Kind {
     fn proved(self) -> horncurlew::Kind {
@@ -165,7 +175,7 @@ impl Line {
     }
 
     fn run_proved(self, case: &Case, memory: &mut Memory) {
-        use horncurlew::{check, choose, locate, spectrum, table};
+        use horncurlew::{check, choose, locate_lists, spectrum, table};
         let bytes = &case.bytes[..];
         let (out, numbers) = (&mut memory.bytes[..], &mut memory.numbers[..]);
         match self {
@@ -173,7 +183,7 @@ impl Line {
                 black_box(check(bytes).is_ok());
             }
             Line::Table => {
-                black_box(table(bytes, case.circuit, out).is_ok());
+                black_box(table(bytes, case.circuit, case.output, out).is_ok());
             }
             Line::Spectrum(kind) => {
                 black_box(spectrum(case.inputs, &case.table, kind.proved(), case.polarity, numbers).is_ok());
@@ -184,12 +194,13 @@ impl Line {
             }
             Line::Locating(kind) => {
                 let (list, work) = (&case.lists[kind as usize], &mut numbers[..case.work]);
-                let located = locate(bytes, kind.proved(), case.polarity, &list.entries, &list.readings, work);
+                let List { indices, outputs, readings } = list;
+                let located = locate_lists(bytes, kind.proved(), case.polarity, indices, outputs, readings, work);
                 let _ = black_box(located);
             }
             Line::Filling(kind) => {
                 let work = &mut numbers[..case.work];
-                let _ = black_box(locate(bytes, kind.proved(), case.polarity, &[], &[], work));
+                let _ = black_box(locate_lists(bytes, kind.proved(), case.polarity, &[], &[], &[], work));
             }
         }
     }
@@ -203,7 +214,7 @@ impl Line {
                 let _ = black_box(read(bytes));
             }
             Line::Table => {
-                black_box(table(bytes, case.circuit, out).is_ok());
+                black_box(table(bytes, case.circuit, case.output, out).is_ok());
             }
             Line::Spectrum(kind) => {
                 black_box(spectrum(case.inputs, &case.table, kind.reference(), case.polarity, numbers).is_ok());
@@ -214,11 +225,12 @@ impl Line {
             }
             Line::Locating(kind) => {
                 let (list, work) = (&case.lists[kind as usize], &mut numbers[..case.work]);
-                black_box(locate(bytes, kind.reference(), case.polarity, &list.indices, &list.readings, work));
+                let List { indices, outputs, readings } = list;
+                black_box(locate(bytes, kind.reference(), case.polarity, indices, outputs, readings, work));
             }
             Line::Filling(kind) => {
                 let work = &mut numbers[..case.work];
-                black_box(locate(bytes, kind.reference(), case.polarity, &[], &[], work));
+                black_box(locate(bytes, kind.reference(), case.polarity, &[], &[], &[], work));
             }
         }
     }

@@ -12,12 +12,14 @@ mod measure;
 
 use differential::jobs::full_job;
 use differential::random::Random;
-use lines::{Case, Kind, Library, Line, Memory, Purpose, LINES};
+use lines::{Case, Kind, Library, Line, Memory, Purpose, FIRST_OF_OUTPUTS, LINES};
 use measure::{ratio, Timed};
 
 const MOST_GATES: usize = 64;
+const MOST_OUTPUTS: usize = 4;
 const MOST_FAULTS: usize = 63;
-/// How many jobs each line takes: so many that the processor's branch prediction does not learn them by heart, as it does with eight.
+/// How many jobs each line takes: so many that the processor's branch prediction does not learn them by heart, as it
+/// does with eight.
 const JOBS: u64 = 64;
 
 fn main() {
@@ -25,34 +27,39 @@ fn main() {
         return;
     }
     let mut memory = Memory::new();
-    ratios(&mut memory);
+    println!("Proved library by reference, {JOBS} jobs of {MOST_GATES} gates and {MOST_FAULTS} faults");
+    println!();
+    println!("                                  time                     instructions  (microseconds a call)");
+    println!("outputs  inputs  line            ratio  quarters          ratio         proved  reference");
+    ratios(1, &LINES, &mut memory);
+    ratios(MOST_OUTPUTS, &LINES[FIRST_OF_OUTPUTS..], &mut memory);
+    if !instructions::has_valgrind() {
+        println!("(instructions are counted where valgrind is there)");
+    }
     growth(&mut memory);
 }
 
-fn cases(inputs: usize, gates: usize, faults: usize) -> Vec<Case> {
-    (1..=JOBS).map(|seed| Case::new(full_job(&mut Random::new(seed), inputs, gates, faults))).collect()
+fn cases(inputs: usize, gates: usize, outputs: usize, faults: usize) -> Vec<Case> {
+    (1..=JOBS).map(|seed| Case::new(full_job(&mut Random::new(seed), inputs, gates, outputs, faults))).collect()
 }
 
-/// The lines of the largest lists.
-fn ratios(memory: &mut Memory) {
+/// The lines of the largest lists with so many outputs.
+fn ratios(outputs: usize, lines: &[Line], memory: &mut Memory) {
     let counts = instructions::has_valgrind();
-    println!("Proved library by reference, {JOBS} jobs of {MOST_GATES} gates and {MOST_FAULTS} faults");
-    println!();
-    println!("                         time                     instructions  (microseconds a call)");
-    println!("inputs  line            ratio  quarters          ratio         proved  reference");
     for inputs in [8, 6, 4] {
-        let cases = cases(inputs, MOST_GATES, MOST_FAULTS);
-        // All are timed before any is counted: another program that has just run disturbs short times.
-        let times = LINES.map(|line| {
-            let timed = |library| Timed { line, library, cases: &cases };
+        let cases = cases(inputs, MOST_GATES, outputs, MOST_FAULTS);
+        let mut time = |line: &Line| {
+            let timed = |library| Timed { line: *line, library, cases: &cases };
             ratio(timed(Library::Proved), timed(Library::Reference), memory)
-        });
-        for (line, ratio) in LINES.into_iter().zip(times) {
-            let counted = if counts { instructions::ratio(line, &cases) } else { None };
+        };
+        // All are timed before any is counted: another program that has just run disturbs short times.
+        let times: Vec<_> = lines.iter().map(&mut time).collect();
+        for (line, ratio) in lines.iter().zip(times) {
+            let counted = if counts { instructions::ratio(*line, &cases) } else { None };
             let counted = counted.map_or("-".into(), |ratio| format!("{ratio:.2}"));
             let quarters = format!("{:.2} to {:.2}", ratio.lower, ratio.upper);
             println!(
-                "{inputs:>6}  {:<14}  {:>5.2}  {quarters:<16}  {counted:>5}  {:>13.3}  {:>9.3}",
+                "{outputs:>7}  {inputs:>6}  {:<14}  {:>5.2}  {quarters:<16}  {counted:>5}  {:>13.3}  {:>9.3}",
                 line.name(),
                 ratio.median,
                 ratio.first,
@@ -60,31 +67,33 @@ fn ratios(memory: &mut Memory) {
             );
         }
     }
-    if !counts {
-        println!("(instructions are counted where valgrind is there)");
-    }
 }
 
 /// How choosing grows: each library's time by its own for the largest list, and the ratio of the two.
 fn growth(memory: &mut Memory) {
-    let full = cases(8, MOST_GATES, MOST_FAULTS);
-    let by_inputs = [4, 5, 6, 7, 8].map(|inputs| (inputs, MOST_GATES, MOST_FAULTS));
-    let by_gates = [8, 16, 32, 48, 64].map(|gates| (8, gates, 31));
-    let by_faults = [0, 1, 7, 15, 31, 47, 63].map(|faults| (8, MOST_GATES, faults));
+    let full = cases(8, MOST_GATES, 1, MOST_FAULTS);
+    let by_inputs = [4, 5, 6, 7, 8].map(|inputs| [inputs, MOST_GATES, 1, MOST_FAULTS]);
+    let by_gates = [8, 16, 32, 48, 64].map(|gates| [8, gates, 1, 31]);
+    let by_outputs = [1, 2, 3, 4].map(|outputs| [8, MOST_GATES, outputs, MOST_FAULTS]);
+    let by_faults = [0, 1, 7, 15, 31, 47, 63].map(|faults| [8, MOST_GATES, 1, faults]);
     for kind in [Kind::Rm, Kind::Mrm] {
         let line = Line::Choosing(Purpose::Isolating, kind);
         println!();
-        println!("Growth of {}: time by that of 8 inputs, {MOST_GATES} gates, {MOST_FAULTS} faults", line.name());
+        let largest = format!("8 inputs, {MOST_GATES} gates, one output, {MOST_FAULTS} faults");
+        println!("Growth of {}: time by that of {largest}", line.name());
         println!();
-        println!("inputs  gates  faults  proved  reference  proved by reference");
-        for counts in [&by_inputs[..], &by_gates, &by_faults] {
-            for (inputs, gates, faults) in counts {
-                let cases = cases(*inputs, *gates, *faults);
+        println!("inputs  gates  outputs  faults  proved  reference  proved by reference");
+        for counts in [&by_inputs[..], &by_gates, &by_outputs, &by_faults] {
+            for [inputs, gates, outputs, faults] in counts {
+                let cases = cases(*inputs, *gates, *outputs, *faults);
                 let timed = |library, cases| Timed { line, library, cases };
                 let mut grown = |library| ratio(timed(library, &cases), timed(library, &full), memory).median;
                 let (proved, reference) = (grown(Library::Proved), grown(Library::Reference));
                 let both = ratio(timed(Library::Proved, &cases), timed(Library::Reference, &cases), memory);
-                println!("{inputs:>6}  {gates:>5}  {faults:>6}  {proved:>6.3}  {reference:>9.3}  {:>6.2}", both.median);
+                println!(
+                    "{inputs:>6}  {gates:>5}  {outputs:>7}  {faults:>6}  {proved:>6.3}  {reference:>9.3}  {:>6.2}",
+                    both.median
+                );
             }
         }
     }

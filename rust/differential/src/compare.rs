@@ -5,7 +5,7 @@
 //! libraries is equal, guards are untouched, and after a refusal other than 15 nothing has changed.
 
 use crate::random::Random;
-use horncurlew::{Entry, NoChoice, Refusal};
+use horncurlew::{Counts, NoChoice, Refusal};
 use std::fmt;
 
 /// The operations that are compared.
@@ -36,17 +36,17 @@ impl Operation {
         match self {
             Operation::Check => &[1, 2, 3, 4, 5, 6, 19, 7, 8, 9],
             Operation::Rewrite => &[1, 2, 3, 4, 5, 6, 19, 7, 8, 9, 10],
-            Operation::Table => &[1, 2, 3, 4, 5, 6, 19, 7, 8, 9, 11, 10],
+            Operation::Table => &[1, 2, 3, 4, 5, 6, 19, 7, 8, 9, 11, 20, 10],
             Operation::Spectrum => &[2, 12, 13, 10],
             Operation::Undo => &[2, 13, 14, 10],
             Operation::Choose => &[1, 2, 3, 4, 5, 6, 19, 7, 8, 9, 13, 10, 15],
-            Operation::Locate => &[1, 2, 3, 4, 5, 6, 19, 7, 8, 9, 13, 16, 17, 10],
+            Operation::Locate => &[1, 2, 3, 4, 5, 6, 19, 7, 8, 9, 13, 16, 20, 17, 10],
         }
     }
 }
 
 /// The numbers of refusals, and 0 for success.
-pub const NUMBERS: usize = 20;
+pub const NUMBERS: usize = 21;
 
 /// How often each operation answered each number.
 #[derive(Clone, Default)]
@@ -163,9 +163,25 @@ fn lent_numbers(random: &mut Random, length: usize) -> Lent<u16> {
     Lent::new(random, length, |number| number as u16)
 }
 
-/// The kinds and purposes of both libraries.
+/// The kinds, purposes and entries of both libraries.
 pub type Kind = reference::Kind;
 pub type Purpose = reference::Purpose;
+pub type Entry = reference::Entry;
+
+/// What locating takes: entries, as two lists, and readings. Nothing keeps their lengths equal.
+#[derive(Clone, Debug, Default)]
+pub struct List {
+    pub indices: Vec<u16>,
+    pub outputs: Vec<u16>,
+    pub readings: Vec<u16>,
+}
+
+impl List {
+    pub fn new(entries: &[Entry], readings: Vec<u16>) -> List {
+        let (indices, outputs) = entries.iter().map(|entry| (entry.index, entry.output)).unzip();
+        List { indices, outputs, readings }
+    }
+}
 
 fn kind_of(kind: Kind) -> horncurlew::Kind {
     match kind {
@@ -220,9 +236,10 @@ impl Comparison {
 
     pub fn check(&mut self, bytes: &[u8]) {
         let input = read_bytes(&mut self.random, bytes);
-        let ours = horncurlew::check(input.get()).map(|counts| (counts.inputs, counts.gates, counts.faults));
+        let ours = horncurlew::check(input.get());
+        let ours = ours.map(|counts| [counts.inputs, counts.gates, counts.outputs, counts.faults]);
         let theirs = reference::read(bytes);
-        let theirs = theirs.map(|job| (job.inputs.into(), job.gate_count.into(), job.fault_count.into()));
+        let theirs = theirs.map(|job| [job.inputs, job.gate_count, job.output_count, job.fault_count].map(usize::from));
         let call = || format!("check of {bytes:02x?}");
         self.answers(Operation::Check, &ours.map_err(refused), &theirs, &call);
         input.unchanged();
@@ -239,12 +256,12 @@ impl Comparison {
         input.unchanged();
     }
 
-    pub fn table(&mut self, bytes: &[u8], circuit: usize, room: usize) {
+    pub fn table(&mut self, bytes: &[u8], circuit: usize, output: usize, room: usize) {
         let input = read_bytes(&mut self.random, bytes);
         let mut out = lent_bytes(&mut self.random, room);
-        let ours = horncurlew::table(input.get(), circuit, out.ours()).map_err(refused);
-        let theirs = reference::table(bytes, circuit, out.theirs());
-        let call = || format!("table of {bytes:02x?}, circuit {circuit}, room {room}");
+        let ours = horncurlew::table(input.get(), circuit, output, out.ours()).map_err(refused);
+        let theirs = reference::table(bytes, circuit, output, out.theirs());
+        let call = || format!("table of {bytes:02x?}, circuit {circuit}, output {output}, room {room}");
         let number = self.answers(Operation::Table, &ours, &theirs, &call);
         out.compare(number, &call);
         input.unchanged();
@@ -282,7 +299,7 @@ impl Comparison {
         kind: Kind,
         polarity: usize,
         room: usize,
-    ) -> Option<Vec<u16>> {
+    ) -> Option<Vec<Entry>> {
         let input = read_bytes(&mut self.random, bytes);
         let mut work = lent_numbers(&mut self.random, room);
         let call = || format!("choose of {bytes:02x?}, {purpose:?}, {kind:?}, polarity {polarity}, room {room}");
@@ -298,10 +315,10 @@ impl Comparison {
                 self.tally.count(Operation::Choose, 15);
                 15
             }
-            (Ok(choice), reference::Chosen::Signature { inputs, gates, faults, count, entries }) => {
-                let counts = choice.counts;
-                let taken: Vec<u16> = choice.signature.entries().iter().map(|entry| entry.index()).collect();
-                assert_eq!((counts.inputs, counts.gates, counts.faults), (inputs, gates, faults), "{}", call());
+            (Ok(choice), reference::Chosen::Signature { inputs, gates, outputs, faults, count, entries }) => {
+                let taken = choice.signature.entries().iter();
+                let taken: Vec<Entry> = taken.map(|entry| Entry { index: entry.index, output: entry.output }).collect();
+                assert_eq!(choice.counts, Counts { inputs, gates, outputs, faults }, "{}", call());
                 assert_eq!(taken, entries[..count], "the signature of {}", call());
                 self.tally.count(Operation::Choose, 0);
                 signature = Some(taken);
@@ -314,44 +331,47 @@ impl Comparison {
         signature
     }
 
+    /// By the lists or, where they are as long, sometimes by entries made of them. Gives the answer, if it is no
+    /// refusal.
     pub fn locate(
         &mut self,
         bytes: &[u8],
         kind: Kind,
         polarity: usize,
-        indices: &[u16],
-        readings: &[u16],
+        list: &List,
         room: usize,
     ) -> Option<reference::Located> {
         use horncurlew::Location;
         use reference::Located;
         let input = read_bytes(&mut self.random, bytes);
-        let entries: Vec<Entry> = indices.iter().copied().map(Entry::new).collect();
-        let entries = Read::new(&mut self.random, &entries, |number| Entry::new(number as u16));
-        let read = read_numbers(&mut self.random, readings);
+        let List { indices, outputs, readings } = list;
+        let lists = [indices, outputs, readings].map(|numbers| read_numbers(&mut self.random, numbers));
+        let [own_indices, own_outputs, own_readings] = lists.each_ref().map(Read::get);
         let mut work = lent_numbers(&mut self.random, room);
-        let ours = horncurlew::locate(input.get(), kind_of(kind), polarity, entries.get(), read.get(), work.ours());
+        let ours = if indices.len() == outputs.len() && self.random.once_in(4) {
+            let entry = |(index, output): (&u16, &u16)| horncurlew::Entry { index: *index, output: *output };
+            let entries: Vec<_> = indices.iter().zip(outputs).map(entry).collect();
+            horncurlew::locate(input.get(), kind_of(kind), polarity, &entries, own_readings, work.ours())
+        } else {
+            let kind = kind_of(kind);
+            let numbers = work.ours();
+            horncurlew::locate_lists(input.get(), kind, polarity, own_indices, own_outputs, own_readings, numbers)
+        };
         let ours = match ours {
             Ok(Location::Alone(circuit)) => Ok(Located::Alone(circuit)),
             Ok(Location::Several { lowest, count }) => Ok(Located::Several(lowest, count)),
             Ok(Location::Nowhere) => Ok(Located::Nowhere),
             Err(cause) => Err(refused(cause)),
         };
-        let theirs = match reference::locate(bytes, kind, polarity, indices, readings, work.theirs()) {
+        let theirs = match reference::locate(bytes, kind, polarity, indices, outputs, readings, work.theirs()) {
             Located::Refused(number) => Err(number),
             located => Ok(located),
         };
-        let call = || {
-            format!(
-                "locate of {bytes:02x?}, {kind:?}, polarity {polarity}, indices {indices:?}, readings {readings:?}, \
-                 room {room}"
-            )
-        };
+        let call = || format!("locate of {bytes:02x?}, {kind:?}, polarity {polarity}, {list:?}, room {room}");
         let number = self.answers(Operation::Locate, &ours, &theirs, &call);
         work.compare(number, &call);
         input.unchanged();
-        entries.unchanged();
-        read.unchanged();
+        lists.iter().for_each(Read::unchanged);
         ours.ok()
     }
 }

@@ -4,11 +4,13 @@ use crate::random::Random;
 
 pub const MOST_INPUTS: usize = 8;
 pub const MOST_GATES: usize = 64;
+pub const MOST_OUTPUTS: usize = 4;
 pub const MOST_FAULTS: usize = 63;
 
 /// A gate or a fault: its kind, line a and line b, by document 01's numbers.
 pub type Part = [u8; 3];
 
+const AND: u8 = 0;
 const XOR: u8 = 4;
 const XNOR: u8 = 5;
 const NOT: u8 = 6;
@@ -43,48 +45,82 @@ pub fn encode(fields: &[Field]) -> Vec<u8> {
 pub struct Circuit {
     pub inputs: usize,
     pub gates: Vec<Part>,
-    pub output: u8,
+    pub outputs: Vec<u8>,
+}
+
+/// The gate lines, or lines, that no gate reads yet, while a circuit is made gate by gate. Each gate to come can join
+/// two of them to one, and in the end no more may be left than there are outputs.
+struct Unread {
+    lines: Vec<u8>,
+    outputs: usize,
+}
+
+impl Unread {
+    /// Whether the next gate must read one of the lines, and whether it must join two, so many gates being left with
+    /// it.
+    fn must(&self, left: usize) -> (bool, bool) {
+        let most = left + self.outputs - 1;
+        (self.lines.len() >= most, self.lines.len() > most)
+    }
+
+    fn take(&mut self, random: &mut Random) -> u8 {
+        let place = random.below(self.lines.len());
+        self.lines.swap_remove(place)
+    }
+
+    /// A gate that reads two lines drives a third.
+    fn drive(&mut self, a: u8, b: u8, own: usize) {
+        self.lines.retain(|line| *line != a && *line != b);
+        self.lines.push(own as u8);
+    }
+
+    /// The outputs, in any order: what is left, and any other lines, some of them more than once.
+    fn outputs(self, random: &mut Random, lines: usize) -> Vec<u8> {
+        assert!(self.lines.len() <= self.outputs);
+        let mut outputs = self.lines;
+        while outputs.len() < self.outputs {
+            let repeats = !outputs.is_empty() && random.once_in(4);
+            let line = if repeats { random.pick(&outputs) } else { random.below(lines) as u8 };
+            outputs.push(line);
+        }
+        random.shuffle(&mut outputs);
+        outputs
+    }
 }
 
 impl Circuit {
-    /// A circuit of any gates that are allowed, none of them loose: the output is the last gate or, without gates, any
-    /// input.
-    pub fn any(random: &mut Random, inputs: usize, gates: usize) -> Circuit {
-        // The gate lines that no gate reads yet.
-        let mut unread: Vec<u8> = Vec::new();
+    /// A circuit of any gates that are allowed, none of them loose: what no gate reads is an output.
+    pub fn any(random: &mut Random, inputs: usize, gates: usize, outputs: usize) -> Circuit {
+        let mut unread = Unread { lines: Vec::new(), outputs };
         let mut parts = Vec::new();
         for q in 0..gates {
             let own = inputs + q;
             let [mut kind, mut a, mut b] = any_gate(random, own);
-            // Each gate to come can join two of them to one.
-            let left = gates - q;
-            let (must_read, must_join) = (unread.len() >= left, unread.len() > left);
+            let (must_read, must_join) = unread.must(gates - q);
             if must_read {
-                a = take(random, &mut unread);
+                a = unread.take(random);
             }
             if must_join {
-                b = take(random, &mut unread);
+                b = unread.take(random);
                 kind %= NOT;
             }
             if kind >= NOT {
                 b = a;
             }
-            unread.retain(|line| *line != a && *line != b);
-            unread.push(own as u8);
+            unread.drive(a, b, own);
             parts.push([kind, a, b]);
         }
-        assert!(unread.len() < 2);
-        let output = unread.pop().unwrap_or_else(|| random.below(inputs) as u8);
-        Circuit { inputs, gates: parts, output }
+        let outputs = unread.outputs(random, inputs + gates);
+        Circuit { inputs, gates: parts, outputs }
     }
 
-    /// The circuit with a loose gate: what reads one of its gates, the output too, reads a lower line instead. It has at
+    /// The circuit with a loose gate: what reads one of its gates, outputs too, reads a lower line instead. It has at
     /// least one gate.
     pub fn loosened(mut self, random: &mut Random) -> Circuit {
         let cut = self.inputs + random.below(self.gates.len());
         let other = random.below(cut) as u8;
         let read = self.gates.iter_mut().flat_map(|[_, a, b]| [a, b]);
-        for line in read.chain([&mut self.output]) {
+        for line in read.chain(&mut self.outputs) {
             if usize::from(*line) == cut {
                 *line = other;
             }
@@ -92,27 +128,23 @@ impl Circuit {
         self
     }
 
-    /// A circuit of which every input and every gate has a way to the output, the last gate. It has at least as many
-    /// gates as are needed to join the inputs.
-    pub fn whole(random: &mut Random, inputs: usize, gates: usize) -> Circuit {
+    /// A circuit of which every input and every gate has a way to an output. It has at least as many gates as are
+    /// needed to join the inputs.
+    pub fn whole(random: &mut Random, inputs: usize, gates: usize, outputs: usize) -> Circuit {
         assert!(gates >= inputs.max(2) - 1);
-        // The lines that no gate reads yet.
-        let mut unread: Vec<u8> = (0..inputs as u8).collect();
+        let mut unread = Unread { lines: (0..inputs as u8).collect(), outputs };
         let mut parts = Vec::new();
         for q in 0..gates {
             let own = inputs + q;
-            // Each gate to come can join two of them to one.
-            let left = gates - q;
-            let (must_read, must_join) = (unread.len() >= left, unread.len() > left);
-            let a = if must_read || random.once_in(2) { take(random, &mut unread) } else { random.below(own) as u8 };
-            let b = if must_join { take(random, &mut unread) } else { random.below(own) as u8 };
+            let (must_read, must_join) = unread.must(gates - q);
+            let a = if must_read || random.once_in(2) { unread.take(random) } else { random.below(own) as u8 };
+            let b = if must_join { unread.take(random) } else { random.below(own) as u8 };
             let kind = if a != b { two_line_kind(random) } else { NOT };
-            unread.retain(|line| *line != a && *line != b);
-            unread.push(own as u8);
+            unread.drive(a, b, own);
             parts.push([kind, a, b]);
         }
-        assert_eq!(unread.len(), 1);
-        Circuit { inputs, gates: parts, output: (inputs + gates - 1) as u8 }
+        let outputs = unread.outputs(random, inputs + gates);
+        Circuit { inputs, gates: parts, outputs }
     }
 
     pub fn lines(&self) -> usize {
@@ -125,7 +157,9 @@ impl Circuit {
         for [kind, a, b] in &self.gates {
             fields.extend([field(*kind, 3), field(*a, 7), field(*b, 7)]);
         }
-        fields.extend([field(self.output, 7), field(faults.len() as u8, 6)]);
+        fields.push(field(self.outputs.len() as u8 - 1, 2));
+        fields.extend(self.outputs.iter().map(|output| field(*output, 7)));
+        fields.push(field(faults.len() as u8, 6));
         for [kind, a, b] in faults {
             fields.extend([field(*kind, 2), field(*a, 7), field(*b, 7)]);
         }
@@ -146,8 +180,8 @@ impl Circuit {
         [random.pick(&STUCKS), line, line]
     }
 
-    /// As many faults as asked of which no two circuits, the good one among them, have equal tables; fewer if the
-    /// circuit has no more. By the reference's tables.
+    /// As many faults as asked of which no two circuits, the good one among them, have equal tables at all outputs;
+    /// fewer if the circuit has no more. By the reference's tables.
     pub fn distinct_faults(&self, random: &mut Random, most: usize) -> Vec<Part> {
         let mut all: Vec<Part> = Vec::new();
         for line in 0..self.lines() as u8 {
@@ -159,18 +193,22 @@ impl Circuit {
             }
         }
         random.shuffle(&mut all);
-        let table = |faults: &[Part], circuit| {
-            let mut table = [0; 32];
-            reference::table(&self.bytes(faults), circuit, &mut table).expect("a valid job");
-            table
+        let tables_of = |faults: &[Part], circuit| {
+            let bytes = self.bytes(faults);
+            let table = |output| {
+                let mut table = [0; 32];
+                reference::table(&bytes, circuit, output, &mut table).expect("a valid job");
+                table
+            };
+            (0..self.outputs.len()).map(table).collect::<Vec<_>>()
         };
-        let mut tables = vec![table(&[], 0)];
+        let mut tables = vec![tables_of(&[], 0)];
         let mut faults = Vec::new();
         for chunk in all.chunks(MOST_FAULTS) {
             for (place, fault) in chunk.iter().enumerate() {
-                let table = table(chunk, place + 1);
-                if faults.len() < most && !tables.contains(&table) {
-                    tables.push(table);
+                let faulty = tables_of(chunk, place + 1);
+                if faults.len() < most && !tables.contains(&faulty) {
+                    tables.push(faulty);
                     faults.push(*fault);
                 }
             }
@@ -196,14 +234,19 @@ fn two_line_kind(random: &mut Random) -> u8 {
     }
 }
 
-fn take(random: &mut Random, lines: &mut Vec<u8>) -> u8 {
-    let place = random.below(lines.len());
-    lines.swap_remove(place)
+/// One output as often as several.
+pub fn any_outputs(random: &mut Random) -> usize {
+    if random.once_in(2) {
+        1
+    } else {
+        2 + random.below(MOST_OUTPUTS - 1)
+    }
 }
 
-/// A valid job with the counts given; in one of four its faults may be alike.
+/// A valid job with the counts given and any number of outputs; in one of four its faults may be alike.
 pub fn any_job(random: &mut Random, inputs: usize, gates: usize, faults: usize) -> Vec<Field> {
-    let circuit = Circuit::any(random, inputs, gates);
+    let outputs = any_outputs(random);
+    let circuit = Circuit::any(random, inputs, gates, outputs);
     if random.once_in(4) {
         let faults: Vec<_> = (0..faults).map(|_| circuit.any_fault(random)).collect();
         return circuit.fields(&faults);
@@ -221,7 +264,8 @@ pub fn small_job(random: &mut Random) -> Vec<Field> {
 pub fn loose_job(random: &mut Random) -> Vec<Field> {
     let (inputs, gates, faults) = if random.once_in(10) { (MOST_INPUTS, MOST_GATES, MOST_FAULTS) } else { (5, 11, 9) };
     let (inputs, gates, faults) = (1 + random.below(inputs), 1 + random.below(gates), random.below(faults + 1));
-    let circuit = Circuit::any(random, inputs, gates).loosened(random);
+    let outputs = any_outputs(random);
+    let circuit = Circuit::any(random, inputs, gates, outputs).loosened(random);
     let faults: Vec<_> = (0..faults).map(|_| circuit.any_fault(random)).collect();
     circuit.fields(&faults)
 }
@@ -233,13 +277,37 @@ pub fn sized_job(random: &mut Random) -> Vec<Field> {
     any_job(random, inputs, gates, faults)
 }
 
-/// A job of the largest counts, without alike circuits and loose gates, found by trying.
-pub fn full_job(random: &mut Random, inputs: usize, gates: usize, faults: usize) -> Vec<u8> {
+/// A job of just these counts, without alike circuits and loose gates, found by trying.
+pub fn full_job(random: &mut Random, inputs: usize, gates: usize, outputs: usize, faults: usize) -> Vec<u8> {
     loop {
-        let circuit = Circuit::whole(random, inputs, gates);
+        let circuit = Circuit::whole(random, inputs, gates, outputs);
         let distinct = circuit.distinct_faults(random, faults);
         if distinct.len() == faults {
             return circuit.bytes(&distinct);
         }
     }
+}
+
+/// A job of 63 faults with a long signature: each of four outputs is the sum of all inputs and of some products of two,
+/// in a chain of its own. With a line of a chain stuck at 0 the first few are missing at that output, so that by RM
+/// each place in each chain has its own entry; and so has each output stuck at 1.
+pub fn chained_job(inputs: usize, products: usize) -> Vec<u8> {
+    let pairs = (1..inputs as u8).flat_map(|b| (0..b).map(move |a| [AND, a, b]));
+    let mut gates: Vec<Part> = pairs.take(products).collect();
+    let summands = (inputs + products) as u8;
+    let mut outputs = Vec::new();
+    for _ in 0..MOST_OUTPUTS {
+        let mut sum = 0;
+        for line in 1..summands {
+            gates.push([XOR, sum, line]);
+            sum = (inputs + gates.len() - 1) as u8;
+        }
+        outputs.push(sum);
+    }
+    let circuit = Circuit { inputs, gates, outputs };
+    let chains = (summands..circuit.lines() as u8).map(|line| [STUCKS[0], line, line]);
+    let outputs = circuit.outputs.iter().map(|line| [STUCKS[1], *line, *line]);
+    let products = (inputs as u8..summands).map(|line| [STUCKS[0], line, line]);
+    let faults: Vec<Part> = chains.chain(outputs).chain(products).take(MOST_FAULTS).collect();
+    circuit.bytes(&faults)
 }

@@ -1,7 +1,8 @@
 //! Every exported operation but the report against the reference, on seeded calls.
 
-use differential::compare::{Comparison, Kind, Operation, Purpose, NUMBERS};
-use differential::jobs::{any_job, encode, full_job, loose_job, sized_job, small_job, Circuit, Field};
+use differential::compare::{Comparison, Entry, Kind, List, Operation, Purpose, NUMBERS};
+use differential::jobs::{any_job, any_outputs, chained_job, encode, full_job, loose_job, sized_job, small_job};
+use differential::jobs::{Circuit, Field};
 use differential::random::Random;
 use reference::Located;
 
@@ -40,88 +41,125 @@ fn room(random: &mut Random, enough: usize) -> usize {
     }
 }
 
-/// The counts of a job that may be damaged: its own, or any.
-fn counts(random: &mut Random, bytes: &[u8]) -> (usize, usize) {
-    match reference::read(bytes) {
-        Ok(job) => (job.inputs.into(), job.fault_count.into()),
-        Err(_) => (1 + random.below(8), random.below(12)),
+/// The counts that say which arguments a job allows and how much memory it needs.
+#[derive(Clone, Copy)]
+struct Counts {
+    inputs: usize,
+    outputs: usize,
+    faults: usize,
+}
+
+impl Counts {
+    /// Those of a job that may be damaged: its own, or any.
+    fn new(random: &mut Random, bytes: &[u8]) -> Counts {
+        match reference::read(bytes) {
+            Ok(job) => {
+                Counts { inputs: job.inputs.into(), outputs: job.output_count.into(), faults: job.fault_count.into() }
+            }
+            Err(_) => Counts { inputs: 1 + random.below(8), outputs: 1 + random.below(4), faults: random.below(12) },
+        }
+    }
+
+    fn places(self) -> usize {
+        1 << self.inputs
+    }
+
+    fn work(self) -> usize {
+        (self.faults + 1) * self.outputs * self.places()
+    }
+
+    fn any_entry(self, random: &mut Random) -> Entry {
+        Entry { index: random.below(self.places()) as u16, output: random.below(self.outputs) as u16 }
+    }
+
+    /// What a circuit reads at entries, the work holding the spectra of all circuits.
+    fn readings(self, work: &[u16], circuit: usize, entries: &[Entry]) -> Vec<u16> {
+        let place = |entry: &Entry| {
+            (circuit * self.outputs + usize::from(entry.output)) * self.places() + usize::from(entry.index)
+        };
+        entries.iter().map(|entry| work[place(entry)]).collect()
     }
 }
 
-/// A list of indices and its readings, both mostly as they should be. `work` holds the spectra of all circuits.
-fn list(random: &mut Random, inputs: usize, work: &[u16]) -> (Vec<u16>, Vec<u16>) {
-    let places = 1 << inputs;
+/// The spectra of all circuits, if the bytes are a job and the polarity is one of it.
+fn spectra_of(counts: Counts, bytes: &[u8], kind: Kind, polarity: usize) -> Vec<u16> {
+    let mut work = vec![0; counts.work()];
+    reference::locate(bytes, kind, polarity, &[], &[], &[], &mut work);
+    work
+}
+
+/// A list of entries and its readings, all mostly as they should be. `work` holds the spectra of all circuits.
+fn list(random: &mut Random, counts: Counts, work: &[u16]) -> List {
     let length = match random.below(8) {
         0 => 0,
         1 => random.below(400),
         _ => random.below(9),
     };
-    let mut indices: Vec<u16> = (0..length).map(|_| random.below(places) as u16).collect();
-    let circuit = random.below((work.len() / places).max(1));
-    let reading = |index: &u16| work.get(circuit * places + usize::from(*index)).copied().unwrap_or(0);
-    let mut readings: Vec<u16> = indices.iter().map(reading).collect();
+    let entries: Vec<Entry> = (0..length).map(|_| counts.any_entry(random)).collect();
+    let circuit = random.below(counts.faults + 1);
+    let mut list = List::new(&entries, counts.readings(work, circuit, &entries));
     if length > 0 && random.once_in(5) {
         let last = length - 1;
-        readings[random.pick(&[0, last, last / 2])] ^= random.pick(&[1, 2, 0x100, 0x8000]);
+        list.readings[random.pick(&[0, last, last / 2])] ^= random.pick(&[1, 2, 0x100, 0x8000]);
     }
     if length > 0 && random.once_in(8) {
         let place = random.below(length);
-        indices[place] = beyond(random, places).min(0xffff) as u16;
+        list.indices[place] = beyond(random, counts.places()).min(0xffff) as u16;
     }
-    match random.below(16) {
-        0 => readings.push(random.below(3) as u16),
-        1 => drop(readings.pop()),
-        2 => indices.push(random.below(places) as u16),
-        3 => readings.clear(),
+    if length > 0 && random.once_in(8) {
+        let place = random.below(length);
+        list.outputs[place] = beyond(random, counts.outputs).min(0xffff) as u16;
+    }
+    match random.below(20) {
+        0 => list.readings.push(random.below(3) as u16),
+        1 => drop(list.readings.pop()),
+        2 => list.indices.push(random.below(counts.places()) as u16),
+        3 => drop(list.indices.pop()),
+        4 => list.outputs.push(random.below(counts.outputs) as u16),
+        5 => drop(list.outputs.pop()),
+        6 => list.readings.clear(),
+        7 => list.outputs.clear(),
         _ => {}
     }
-    (indices, readings)
+    list
 }
 
 /// Makes every call that takes a job, each once or twice, with random arguments.
 fn every_call(to: &mut Comparison, bytes: &[u8]) {
-    let (inputs, faults) = counts(&mut to.random, bytes);
-    let (places, enough) = (1 << inputs, (faults + 1) << inputs);
+    let counts = Counts::new(&mut to.random, bytes);
+    let places = counts.places();
     to.check(bytes);
     let lent = room(&mut to.random, bytes.len().max(1));
     to.rewrite(bytes, lent);
     for _ in 0..2 {
-        let circuit = around(&mut to.random, faults + 1);
+        let circuit = around(&mut to.random, counts.faults + 1);
+        let output = around(&mut to.random, counts.outputs);
         let lent = room(&mut to.random, usize::div_ceil(places, 8));
-        to.table(bytes, circuit, lent);
+        to.table(bytes, circuit, output, lent);
     }
     for purpose in PURPOSES {
         let kind = to.random.pick(&KINDS);
         let polarity = around(&mut to.random, places);
-        let lent = room(&mut to.random, enough);
+        let lent = room(&mut to.random, counts.work());
         let signature = to.choose(bytes, purpose, kind, polarity, lent);
-        if let (Some(indices), Purpose::Isolating) = (signature, purpose) {
-            name_alone(to, bytes, kind, polarity, &indices, faults, places);
+        if let (Some(signature), Purpose::Isolating) = (signature, purpose) {
+            name_alone(to, bytes, kind, polarity, &signature);
         }
     }
     let (kind, polarity) = (to.random.pick(&KINDS), around(&mut to.random, places));
-    let mut work = vec![0; enough];
-    reference::locate(bytes, kind, polarity, &[], &[], &mut work);
-    let (indices, readings) = list(&mut to.random, inputs, &work);
-    let lent = room(&mut to.random, enough);
-    to.locate(bytes, kind, polarity, &indices, &readings, lent);
+    let work = spectra_of(counts, bytes, kind, polarity);
+    let list = list(&mut to.random, counts, &work);
+    let lent = room(&mut to.random, counts.work());
+    to.locate(bytes, kind, polarity, &list, lent);
 }
 
 /// The readings of a circuit for an isolating signature name it alone.
-fn name_alone(
-    to: &mut Comparison,
-    bytes: &[u8],
-    kind: Kind,
-    polarity: usize,
-    indices: &[u16],
-    faults: usize,
-    places: usize,
-) {
-    let mut work = vec![0; (faults + 1) * places];
-    reference::locate(bytes, kind, polarity, &[], &[], &mut work);
-    let circuit = to.random.below(faults + 1);
-    let readings: Vec<u16> = indices.iter().map(|index| work[circuit * places + usize::from(*index)]).collect();
-    let located = to.locate(bytes, kind, polarity, indices, &readings, work.len());
+fn name_alone(to: &mut Comparison, bytes: &[u8], kind: Kind, polarity: usize, signature: &[Entry]) {
+    let counts = Counts::new(&mut to.random, bytes);
+    let work = spectra_of(counts, bytes, kind, polarity);
+    let circuit = to.random.below(counts.faults + 1);
+    let list = List::new(signature, counts.readings(&work, circuit, signature));
+    let located = to.locate(bytes, kind, polarity, &list, work.len());
     assert_eq!(located, Some(Located::Alone(circuit)));
 }
 
@@ -228,18 +266,18 @@ fn refused_by_reading(to: &mut Comparison, bytes: &[u8], number: u8) {
 #[test]
 fn loose_gates_in_turn() {
     let mut to = Comparison::new(12);
-    let (mut outputs_on_inputs, mut cut_jobs, mut no_outputs) = (0, 0, 0);
+    let (mut outputs_on_inputs, mut cut_jobs, mut later_outputs) = (0, 0, 0);
     for _ in 0..4000 {
-        let (inputs, gates) = (1 + to.random.below(8), 1 + to.random.below(64));
-        let tight = Circuit::any(&mut to.random, inputs, gates);
+        let (inputs, gates, outputs) = (1 + to.random.below(8), 1 + to.random.below(64), any_outputs(&mut to.random));
+        let tight = Circuit::any(&mut to.random, inputs, gates, outputs);
         let loose = tight.clone().loosened(&mut to.random);
         let faults: Vec<_> = (0..to.random.below(4)).map(|_| tight.any_fault(&mut to.random)).collect();
         assert!(reference::read(&tight.bytes(&faults)).is_ok());
         refused_by_reading(&mut to, &loose.bytes(&faults), 19);
-        outputs_on_inputs += usize::from(usize::from(loose.output) < inputs);
+        outputs_on_inputs += usize::from(loose.outputs.iter().any(|line| usize::from(*line) < inputs));
 
-        // The output line ends in the last of these bytes, and mostly the fault count doesn't.
-        let fault_count = 4 + 7 + 17 * gates + 7;
+        // The last output line ends in the last of these bytes, and mostly the fault count doesn't.
+        let fault_count = 4 + 7 + 17 * gates + 2 + 7 * outputs;
         let length = fault_count.div_ceil(8);
         if 8 * length < fault_count + 6 {
             refused_by_reading(&mut to, &tight.bytes(&faults)[..length], 1);
@@ -248,56 +286,183 @@ fn loose_gates_in_turn() {
         }
         refused_by_reading(&mut to, &loose.bytes(&faults)[..length - 1], 1);
 
-        let output = loose.lines() + to.random.below(128 - loose.lines());
-        let none = Circuit { output: output as u8, ..loose };
+        let mut none = loose.clone();
+        let place = to.random.below(outputs);
+        none.outputs[place] = (loose.lines() + to.random.below(128 - loose.lines())) as u8;
         refused_by_reading(&mut to, &none.bytes(&faults), 6);
-        no_outputs += 1;
+
+        // What the last output alone depends on is loose without it.
+        let mut fewer = tight.clone();
+        fewer.outputs.truncate(outputs.max(2) - 1);
+        every_call(&mut to, &fewer.bytes(&faults));
+        later_outputs += usize::from(reference::read(&fewer.bytes(&faults)) == Err(19));
     }
-    println!("outputs on inputs {outputs_on_inputs}, 19 before 1 {cut_jobs}, 6 before 19 {no_outputs}");
-    assert!([outputs_on_inputs, cut_jobs, no_outputs].iter().all(|count| *count > 0));
+    println!("outputs on inputs {outputs_on_inputs}, 19 before 1 {cut_jobs}, by a later output {later_outputs}");
+    assert!([outputs_on_inputs, cut_jobs, later_outputs].iter().all(|count| *count > 0));
+}
+
+/// Each output is judged as soon as it is read: the fields behind one that is no line don't matter, nor do the gates.
+#[test]
+fn outputs_in_turn() {
+    let mut to = Comparison::new(13);
+    let mut cut_jobs = [0; 4];
+    for turn in 0..2000 {
+        let (inputs, gates, outputs) = (1 + to.random.below(8), to.random.below(20), 1 + turn % 4);
+        let mut circuit = Circuit::any(&mut to.random, inputs, gates, outputs);
+        let faults: Vec<_> = (0..to.random.below(4)).map(|_| circuit.any_fault(&mut to.random)).collect();
+        let place = to.random.below(outputs);
+        // The bytes up to the end of an output, and without its last bit.
+        let ends = |place: usize| (4 + 7 + 17 * gates + 2 + 7 * (place + 1)).div_ceil(8);
+        let whole = circuit.bytes(&faults);
+        refused_by_reading(&mut to, &whole[..ends(place) - 1], 1);
+        let line = circuit.lines() + if turn % 8 < 4 { 0 } else { to.random.below(128 - circuit.lines()) };
+        circuit.outputs[place] = line as u8;
+        let bytes = circuit.bytes(&faults);
+        refused_by_reading(&mut to, &bytes, 6);
+        refused_by_reading(&mut to, &bytes[..ends(place)], 6);
+        refused_by_reading(&mut to, &bytes[..ends(place) - 1], 1);
+        if ends(outputs - 1) > ends(place) {
+            cut_jobs[place] += 1;
+        }
+    }
+    println!("6 before 1, by output {cut_jobs:?}");
+    assert!(cut_jobs[..3].iter().all(|count| *count > 0));
+}
+
+/// The arguments of tables and of locating, of which several can be refused: the first number counts.
+#[test]
+fn arguments_in_turn() {
+    let mut to = Comparison::new(14);
+    for _ in 0..3000 {
+        let bytes = encode(&small_job(&mut to.random));
+        let counts = Counts::new(&mut to.random, &bytes);
+        let (places, work) = (counts.places(), counts.work());
+        let (size, good) = (usize::div_ceil(places, 8), counts.any_entry(&mut to.random));
+        let (index, output) = (usize::from(good.index), usize::from(good.output));
+        let circuit = to.random.below(counts.faults + 1);
+        let (no_circuit, no_output) =
+            (beyond(&mut to.random, counts.faults + 1), beyond(&mut to.random, counts.outputs));
+        let (no_polarity, no_index) = (beyond(&mut to.random, places), beyond(&mut to.random, places));
+        for (circuit, output, lent, number) in [
+            (no_circuit, no_output, size - 1, 11),
+            (circuit, no_output, size - 1, 20),
+            (circuit, output, size - 1, 10),
+            (circuit, output, size, 0),
+        ] {
+            let before = to.tally.of(Operation::Table, number);
+            to.table(&bytes, circuit, output, lent);
+            assert_eq!(to.tally.of(Operation::Table, number), before + 1, "table's {number} of {bytes:02x?}");
+        }
+
+        let number = |value: usize| value.min(0xffff) as u16;
+        let (no_output, no_index) = (number(no_output), number(no_index));
+        let (index, output) = (number(index), number(output));
+        let polarity = to.random.below(places);
+        for (polarity, indices, outputs, readings, lent, number) in [
+            (no_polarity, vec![no_index], vec![no_output, 0], vec![], work - 1, 13),
+            // 16 for any index, though an output before it is too high.
+            (polarity, vec![index, no_index], vec![no_output], vec![], work - 1, 16),
+            (polarity, vec![index, index, no_index], vec![no_output, output, output], vec![0; 3], work, 16),
+            (polarity, vec![index], vec![output, no_output], vec![], work - 1, 20),
+            (polarity, vec![], vec![no_output], vec![0], work, 20),
+            (polarity, vec![index, index], vec![output, no_output], vec![0; 2], work, 20),
+            // 17 wherever one of the three is longer or shorter.
+            (polarity, vec![index], vec![output, output], vec![0], work - 1, 17),
+            (polarity, vec![index, index], vec![output], vec![0], work - 1, 17),
+            (polarity, vec![index], vec![output], vec![0; 2], work - 1, 17),
+            (polarity, vec![index], vec![output, output], vec![0; 2], work, 17),
+            (polarity, vec![index, index], vec![output], vec![0; 2], work, 17),
+            (polarity, vec![index, index], vec![output, output], vec![0], work, 17),
+            (polarity, vec![], vec![output], vec![], work, 17),
+            (polarity, vec![index], vec![output], vec![0], work - 1, 10),
+            (polarity, vec![index], vec![output], vec![0], work, 0),
+        ] {
+            let list = List { indices, outputs, readings };
+            let before = to.tally.of(Operation::Locate, number);
+            to.locate(&bytes, KINDS[circuit % 2], polarity, &list, lent);
+            assert_eq!(to.tally.of(Operation::Locate, number), before + 1, "{list:?} gives no {number}");
+        }
+    }
 }
 
 #[test]
 fn jobs_of_every_size() {
     let mut to = Comparison::new(2);
+    let (mut by_outputs, mut repeats, mut on_inputs) = ([0; 5], 0, 0);
     for _ in 0..4000 {
         let bytes = encode(&sized_job(&mut to.random));
         every_call(&mut to, &bytes);
+        let job = reference::read(&bytes).expect("a valid job");
+        let outputs = &job.outputs[..job.output_count.into()];
+        by_outputs[outputs.len()] += 1;
+        repeats += usize::from((1..outputs.len()).any(|place| outputs[..place].contains(&outputs[place])));
+        on_inputs += usize::from(job.gate_count > 0 && outputs.iter().any(|line| *line < job.inputs));
     }
+    println!("jobs by outputs {by_outputs:?}, with one twice {repeats}, with one on an input {on_inputs}");
+    assert!(by_outputs[1..].iter().chain([&repeats, &on_inputs]).all(|count| *count > 0));
 }
 
 /// The most inputs, gates and faults, no two circuits alike: all kinds and purposes, and every table.
 #[test]
 fn full_jobs() {
     let mut to = Comparison::new(3);
+    let mut entries_by_output = [0; 4];
     for turn in 0..100 {
-        let inputs = [8, 7, 6, 5][turn % 4];
-        let bytes = full_job(&mut to.random, inputs, 64, 63);
+        let (inputs, outputs) = ([8, 7, 6, 5][turn % 4], 1 + turn / 4 % 4);
+        let bytes = full_job(&mut to.random, inputs, 64, outputs, 63);
         for circuit in 0..64 {
-            to.table(&bytes, circuit, 32);
+            for output in 0..outputs {
+                to.table(&bytes, circuit, output, 32);
+            }
         }
         for kind in KINDS {
             for purpose in PURPOSES {
                 let polarity = to.random.below(1 << inputs);
-                let signature = to.choose(&bytes, purpose, kind, polarity, 64 << inputs).expect("distinct circuits");
+                let work = (64 * outputs) << inputs;
+                let signature = to.choose(&bytes, purpose, kind, polarity, work).expect("distinct circuits");
+                signature.iter().for_each(|entry| entries_by_output[usize::from(entry.output)] += 1);
                 if purpose == Purpose::Isolating {
-                    name_alone(&mut to, &bytes, kind, polarity, &signature, 63, 1 << inputs);
+                    name_alone(&mut to, &bytes, kind, polarity, &signature);
+                }
+            }
+        }
+    }
+    println!("entries by output {entries_by_output:?}");
+    assert!(entries_by_output.iter().all(|count| *count > 0));
+}
+
+/// Signatures near the most entries that there can be, by entries of every output.
+#[test]
+fn long_signatures() {
+    let mut to = Comparison::new(15);
+    for (inputs, products) in [(8, 7), (7, 8), (6, 8)] {
+        let bytes = chained_job(inputs, products);
+        for kind in KINDS {
+            for purpose in PURPOSES {
+                let signature = to.choose(&bytes, purpose, kind, 0, 256 << inputs).expect("distinct circuits");
+                if purpose == Purpose::Isolating {
+                    println!("{inputs} inputs, {kind:?}: {} entries", signature.len());
+                    assert!(signature.len() >= 40);
+                    name_alone(&mut to, &bytes, kind, 0, &signature);
                 }
             }
         }
     }
 }
 
-/// Every circuit, polarity, kind and purpose of small jobs.
+/// Every circuit, output, polarity, kind and purpose of small jobs.
 #[test]
 fn all_arguments_of_small_jobs() {
     let mut to = Comparison::new(4);
     for turn in 0..150 {
         let (inputs, gates, faults) = (1 + turn % 4, to.random.below(10), to.random.below(8));
         let bytes = encode(&any_job(&mut to.random, inputs, gates, faults));
-        let (places, enough) = (1 << inputs, (faults + 1) << inputs);
+        let counts = Counts::new(&mut to.random, &bytes);
+        let (places, enough) = (counts.places(), counts.work());
         for circuit in 0..faults + 2 {
-            to.table(&bytes, circuit, 2);
+            for output in 0..counts.outputs + 2 {
+                to.table(&bytes, circuit, output, 2);
+            }
         }
         for polarity in 0..places + 2 {
             for kind in KINDS {
@@ -305,8 +470,11 @@ fn all_arguments_of_small_jobs() {
                     to.choose(&bytes, purpose, kind, polarity, enough);
                 }
                 for index in 0..places as u16 + 2 {
-                    for reading in 0..3 {
-                        to.locate(&bytes, kind, polarity, &[index], &[reading], enough);
+                    for output in 0..counts.outputs as u16 + 1 {
+                        for reading in 0..3 {
+                            let list = List::new(&[Entry { index, output }], vec![reading]);
+                            to.locate(&bytes, kind, polarity, &list, enough);
+                        }
                     }
                 }
             }
@@ -377,27 +545,28 @@ fn every_length_of_lent_memory() {
     for turn in 0..40 {
         let fields = if turn < 3 { any_job(&mut to.random, 8, 64, 63) } else { small_job(&mut to.random) };
         let bytes = encode(&fields);
-        let (inputs, faults) = counts(&mut to.random, &bytes);
-        let enough = (faults + 1) << inputs;
+        let counts = Counts::new(&mut to.random, &bytes);
+        let enough = counts.work();
         for lent in 0..bytes.len() + 4 {
             to.rewrite(&bytes, lent);
         }
         for lent in 0..37 {
-            to.table(&bytes, faults, lent);
+            to.table(&bytes, counts.faults, counts.outputs - 1, lent);
             to.spectrum(8, &[0xa5; 32], Kind::Mrm, 3, 8 * lent);
             to.undo(8, &[0; 256], Kind::Mrm, 3, lent);
         }
+        let list = List { indices: vec![0, 1, 0], outputs: vec![0; 3], readings: vec![0, 1, 0] };
         // Of the largest work, the lengths near every power of two and near enough.
         let near = |lent: usize| enough.abs_diff(lent) < 4 || (lent & (lent + 1)) == 0 || (lent & (lent - 1)) == 0;
-        for lent in (0..enough + 5).filter(|lent| enough < 600 || near(*lent)) {
+        for lent in (0..enough + 5).filter(|lent| enough < 300 || near(*lent)) {
             for purpose in PURPOSES {
                 let kind = to.random.pick(&KINDS);
                 to.choose(&bytes, purpose, kind, 0, lent);
             }
-            to.locate(&bytes, Kind::Mrm, 0, &[0, 1, 0], &[0, 1, 0], lent);
+            to.locate(&bytes, Kind::Mrm, 0, &list, lent);
         }
         to.choose(&bytes, Purpose::Isolating, Kind::Mrm, 0, enough + 5000);
-        to.locate(&bytes, Kind::Rm, 0, &[1], &[1], enough + 5000);
+        to.locate(&bytes, Kind::Rm, 0, &list, enough + 5000);
     }
 }
 

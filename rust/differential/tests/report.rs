@@ -1,9 +1,8 @@
 //! The report's text against the reference's.
 
-use differential::jobs::{encode, full_job, loose_job, sized_job, small_job};
+use differential::jobs::{encode, full_job, loose_job, sized_job, small_job, Circuit};
 use differential::random::Random;
-use horncurlew::{NoReport, LARGEST_REPORT};
-use reference::{choose, Chosen, Kind, Purpose};
+use horncurlew::{NoReport, LARGEST_REPORT, MOST_WORK};
 
 /// The work that the report program lends.
 const PROGRAM_WORK: usize = 32768;
@@ -16,10 +15,7 @@ fn compare(random: &mut Random, bytes: &[u8], work: usize, room: usize) {
     let (mut expected_numbers, mut expected) = before;
     let mut expected_length = Err(NoReport::Room);
     if room >= LARGEST_REPORT {
-        let text = match choose(bytes, Purpose::Isolating, Kind::Mrm, 0, &mut expected_numbers[8..8 + work]) {
-            Chosen::Refused(number) => format!("refused {number}\n").into_bytes(),
-            _ => reference::report(bytes),
-        };
+        let text = reference::report_with(bytes, &mut expected_numbers[8..8 + work]);
         expected[8..8 + text.len()].copy_from_slice(&text);
         expected_length = Ok(text.len());
     }
@@ -52,7 +48,8 @@ fn texts_of_jobs() {
         let work = match turn % 7 {
             0 => random.below(200),
             1 => PROGRAM_WORK,
-            _ => 16384,
+            2 => MOST_WORK,
+            _ => 4096,
         };
         compare(&mut random, &bytes, work, LARGEST_REPORT + turn % 3);
     }
@@ -62,10 +59,41 @@ fn texts_of_jobs() {
 fn texts_of_full_jobs() {
     let mut random = Random::new(21);
     for inputs in [4, 5, 6, 7, 8] {
-        let bytes = full_job(&mut random, inputs, 64, 63);
+        for outputs in 1..=4 {
+            let bytes = full_job(&mut random, inputs, 64, outputs, 63);
+            let work = (64 * outputs) << inputs;
+            compare(&mut random, &bytes, PROGRAM_WORK, LARGEST_REPORT);
+            compare(&mut random, &bytes, work - 1, LARGEST_REPORT);
+            compare(&mut random, &bytes, work, LARGEST_REPORT);
+        }
+    }
+}
+
+/// The text with the work that the program lends.
+fn program_text(bytes: &[u8]) -> String {
+    let (mut work, mut out) = (vec![0; PROGRAM_WORK], [0; LARGEST_REPORT]);
+    let length = horncurlew::report(bytes, &mut work, &mut out).expect("room");
+    String::from_utf8_lossy(&out[..length]).into_owned()
+}
+
+/// The program's work is enough for 32 circuits of 8 inputs and four outputs, for 42 with three, for 64 with two, and
+/// for 64 of 7 inputs and four outputs. 10 comes before 15.
+#[test]
+fn texts_at_the_edge_of_the_work() {
+    let mut random = Random::new(23);
+    for (inputs, outputs, faults, enough) in
+        [(8, 4, 31, true), (8, 4, 32, false), (8, 3, 41, true), (8, 3, 42, false), (8, 2, 63, true), (7, 4, 63, true)]
+    {
+        let bytes = full_job(&mut random, inputs, 64, outputs, faults);
+        let text = program_text(&bytes);
+        let first_line = if enough { format!("inputs {inputs} gates 64 faults {faults}") } else { "refused 10".into() };
+        assert_eq!(text.lines().next(), Some(&first_line[..]), "{inputs} inputs, {outputs} outputs, {faults} faults");
+        assert_eq!(text.as_bytes(), reference::report(&bytes));
         compare(&mut random, &bytes, PROGRAM_WORK, LARGEST_REPORT);
-        compare(&mut random, &bytes, 64 << inputs, LARGEST_REPORT);
-        compare(&mut random, &bytes, (64 << inputs) - 1, LARGEST_REPORT);
+
+        let alike = Circuit { inputs, gates: Vec::new(), outputs: vec![0; outputs] }.bytes(&vec![[1, 0, 0]; faults]);
+        assert_eq!(program_text(&alike), if enough { "refused 15 1 2\n" } else { "refused 10\n" });
+        compare(&mut random, &alike, PROGRAM_WORK, LARGEST_REPORT);
     }
 }
 
@@ -75,7 +103,7 @@ fn too_little_room() {
     for turn in 0..60 {
         let bytes = encode(&small_job(&mut random));
         for room in [0, 1, 10, 100, random.below(LARGEST_REPORT), LARGEST_REPORT - 1] {
-            compare(&mut random, &bytes[..bytes.len() - turn % 2], 16384, room);
+            compare(&mut random, &bytes[..bytes.len() - turn % 2], PROGRAM_WORK, room);
             compare(&mut random, &bytes, 0, room);
         }
     }

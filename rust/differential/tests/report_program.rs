@@ -1,6 +1,6 @@
 //! The built report program: every byte that it prints, and what it says where it can't read or print.
 
-use differential::jobs::{full_job, Circuit};
+use differential::jobs::{chained_job, full_job, Circuit};
 use differential::random::Random;
 use reference::{Fault, Gate, Job, LONGEST_JOB, MOST_FAULTS, MOST_GATES};
 use std::fs::{self, File};
@@ -93,7 +93,8 @@ fn job(inputs: u8, gates: &[Gate], output: u8, faults: &[Fault]) -> Job {
         inputs,
         gate_count: gates.len() as u8,
         gates: [Gate::Buf(0); MOST_GATES],
-        output,
+        output_count: 1,
+        outputs: [output, 0, 0, 0],
         fault_count: faults.len() as u8,
         faults: [Fault::Stuck(0, false); MOST_FAULTS],
     };
@@ -107,9 +108,9 @@ fn rewritten(bytes: &[u8]) -> Vec<u8> {
     written(&reference::read(bytes).expect("a valid job"))
 }
 
-/// A job of the largest counts.
+/// A job of the largest counts for which the program's work is enough: one input less than the most.
 fn longest_job() -> Vec<u8> {
-    rewritten(&full_job(&mut Random::new(31), 8, 64, 63))
+    rewritten(&full_job(&mut Random::new(31), 7, 64, 4, 63))
 }
 
 #[test]
@@ -126,15 +127,15 @@ fn example_files() {
             count += 1;
         }
     }
-    assert!(count >= 6, "only {count} examples in {}", folder.display());
+    assert!(count >= 7, "only {count} examples in {}", folder.display());
 }
 
 #[test]
 fn document_examples() {
     expect(&[], b"refused 1\n", "P1");
-    expect(&[0x10, 0, 0], b"inputs 1 gates 0 faults 0\nsignature\n0\n", "P2");
-    expect(&[0x10, 0, 0, 0], b"refused 9\n", "P3");
-    expect(&[0x20, 0x20, 0x00, 0x10, 0x40, 0xc0, 0x00, 0x80], b"refused 15 0 1\n", "P10");
+    expect(&[0x10, 0, 0, 0], b"inputs 1 gates 0 faults 0\nsignature\n0\n", "P2");
+    expect(&[0x10, 0, 0, 0, 0], b"refused 9\n", "P3");
+    expect(&[0x20, 0x20, 0x00, 0x10, 0x10, 0x30, 0x00, 0x20], b"refused 15 0 1\n", "P10");
 }
 
 /// A pipe may give fewer bytes at a time than the program asks for.
@@ -142,7 +143,7 @@ fn document_examples() {
 fn input_in_pieces() {
     let bytes = longest_job();
     let text = reference::report(&bytes);
-    for (piece, milliseconds) in [(1, 1), (2, 0), (7, 2), (100, 50), (264, 50)] {
+    for (piece, milliseconds) in [(1, 1), (2, 0), (7, 2), (100, 50), (267, 50)] {
         let output = run_in_pieces(&bytes, piece, Duration::from_millis(milliseconds));
         assert_eq!(output, Output::new(&text, ""), "pieces of {piece} bytes");
     }
@@ -155,7 +156,7 @@ fn bytes_after_the_end() {
     assert_eq!(longest.len(), LONGEST_JOB);
     expect(&longest, &reference::report(&longest), "the longest job");
     expect(&longest[..LONGEST_JOB - 1], b"refused 1\n", "the longest job without its last byte");
-    for job in [longest, vec![0x10, 0, 0]] {
+    for job in [longest, vec![0x10, 0, 0, 0]] {
         for (byte, count) in [(0, 1), (1, 1), (0xff, 1), (0, 2), (0, 5000), (0, 1 << 20)] {
             let mut bytes = job.clone();
             bytes.resize(job.len() + count, byte);
@@ -221,8 +222,25 @@ fn output_that_fails() {
 fn full_jobs() {
     let mut random = Random::new(30);
     for inputs in [4, 6, 8] {
-        let bytes = full_job(&mut random, inputs, 64, 63);
-        expect(&bytes, &reference::report(&bytes), "a full job");
+        for outputs in 1..=4 {
+            let bytes = full_job(&mut random, inputs, 64, outputs, 63);
+            expect(&bytes, &reference::report(&bytes), "a full job");
+        }
+    }
+}
+
+/// The work is enough for 32 circuits of 8 inputs and four outputs, and for 64 of 7 inputs. 10 comes before 15.
+#[test]
+fn edge_of_the_work() {
+    let mut random = Random::new(32);
+    for (inputs, faults, enough) in [(8, 31, true), (8, 32, false), (7, 63, true)] {
+        let bytes = full_job(&mut random, inputs, 64, 4, faults);
+        let text = reference::report(&bytes);
+        assert_eq!(text == b"refused 10\n", !enough, "{inputs} inputs, {faults} faults");
+        expect(&bytes, &text, "distinct circuits at the edge of the work");
+        let alike = Circuit { inputs, gates: Vec::new(), outputs: vec![0; 4] }.bytes(&vec![[1, 0, 0]; faults]);
+        let text = if enough { "refused 15 1 2\n" } else { "refused 10\n" };
+        expect(&alike, text.as_bytes(), "alike circuits at the edge of the work");
     }
 }
 
@@ -243,10 +261,16 @@ fn long_report() {
     let text = reference::report(&bytes);
     assert!(text.len() > 2048, "only {} bytes", text.len());
     expect(&bytes, &text, "a long report");
+
+    let bytes = chained_job(7, 8);
+    let text = reference::report(&bytes);
+    assert!(text.len() > 6144, "only {} bytes", text.len());
+    expect(&bytes, &text, "a long report of four outputs");
 }
 
-/// Gates and faults, a kind and two lines each, whose report is the longest that a search has found; the last gate is
-/// the output, and every other is read. (That none is longer than `horncurlew::LARGEST_REPORT` is proved.)
+/// Gates and faults, a kind and two lines each, whose report is the longest that a search among jobs of one output has
+/// found; the last gate is the output, and every other is read. (That none is longer than `horncurlew::LARGEST_REPORT`
+/// is proved.)
 const SEARCHED_GATES: &str = "\
     4 1 6, 4 6 8, 0 9 1, 3 5 10, 5 5 2, 4 7 2, 3 11 2, 4 9 8, 4 12 2, 4 4 6, 2 13 7, 0 18 5, 5 11 2, 0 15 3, 3 15 3, \
     2 17 10, 5 14 19, 4 13 16, 3 25 17, 3 12 25, 4 22 18, 4 7 27, 4 23 14, 2 2 0, 2 27 3, 0 0 28, 4 21 30, 5 26 15, \
@@ -268,9 +292,9 @@ fn triples(text: &str) -> Vec<[u8; 3]> {
 
 #[test]
 fn longest_report() {
-    let circuit = Circuit { inputs: 8, gates: triples(SEARCHED_GATES), output: 71 };
+    let circuit = Circuit { inputs: 8, gates: triples(SEARCHED_GATES), outputs: vec![71] };
     let bytes = rewritten(&circuit.bytes(&triples(SEARCHED_FAULTS)));
     let text = reference::report(&bytes);
-    assert_eq!(text.len(), 10_002);
+    assert_eq!(text.len(), 10_102);
     expect(&bytes, &text, "the longest report");
 }

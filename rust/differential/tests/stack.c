@@ -16,7 +16,8 @@
 
 static uint8_t job[HORNCURLEW_LONGEST_JOB + 1], bytes[HORNCURLEW_LONGEST_JOB], text[HORNCURLEW_LARGEST_REPORT];
 static uint8_t table[HORNCURLEW_LARGEST_TABLE];
-static uint16_t work[HORNCURLEW_MOST_WORK], numbers[HORNCURLEW_MOST_COEFFICIENTS], listed[LISTED], readings[LISTED];
+static uint16_t work[HORNCURLEW_MOST_WORK], numbers[HORNCURLEW_MOST_COEFFICIENTS];
+static uint16_t indices[LISTED], outputs[LISTED], readings[LISTED];
 static size_t length;
 
 static void version(void) {
@@ -33,7 +34,8 @@ static void rewrite(void) {
 
 static void tables(void) {
     for (size_t circuit = 0; circuit < 65; circuit++)
-        horncurlew_table(job, length, circuit, table, sizeof table);
+        for (size_t output = 0; output <= HORNCURLEW_MOST_OUTPUTS; output++)
+            horncurlew_table(job, length, circuit, output, table, sizeof table);
 }
 
 static void spectrum(void) {
@@ -60,7 +62,7 @@ static void choose(void) {
 static void locate(void) {
     for (uint8_t kind = 0; kind < 2; kind++)
         for (size_t polarity = 0; polarity < 256; polarity += 51)
-            horncurlew_locate(job, length, kind, polarity, listed, LISTED, readings, LISTED, work,
+            horncurlew_locate(job, length, kind, polarity, indices, LISTED, outputs, LISTED, readings, LISTED, work,
                               HORNCURLEW_MOST_WORK);
 }
 
@@ -112,7 +114,8 @@ static size_t needed(void (*calls)(void)) {
 int main(void) {
     length = fread(job, 1, sizeof job, stdin);
     for (size_t i = 0; i < LISTED; i++) {
-        listed[i] = (uint16_t)(i % 2);
+        indices[i] = (uint16_t)(i % 2);
+        outputs[i] = 0;
         readings[i] = 0;
     }
     for (size_t i = 0; i < sizeof functions / sizeof *functions; i++)

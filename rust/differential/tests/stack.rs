@@ -1,6 +1,6 @@
 //! How much stack a call needs, against what include/horncurlew.h gives it.
 
-use differential::jobs::{any_job, encode, full_job, Circuit};
+use differential::jobs::{any_job, chained_job, encode, full_job};
 use differential::random::Random;
 use horncurlew::{choose, Kind, Purpose, MOST_WORK};
 use std::collections::BTreeMap;
@@ -34,26 +34,11 @@ fn measured(program: &Path, job: &[u8]) -> String {
     String::from_utf8(output.stdout).expect("text")
 }
 
-/// A job of which choosing takes a long list, going a call deeper for each entry: the sum of all inputs and of all
-/// products of two, with each product missing in turn, and each input stuck.
+/// A job of which choosing takes a long list, going a call deeper for each entry.
 fn long_signature() -> Vec<u8> {
-    const AND: u8 = 0;
-    const XOR: u8 = 4;
-    let mut gates: Vec<[u8; 3]> = Vec::new();
-    for b in 0..8 {
-        gates.extend((0..b).map(|a| [AND, a, b]));
-    }
-    let products = 8 + gates.len() as u8;
-    let mut sum = 0;
-    for line in 1..products {
-        gates.push([XOR, sum, line]);
-        sum = 7 + gates.len() as u8;
-    }
-    let mut faults: Vec<[u8; 3]> = (0..products).map(|line| [0, line, line]).collect();
-    faults.extend((0..8).map(|line| [1, line, line]));
-    let job = Circuit { inputs: 8, gates, output: sum }.bytes(&faults);
+    let job = chained_job(8, 7);
     let choice = choose(&job, Purpose::Isolating, Kind::Rm, 0, &mut [0; MOST_WORK]).expect("distinct circuits");
-    assert_eq!(choice.signature.entries().len(), 29);
+    assert_eq!((choice.counts.faults, choice.signature.entries().len()), (63, 60));
     job
 }
 
@@ -62,7 +47,10 @@ fn as_the_header_says() {
     let program = program();
     let mut random = Random::new(40);
     let mut jobs = vec![Vec::new(), long_signature()];
-    jobs.extend((0..12).map(|_| full_job(&mut random, 8, 64, 63)));
+    jobs.extend((0..12).map(|_| full_job(&mut random, 8, 64, 4, 63)));
+    jobs.push(full_job(&mut random, 8, 64, 1, 63));
+    // Of which the report's work is enough.
+    jobs.extend((0..4).map(|_| full_job(&mut random, 7, 64, 4, 63)));
     jobs.extend((0..4).map(|_| encode(&any_job(&mut random, 8, 64, 63))));
     jobs.push(jobs[2][..100].to_vec());
     let mut most: BTreeMap<String, (usize, usize)> = BTreeMap::new();

@@ -4,15 +4,15 @@
 //! version may have other structs and parameters, and is never called.
 //!
 //! Each passes the pointers and lengths of slices that it was lent for the call. They are valid and aligned, and a
-//! mutable one overlaps no other; this is all that the library asks. It keeps no pointer and has no state, so that calls
-//! from several threads are free of each other. The pointer of an empty slice points nowhere; the library doesn't follow
-//! it.
+//! mutable one overlaps no other; this is all that the library asks. It keeps no pointer and has no state, so that
+//! calls from several threads are free of each other. The pointer of an empty slice points nowhere; the library doesn't
+//! follow it.
 
-use crate::{Entry, OtherVersion};
+use crate::OtherVersion;
 use std::sync::OnceLock;
 
 /// The version of the library that this module was written for: HORNCURLEW_VERSION of the header.
-pub(crate) const VERSION: usize = 2;
+pub(crate) const VERSION: usize = 3;
 
 /// The most entries that a signature can have: one less than there are circuits.
 pub(crate) const MOST_ENTRIES: usize = 63;
@@ -22,6 +22,7 @@ pub(crate) struct JobAnswer {
     pub(crate) number: usize,
     pub(crate) inputs: usize,
     pub(crate) gates: usize,
+    pub(crate) outputs: usize,
     pub(crate) faults: usize,
 }
 
@@ -38,9 +39,11 @@ pub(crate) struct ChoiceAnswer {
     pub(crate) second: usize,
     pub(crate) inputs: usize,
     pub(crate) gates: usize,
+    pub(crate) outputs: usize,
     pub(crate) faults: usize,
     pub(crate) count: usize,
-    pub(crate) entries: [Entry; MOST_ENTRIES],
+    pub(crate) entry_indices: [u16; MOST_ENTRIES],
+    pub(crate) entry_outputs: [u16; MOST_ENTRIES],
 }
 
 #[repr(C)]
@@ -64,6 +67,7 @@ extern "C" {
         bytes: *const u8,
         bytes_length: usize,
         circuit: usize,
+        output: usize,
         out: *mut u8,
         out_length: usize,
     ) -> usize;
@@ -99,8 +103,10 @@ extern "C" {
         bytes_length: usize,
         kind: u8,
         polarity: usize,
-        indices: *const Entry,
+        indices: *const u16,
         indices_length: usize,
+        outputs: *const u16,
+        outputs_length: usize,
         readings: *const u16,
         readings_length: usize,
         work: *mut u16,
@@ -149,9 +155,9 @@ impl Library {
     }
 
     #[inline]
-    pub(crate) fn table(self, bytes: &[u8], circuit: usize, out: &mut [u8]) -> usize {
+    pub(crate) fn table(self, bytes: &[u8], circuit: usize, output: usize, out: &mut [u8]) -> usize {
         // SAFETY: as in `check`.
-        unsafe { horncurlew_table(bytes.as_ptr(), bytes.len(), circuit, out.as_mut_ptr(), out.len()) }
+        unsafe { horncurlew_table(bytes.as_ptr(), bytes.len(), circuit, output, out.as_mut_ptr(), out.len()) }
     }
 
     #[inline]
@@ -175,16 +181,18 @@ impl Library {
     }
 
     #[inline]
+    #[allow(clippy::too_many_arguments, reason = "the library's own")]
     pub(crate) fn locate(
         self,
         bytes: &[u8],
         kind: u8,
         polarity: usize,
-        indices: &[Entry],
+        indices: &[u16],
+        outputs: &[u16],
         readings: &[u16],
         work: &mut [u16],
     ) -> LocationAnswer {
-        // SAFETY: as in `check`; an `Entry` is a `u16` in memory.
+        // SAFETY: as in `check`.
         unsafe {
             horncurlew_locate(
                 bytes.as_ptr(),
@@ -193,6 +201,8 @@ impl Library {
                 polarity,
                 indices.as_ptr(),
                 indices.len(),
+                outputs.as_ptr(),
+                outputs.len(),
                 readings.as_ptr(),
                 readings.len(),
                 work.as_mut_ptr(),
@@ -215,7 +225,7 @@ mod tests {
     use super::*;
     use crate::{NoChoice, NoReport, Refusal};
 
-    const JOB_A: [u8; 12] = [0x20, 0x20, 0x00, 0x10, 0x41, 0x80, 0x00, 0x20, 0x00, 0x20, 0x40, 0x80];
+    const JOB_A: [u8; 12] = [0x20, 0x20, 0x00, 0x10, 0x10, 0x60, 0x00, 0x08, 0x00, 0x08, 0x10, 0x20];
 
     fn compared() -> Library {
         library().expect("the version that this module was written for")
@@ -229,7 +239,7 @@ mod tests {
         for version in [0, VERSION - 1, VERSION + 1, VERSION + 256, usize::MAX] {
             let other = compare(version).expect_err("another version");
             let words = format!(
-                "the linked library horncurlew has version {version}, and this crate is for version 2: \
+                "the linked library horncurlew has version {version}, and this crate is for version 3: \
                  build both from one source"
             );
             assert_eq!(other.to_string(), words);
@@ -247,7 +257,7 @@ mod tests {
     fn numbers_of_kinds_and_purposes() {
         let choice = |purpose, kind| {
             let answer = compared().choose(&JOB_A, purpose, kind, 0, &mut [0; 16]);
-            answer.entries.map(Entry::index)[..3].to_vec()
+            answer.entry_indices[..3].to_vec()
         };
         assert_eq!(choice(0, 0), [1, 2, 3]);
         for other in [1, 2, 3, 0x80, 0xff] {
@@ -262,29 +272,34 @@ mod tests {
             let mut table = [0; 1];
             assert_eq!(compared().undo(3, &out, other, 5, &mut table), 0);
             assert_eq!(table, [0x5d]);
-            assert_eq!(compared().locate(&JOB_A, other, 0, &[Entry::new(3)], &[2], &mut [0; 16]).agreeing, 2);
+            assert_eq!(compared().locate(&JOB_A, other, 0, &[3], &[0], &[2], &mut [0; 16]).agreeing, 2);
         }
     }
 
     /// What a call doesn't use of its answer is 0.
     #[test]
     fn unused_places() {
+        let unused = |answer: &ChoiceAnswer| {
+            let after = |entries: &[u16; MOST_ENTRIES]| entries[answer.count..].iter().all(|number| *number == 0);
+            after(&answer.entry_indices) && after(&answer.entry_outputs)
+        };
         let refused = compared().check(&[0x20, 0x20, 0x00]);
-        assert_eq!((refused.number, refused.inputs, refused.gates, refused.faults), (1, 0, 0, 0));
+        assert_eq!((refused.number, refused.inputs, refused.gates), (1, 0, 0));
+        assert_eq!((refused.outputs, refused.faults), (0, 0));
         let refused = compared().rewrite(&JOB_A, &mut [0; 11]);
         assert_eq!((refused.number, refused.length), (10, 0));
         for (polarity, number) in [(0, 0), (4, 13)] {
             let answer = compared().choose(&JOB_A, 0, 1, polarity, &mut [0; 16]);
             assert_eq!((answer.number, answer.first, answer.second), (number, 0, 0));
-            assert!(answer.entries[answer.count..].iter().all(|entry| entry.index() == 0));
+            assert!(unused(&answer));
         }
-        let alike = compared().choose(&[0x20, 0x20, 0x00, 0x10, 0x40, 0xc0, 0x00, 0x80], 0, 1, 0, &mut [0; 8]);
+        let alike = compared().choose(&[0x20, 0x20, 0x00, 0x10, 0x10, 0x30, 0x00, 0x20], 0, 1, 0, &mut [0; 8]);
         assert_eq!((alike.number, alike.first, alike.second, alike.count), (15, 0, 1, 0));
-        assert_eq!((alike.inputs, alike.gates, alike.faults), (0, 0, 0));
-        assert!(alike.entries.iter().all(|entry| entry.index() == 0));
-        let nowhere = compared().locate(&JOB_A, 1, 0, &[Entry::new(3)], &[3], &mut [0; 16]);
+        assert_eq!((alike.inputs, alike.gates, alike.outputs, alike.faults), (0, 0, 0, 0));
+        assert!(unused(&alike));
+        let nowhere = compared().locate(&JOB_A, 1, 0, &[3], &[0], &[3], &mut [0; 16]);
         assert_eq!((nowhere.number, nowhere.agreeing, nowhere.circuit), (0, 0, 0));
-        let refused = compared().locate(&JOB_A, 1, 0, &[Entry::new(4)], &[3], &mut [0; 16]);
+        let refused = compared().locate(&JOB_A, 1, 0, &[4], &[0], &[3], &mut [0; 16]);
         assert_eq!((refused.number, refused.agreeing, refused.circuit), (16, 0, 0));
     }
 }

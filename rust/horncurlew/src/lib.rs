@@ -1,23 +1,24 @@
 //! Reed-Muller signatures of a small logic circuit: the proved library, in Rust's own terms.
 //!
-//! A job holds a circuit of 1 to 8 inputs and up to 64 gates, and a list of up to 63 single faults. From its bytes come
-//! the packed tables of the good circuit and of the faulty ones, their spectra, a signature of few coefficients that
-//! tells the circuits apart, and the circuit that gives some readings. N is 2 to the power of the number of inputs.
-//! Circuit 0 is the good one, circuit c the one with fault c.
+//! A job holds a circuit of 1 to 8 inputs, up to 64 gates and 1 to 4 outputs, and a list of up to 63 single faults.
+//! From its bytes come the packed tables of the good circuit and of the faulty ones at each output, their spectra, a
+//! signature of few coefficients that tells the circuits apart, and the circuit that gives some readings. N is 2 to the
+//! power of the number of inputs. Circuit 0 is the good one, circuit c the one with fault c. Outputs number from 0 in
+//! the order of the job's fields.
 //!
 //! The library allocates nothing: the caller lends the memory for results. A refused call writes nothing, but for
 //! circuits that are alike, which leaves the spectra in the lent work. A call that succeeds writes the places that it
 //! names from the start, and no others. Numbers of refusals are the documents'; [`Refusal`] names them.
 //!
 //! ```
-//! use horncurlew::{choose, locate, Kind, Location, Purpose};
+//! use horncurlew::{choose, locate, Entry, Kind, Location, Purpose};
 //!
 //! // An AND of two inputs; its line 0 stuck at 0, line 0 at 1, line 1 at 1.
-//! let job = [0x20, 0x20, 0x00, 0x10, 0x41, 0x80, 0x00, 0x20, 0x00, 0x20, 0x40, 0x80];
+//! let job = [0x20, 0x20, 0x00, 0x10, 0x10, 0x60, 0x00, 0x08, 0x00, 0x08, 0x10, 0x20];
 //! let mut work = [0; 16];
 //! let choice = choose(&job, Purpose::Isolating, Kind::Mrm, 0, &mut work).unwrap();
 //! let entries = choice.signature.entries();
-//! assert_eq!(entries.iter().map(|entry| entry.index()).collect::<Vec<_>>(), [1, 3]);
+//! assert_eq!(entries, [Entry { index: 1, output: 0 }, Entry { index: 3, output: 0 }]);
 //! assert_eq!(locate(&job, Kind::Mrm, 0, entries, &[0, 2], &mut work), Ok(Location::Alone(2)));
 //! ```
 
@@ -37,18 +38,20 @@ use std::fmt;
 pub const VERSION: usize = ffi::VERSION;
 /// The most bytes of stack that a call needs, as measured.
 pub const STACK: usize = 65536;
-/// The most bytes of stack that a call other than [`choose`], [`locate`] and [`report`] needs.
+/// The most bytes of stack that a call other than [`choose`], [`locate`], [`locate_lists`] and [`report`] needs.
 pub const SMALL_STACK: usize = 16384;
 /// The most bytes that a job can have.
-pub const LONGEST_JOB: usize = 265;
-/// The most work that choosing and locating need: 64 circuits of 256 coefficients.
-pub const MOST_WORK: usize = 16384;
+pub const LONGEST_JOB: usize = 268;
+/// The most outputs that a job can have.
+pub const MOST_OUTPUTS: usize = 4;
+/// The most work that choosing and locating need: 64 circuits of 4 outputs of 256 coefficients.
+pub const MOST_WORK: usize = 65536;
 /// The most bytes that a packed table can have.
 pub const LARGEST_TABLE: usize = 32;
 /// The most entries that a signature can have.
 pub const MOST_ENTRIES: usize = ffi::MOST_ENTRIES;
 /// The room that a report needs, whatever the job.
-pub const LARGEST_REPORT: usize = 16610;
+pub const LARGEST_REPORT: usize = 16736;
 
 /// The kinds of spectrum.
 #[derive(Clone, Copy, Debug, PartialEq, Eq, Hash)]
@@ -77,24 +80,24 @@ pub struct Counts {
     pub inputs: usize,
     /// The number of gates, up to 64.
     pub gates: usize,
+    /// The number of outputs, 1 to 4.
+    pub outputs: usize,
     /// The number of faults, up to 63.
     pub faults: usize,
 }
 
-/// What a signature names: the coefficient of an index.
+/// What a signature names: the coefficient of an index at an output. Its text is index, colon, output.
 #[derive(Clone, Copy, Debug, PartialEq, Eq, Hash)]
-#[repr(transparent)]
-pub struct Entry(u16);
+pub struct Entry {
+    /// The index of the coefficient. One that isn't below N is refused where it is used.
+    pub index: u16,
+    /// The number of the output, from 0. One that the job doesn't have is refused where it is used.
+    pub output: u16,
+}
 
-impl Entry {
-    /// The entry of an index. One that isn't below N is refused where it is used.
-    pub const fn new(index: u16) -> Entry {
-        Entry(index)
-    }
-
-    /// The index of the coefficient.
-    pub const fn index(self) -> u16 {
-        self.0
+impl fmt::Display for Entry {
+    fn fmt(&self, f: &mut fmt::Formatter) -> fmt::Result {
+        write!(f, "{}:{}", self.index, self.output)
     }
 }
 
@@ -122,7 +125,7 @@ impl Eq for Signature {}
 
 impl fmt::Debug for Signature {
     fn fmt(&self, f: &mut fmt::Formatter) -> fmt::Result {
-        f.debug_list().entries(self.entries().iter().map(|entry| entry.index())).finish()
+        f.debug_list().entries(self.entries()).finish()
     }
 }
 
@@ -138,7 +141,7 @@ pub struct Choice {
 /// Why no signature was chosen.
 #[derive(Clone, Copy, Debug, PartialEq, Eq)]
 pub enum NoChoice {
-    /// The first pair of circuits, of those to be told apart, that have equal tables (refusal 15).
+    /// The first pair of circuits, of those to be told apart, that have equal tables at every output (refusal 15).
     Alike(usize, usize),
     /// Any other refusal.
     Refused(Refusal),
@@ -247,12 +250,12 @@ fn done(number: usize) -> Result<(), Refusal> {
 
 /// Whether the bytes are a job, and its counts.
 ///
-/// Refusals, as the fields come: at each field 1 if the bytes end in it; 2; 3; for each gate 4, 5; 6; 19, before the
-/// fault count is read; for each fault 7, 8; after the last field 9.
+/// Refusals, as the fields come: at each field 1 if the bytes end in it; 2; 3; for each gate 4, 5; for each output 6,
+/// before the next is read; 19, before the fault count is read; for each fault 7, 8; after the last field 9.
 pub fn check(bytes: &[u8]) -> Result<Counts, Refusal> {
     let answer = ffi::library()?.check(bytes);
     done(answer.number)?;
-    Ok(Counts { inputs: answer.inputs, gates: answer.gates, faults: answer.faults })
+    Ok(Counts { inputs: answer.inputs, gates: answer.gates, outputs: answer.outputs, faults: answer.faults })
 }
 
 /// Reads a job and writes it again; the number of bytes written. At most [`LONGEST_JOB`] are needed.
@@ -264,11 +267,11 @@ pub fn rewrite(bytes: &[u8], out: &mut [u8]) -> Result<usize, Refusal> {
     Ok(answer.length)
 }
 
-/// Writes the packed table of a circuit of a job: (N + 7) / 8 bytes.
+/// Writes the packed table of a circuit of a job at an output: (N + 7) / 8 bytes.
 ///
-/// Refusals, the first that applies: reading's, as in [`check`]; 11; 10.
-pub fn table(bytes: &[u8], circuit: usize, out: &mut [u8]) -> Result<(), Refusal> {
-    done(ffi::library()?.table(bytes, circuit, out))
+/// Refusals, the first that applies: reading's, as in [`check`]; 11; 20; 10.
+pub fn table(bytes: &[u8], circuit: usize, output: usize, out: &mut [u8]) -> Result<(), Refusal> {
+    done(ffi::library()?.table(bytes, circuit, output, out))
 }
 
 /// Writes the N coefficients of a packed table.
@@ -285,8 +288,9 @@ pub fn undo(inputs: usize, numbers: &[u16], kind: Kind, polarity: usize, out: &m
     done(ffi::library()?.undo(inputs, numbers, kind as u8, polarity, out))
 }
 
-/// Chooses the signature of a job. `work` then holds coefficient j of circuit c at place c x N + j, for circuits that
-/// are alike too. It needs N places a circuit, at most [`MOST_WORK`].
+/// Chooses the signature of a job. `work` then holds coefficient j of circuit c at an output at place ((c x outputs) +
+/// output) x N + j, for circuits that are alike too. It needs N places for each output of each circuit, at most
+/// [`MOST_WORK`].
 ///
 /// Refusals, the first that applies: reading's, as in [`check`]; 13; 10; 15, which is [`NoChoice::Alike`] with its
 /// pair.
@@ -300,27 +304,56 @@ pub fn choose(
     let answer = ffi::library()?.choose(bytes, purpose as u8, kind as u8, polarity, work);
     match answer.number {
         0 => Ok(Choice {
-            counts: Counts { inputs: answer.inputs, gates: answer.gates, faults: answer.faults },
-            signature: Signature { count: answer.count, entries: answer.entries },
+            counts: Counts {
+                inputs: answer.inputs,
+                gates: answer.gates,
+                outputs: answer.outputs,
+                faults: answer.faults,
+            },
+            signature: Signature {
+                count: answer.count,
+                entries: std::array::from_fn(|place| Entry {
+                    index: answer.entry_indices[place],
+                    output: answer.entry_outputs[place],
+                }),
+            },
         }),
         15 => Err(NoChoice::Alike(answer.first, answer.second)),
         number => Err(NoChoice::Refused(Refusal::of(number))),
     }
 }
 
-/// Finds the circuits whose coefficients at the indices are the readings, in order. Indices may come in any order and
+/// Finds the circuits whose coefficients at the entries are the readings, in order. Entries may come in any order and
 /// more than once. `work` then holds the spectra as in [`choose`], and needs the same room.
 ///
-/// Refusals, the first that applies: reading's, as in [`check`]; 13; 16; 17; 10.
+/// The library takes indices and outputs apart: this call makes the two lists of the entries, on the heap, and
+/// [`locate_lists`] takes them as they are.
+///
+/// Refusals, the first that applies: reading's, as in [`check`]; 13; 16, for any of the entries; 20, for any of the
+/// entries; 17; 10.
 pub fn locate(
     bytes: &[u8],
     kind: Kind,
     polarity: usize,
-    indices: &[Entry],
+    entries: &[Entry],
     readings: &[u16],
     work: &mut [u16],
 ) -> Result<Location, Refusal> {
-    let answer = ffi::library()?.locate(bytes, kind as u8, polarity, indices, readings, work);
+    let (indices, outputs): (Vec<u16>, Vec<u16>) = entries.iter().map(|entry| (entry.index, entry.output)).unzip();
+    locate_lists(bytes, kind, polarity, &indices, &outputs, readings, work)
+}
+
+/// Does as [`locate`] with entries whose indices and outputs are in two lists; 17 also where these differ in length.
+pub fn locate_lists(
+    bytes: &[u8],
+    kind: Kind,
+    polarity: usize,
+    indices: &[u16],
+    outputs: &[u16],
+    readings: &[u16],
+    work: &mut [u16],
+) -> Result<Location, Refusal> {
+    let answer = ffi::library()?.locate(bytes, kind as u8, polarity, indices, outputs, readings, work);
     done(answer.number)?;
     Ok(match answer.agreeing {
         0 => Location::Nowhere,

@@ -18,7 +18,7 @@ pub enum Refusal {
     GateLine,
     /// A NOT or BUF with line b other than line a.
     OneLine,
-    /// The output line isn't one of the circuit's.
+    /// An output line isn't one of the circuit's.
     Output,
     /// A stuck line isn't one of the circuit's, or a bridged line is no input.
     FaultLine,
@@ -36,17 +36,18 @@ pub enum Refusal {
     Polarity,
     /// Not exactly N numbers, or numbers that are no table's spectrum.
     NoSpectrum,
-    /// Two circuits that must be told apart have equal tables.
+    /// Two circuits that must be told apart have equal tables at every output.
     Alike,
     /// An index isn't below N.
     Index,
-    /// The numbers of indices and of readings differ.
+    /// The numbers of indices, of outputs and of readings differ.
     Readings,
     /// A record with more than 63 faults. No call here takes a record.
     Faults,
-    /// A loose gate: its line is neither the output nor read, directly or through other gates, by the gate that drives
-    /// the output.
+    /// A loose gate: its line is no output, and no output depends on it.
     LooseGate,
+    /// An output number that is too high, or a record whose outputs aren't 1 to 4. No call here takes a record.
+    OutputNumber,
     /// A number that this crate doesn't know.
     Unknown(usize),
     /// The library wasn't called: its version isn't the one that this crate was written for.
@@ -54,8 +55,8 @@ pub enum Refusal {
 }
 
 impl Refusal {
-    /// The documents' refusals, 1 to 19.
-    pub const ALL: [Refusal; 19] = [
+    /// The documents' refusals, 1 to 20.
+    pub const ALL: [Refusal; 20] = [
         Refusal::BytesEnd,
         Refusal::Inputs,
         Refusal::Gates,
@@ -75,6 +76,7 @@ impl Refusal {
         Refusal::Readings,
         Refusal::Faults,
         Refusal::LooseGate,
+        Refusal::OutputNumber,
     ];
 
     /// The refusal of a number that isn't 0.
@@ -109,7 +111,7 @@ impl fmt::Display for Refusal {
             Refusal::Gates => "there are more than 64 gates",
             Refusal::GateLine => "a gate reads a line that isn't below its own",
             Refusal::OneLine => "a NOT or BUF has a line b other than its line a",
-            Refusal::Output => "the output line isn't one of the circuit's",
+            Refusal::Output => "an output line isn't one of the circuit's",
             Refusal::FaultLine => "a stuck line isn't one of the circuit's, or a bridged line is no input",
             Refusal::FaultPair => "a stuck fault has two lines, or a bridge has a line a that isn't below its line b",
             Refusal::Spare => "a spare bit is 1, or a byte follows the end",
@@ -120,12 +122,10 @@ impl fmt::Display for Refusal {
             Refusal::NoSpectrum => "the numbers are no table's spectrum",
             Refusal::Alike => "two circuits are alike",
             Refusal::Index => "an index isn't below the number of coefficients",
-            Refusal::Readings => "the numbers of indices and of readings differ",
+            Refusal::Readings => "the numbers of indices, of outputs and of readings differ",
             Refusal::Faults => "there are more than 63 faults",
-            Refusal::LooseGate => {
-                "a gate is loose: its line is neither the output nor read, directly or through other gates, by the \
-                 output's gate"
-            }
+            Refusal::LooseGate => "a gate is loose: its line is no output, and no output depends on it",
+            Refusal::OutputNumber => "an output number is too high",
             Refusal::Unknown(_) => "a number that this crate doesn't know",
             Refusal::Version(other) => return other.fmt(f),
         };
@@ -151,7 +151,7 @@ mod tests {
 
     #[test]
     fn unknown_numbers() {
-        for number in [0, 20, 21, 255, 256, 256 + 9, usize::MAX] {
+        for number in [0, 21, 22, 255, 256, 256 + 9, usize::MAX] {
             let refusal = Refusal::of(number);
             assert_eq!(refusal, Refusal::Unknown(number));
             assert_eq!(refusal.number(), Some(number));

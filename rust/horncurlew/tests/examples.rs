@@ -1,14 +1,16 @@
-//! Document 01's examples through the safe crate, and a loose gate.
+//! Document 01's examples through the safe crate, a loose gate, and the same circuit with two outputs.
 
 use horncurlew::Kind::{Mrm, Rm};
 use horncurlew::Purpose::{Detecting, Isolating};
-use horncurlew::{check, choose, locate, rewrite, spectrum, table, undo};
-use horncurlew::{Choice, Counts, Entry, Kind, Location, NoChoice, Purpose, Refusal};
+use horncurlew::{check, choose, locate, locate_lists, rewrite, spectrum, table, undo};
+use horncurlew::{Counts, Entry, Kind, Location, NoChoice, Purpose, Refusal};
 
-const JOB_A: [u8; 12] = [0x20, 0x20, 0x00, 0x10, 0x41, 0x80, 0x00, 0x20, 0x00, 0x20, 0x40, 0x80];
-const JOB_P10: [u8; 8] = [0x20, 0x20, 0x00, 0x10, 0x40, 0xc0, 0x00, 0x80];
+const JOB_A: [u8; 12] = [0x20, 0x20, 0x00, 0x10, 0x10, 0x60, 0x00, 0x08, 0x00, 0x08, 0x10, 0x20];
+const JOB_P10: [u8; 8] = [0x20, 0x20, 0x00, 0x10, 0x10, 0x30, 0x00, 0x20];
 /// Job A with an OR of its inputs that nobody reads: examples/loose_gate.job.
-const LOOSE: [u8; 14] = [0x20, 0x40, 0x00, 0x12, 0x00, 0x08, 0x20, 0xc0, 0x00, 0x10, 0x00, 0x10, 0x20, 0x40];
+const LOOSE: [u8; 14] = [0x20, 0x40, 0x00, 0x12, 0x00, 0x08, 0x08, 0x30, 0x00, 0x04, 0x00, 0x04, 0x08, 0x10];
+/// The same with the OR as its second output.
+const TWO: [u8; 15] = [0x20, 0x40, 0x00, 0x12, 0x00, 0x0a, 0x08, 0x18, 0x60, 0x00, 0x08, 0x00, 0x08, 0x10, 0x20];
 
 fn spectrum_of(inputs: usize, table: &[u8], kind: Kind, polarity: usize) -> Vec<u16> {
     let mut out = vec![0; 1 << inputs];
@@ -16,20 +18,23 @@ fn spectrum_of(inputs: usize, table: &[u8], kind: Kind, polarity: usize) -> Vec<
     out
 }
 
-fn indices(choice: &Choice) -> Vec<u16> {
-    choice.signature.entries().iter().map(|entry| entry.index()).collect()
+/// Each entry as index, colon, output.
+fn signature(bytes: &[u8], purpose: Purpose, kind: Kind) -> Vec<String> {
+    let choice = choose(bytes, purpose, kind, 0, &mut [0; 32]).unwrap();
+    choice.signature.entries().iter().map(Entry::to_string).collect()
 }
 
-fn signature(bytes: &[u8], purpose: Purpose, kind: Kind) -> Vec<u16> {
-    indices(&choose(bytes, purpose, kind, 0, &mut [0; 16]).unwrap())
+/// Entries at output 0.
+fn entries(indices: &[u16]) -> Vec<Entry> {
+    indices.iter().map(|index| Entry { index: *index, output: 0 }).collect()
 }
 
 #[test]
 fn p1_to_p3_reading() {
     assert_eq!(check(&[]), Err(Refusal::BytesEnd));
-    assert_eq!(check(&[0x10, 0, 0]), Ok(Counts { inputs: 1, gates: 0, faults: 0 }));
-    assert_eq!(signature(&[0x10, 0, 0], Isolating, Mrm), []);
-    assert_eq!(check(&[0x10, 0, 0, 0]), Err(Refusal::Spare));
+    assert_eq!(check(&[0x10, 0, 0, 0]), Ok(Counts { inputs: 1, gates: 0, outputs: 1, faults: 0 }));
+    assert_eq!(signature(&[0x10, 0, 0, 0], Isolating, Mrm), [""; 0]);
+    assert_eq!(check(&[0x10, 0, 0, 0, 0]), Err(Refusal::Spare));
 }
 
 #[test]
@@ -59,12 +64,12 @@ fn p7_undoing() {
 
 #[test]
 fn p8_p9_choosing() {
-    assert_eq!(signature(&JOB_A, Isolating, Rm), [1, 2, 3]);
-    assert_eq!(signature(&JOB_A, Isolating, Mrm), [1, 3]);
-    assert_eq!(signature(&JOB_A, Detecting, Rm), [3]);
+    assert_eq!(signature(&JOB_A, Isolating, Rm), ["1:0", "2:0", "3:0"]);
+    assert_eq!(signature(&JOB_A, Isolating, Mrm), ["1:0", "3:0"]);
+    assert_eq!(signature(&JOB_A, Detecting, Rm), ["3:0"]);
     let mut work = [7; 20];
     let choice = choose(&JOB_A, Isolating, Mrm, 0, &mut work).unwrap();
-    assert_eq!(choice.counts, Counts { inputs: 2, gates: 1, faults: 3 });
+    assert_eq!(choice.counts, Counts { inputs: 2, gates: 1, outputs: 1, faults: 3 });
     assert_eq!(work, [0, 0, 0, 1, 0, 0, 0, 0, 0, 0, 1, 2, 0, 1, 0, 2, 7, 7, 7, 7]);
 }
 
@@ -85,19 +90,45 @@ fn tables_and_rewriting() {
     assert_eq!(out[..12], JOB_A);
     assert_eq!(out[12..], [0xff; 2]);
     for (circuit, expected) in [0x10, 0x00, 0x30, 0x50].into_iter().enumerate() {
-        assert_eq!(table(&JOB_A, circuit, &mut out), Ok(()));
+        assert_eq!(table(&JOB_A, circuit, 0, &mut out), Ok(()));
         assert_eq!(out[0], expected);
     }
-    assert_eq!(table(&JOB_A, 4, &mut out), Err(Refusal::Circuit));
+    assert_eq!(table(&JOB_A, 4, 1, &mut out), Err(Refusal::Circuit));
+    assert_eq!(table(&JOB_A, 3, 1, &mut out), Err(Refusal::OutputNumber));
+}
+
+#[test]
+fn two_outputs() {
+    assert_eq!(check(&TWO), Ok(Counts { inputs: 2, gates: 2, outputs: 2, faults: 3 }));
+    let mut out = [0; 1];
+    for (circuit, expected) in [[0x10, 0x70], [0x00, 0x30], [0x30, 0xf0], [0x50, 0xf0]].iter().enumerate() {
+        for (output, entries) in expected.iter().enumerate() {
+            assert_eq!(table(&TWO, circuit, output, &mut out), Ok(()));
+            assert_eq!(out, [*entries]);
+        }
+    }
+    assert_eq!(signature(&TWO, Isolating, Mrm), ["1:0", "1:1"]);
+    let mut work = [0; 32];
+    let second = |index| Entry { index, output: 1 };
+    assert_eq!(locate(&TWO, Mrm, 0, &[second(1)], &[0], &mut work), Ok(Location::Alone(1)));
+    assert_eq!(locate(&TWO, Mrm, 0, &[second(3)], &[4], &mut work), Ok(Location::Several { lowest: 2, count: 2 }));
+    assert_eq!(locate(&JOB_A, Mrm, 0, &[second(1)], &[0], &mut work), Err(Refusal::OutputNumber));
+    // The lists by themselves, of different lengths.
+    let mut lists = |indices: &[u16], outputs: &[u16], readings: &[u16]| {
+        locate_lists(&TWO, Mrm, 0, indices, outputs, readings, &mut work)
+    };
+    assert_eq!(lists(&[3, 1], &[1, 1], &[2, 0]), Ok(Location::Alone(1)));
+    assert_eq!(lists(&[3, 1], &[1], &[2, 0]), Err(Refusal::Readings));
+    assert_eq!(lists(&[3], &[1, 1], &[2]), Err(Refusal::Readings));
+    assert_eq!(lists(&[3, 1], &[1, 1], &[2]), Err(Refusal::Readings));
+    assert_eq!(lists(&[3], &[1, 2], &[2]), Err(Refusal::OutputNumber));
+    assert_eq!(lists(&[3, 4], &[2], &[2]), Err(Refusal::Index));
 }
 
 #[test]
 fn locating() {
     let mut work = [0; 16];
-    let mut at = |indices: &[u16], readings: &[u16]| {
-        let entries: Vec<_> = indices.iter().copied().map(Entry::new).collect();
-        locate(&JOB_A, Mrm, 0, &entries, readings, &mut work)
-    };
+    let mut at = |indices: &[u16], readings: &[u16]| locate(&JOB_A, Mrm, 0, &entries(indices), readings, &mut work);
     assert_eq!(at(&[1, 3], &[0, 2]), Ok(Location::Alone(2)));
     assert_eq!(at(&[3, 3, 1], &[2, 2, 1]), Ok(Location::Alone(3)));
     assert_eq!(at(&[3], &[2]), Ok(Location::Several { lowest: 2, count: 2 }));
@@ -113,7 +144,7 @@ fn empty_slices() {
     let (mut no_bytes, mut no_numbers): ([u8; 0], [u16; 0]) = ([], []);
     assert_eq!(rewrite(&[], &mut no_bytes), Err(Refusal::BytesEnd));
     assert_eq!(rewrite(&JOB_A, &mut no_bytes), Err(Refusal::Memory));
-    assert_eq!(table(&JOB_A, 0, &mut no_bytes), Err(Refusal::Memory));
+    assert_eq!(table(&JOB_A, 0, 0, &mut no_bytes), Err(Refusal::Memory));
     assert_eq!(spectrum(3, &[], Rm, 0, &mut no_numbers), Err(Refusal::Table));
     assert_eq!(spectrum(3, &[0x5d], Rm, 0, &mut no_numbers), Err(Refusal::Memory));
     assert_eq!(undo(1, &[], Rm, 0, &mut no_bytes), Err(Refusal::NoSpectrum));

@@ -10,17 +10,28 @@
 #define COUNT(array) (sizeof(array) / sizeof *(array))
 #define TOLD(...) told(COUNT(((size_t[]){__VA_ARGS__})), (size_t[]){__VA_ARGS__})
 
-enum { JOB = 22, WORK = 40 };
+enum { JOB = 27, WORK = 112 };
 
-/* Two jobs of 3 inputs, 5 gates and 4 faults, no two circuits alike; and the first with its fault 2 as fault 4 too. */
-static const uint8_t first_job[JOB] = {0x30, 0xb8, 0x10, 0x2c, 0x08, 0x14, 0x02, 0x10, 0x85, 0x07, 0x03,
-                                       0x00, 0x0e, 0x20, 0x18, 0x30, 0x14, 0x28, 0x00, 0x04, 0x00, 0x08};
-static const uint8_t second_job[JOB] = {0x30, 0xb4, 0x08, 0x0a, 0x08, 0x0a, 0x02, 0x0a, 0x04, 0x06, 0x02,
-                                        0x86, 0x0e, 0x26, 0x00, 0x0c, 0x00, 0x10, 0x08, 0x10, 0x0c, 0x18};
-static const uint8_t alike_job[JOB] = {0x30, 0xb8, 0x10, 0x2c, 0x08, 0x14, 0x02, 0x10, 0x85, 0x07, 0x03,
-                                       0x00, 0x0e, 0x20, 0x18, 0x30, 0x14, 0x28, 0x00, 0x00, 0x14, 0x28};
-/* The text of the first job's spectra by MRM at polarity 2. */
-#define SPECTRA " | 1 1 2 2 2 2 3 4 0 1 0 2 0 2 0 4 1 1 2 2 1 2 2 4 1 2 2 4 2 4 3 6 1 1 2 3 1 1 2 3"
+/* Two jobs of 3 inputs, 5 gates, 2 outputs and 6 faults, no two circuits alike; and the first with its fault 2 as
+ * fault 6 too. */
+static const uint8_t first_job[JOB] = {0x30, 0xa8, 0x08, 0x02, 0x04, 0x00, 0x02, 0x0c, 0x82,
+                                       0x01, 0x03, 0x04, 0x42, 0x87, 0x18, 0x0e, 0x1f, 0x00,
+                                       0x04, 0x00, 0x01, 0x0c, 0x1b, 0x02, 0x08, 0x06, 0x0c};
+static const uint8_t second_job[JOB] = {0x30, 0xb0, 0x08, 0x24, 0x04, 0x1c, 0x06, 0x11, 0x85,
+                                        0x00, 0x41, 0x01, 0x43, 0x07, 0x18, 0x04, 0x0b, 0x00,
+                                        0x04, 0x08, 0x10, 0x0c, 0x1a, 0x00, 0x04, 0x00, 0x00};
+static const uint8_t alike_job[JOB] = {0x30, 0xa8, 0x08, 0x02, 0x04, 0x00, 0x02, 0x0c, 0x82,
+                                       0x01, 0x03, 0x04, 0x42, 0x87, 0x18, 0x0e, 0x1f, 0x00,
+                                       0x04, 0x00, 0x01, 0x0c, 0x1b, 0x02, 0x0b, 0x00, 0x04};
+/* The text of the first job's spectra by MRM at polarity 2, a circuit a line, but for the last circuit. */
+#define FIRST_SPECTRA " | 1 1 1 1 2 2 2 2 1 1 1 1 1 1 2 2" \
+                      " 1 1 1 1 2 2 2 2 0 0 0 0 0 0 0 0" \
+                      " 0 0 0 0 0 0 0 0 0 0 0 0 0 0 1 1" \
+                      " 1 2 1 2 2 4 2 4 1 2 1 2 1 2 2 4" \
+                      " 1 1 1 1 2 2 2 2 0 0 1 1 0 0 2 2" \
+                      " 1 1 1 1 2 2 3 3 0 0 0 0 0 0 0 0"
+#define SPECTRA FIRST_SPECTRA " 0 0 0 0 0 0 0 0 1 1 1 1 1 1 2 2"
+#define ALIKE_SPECTRA FIRST_SPECTRA " 0 0 0 0 0 0 0 0 0 0 0 0 0 0 1 1"
 
 static char texts[2][40000];
 static size_t calls;
@@ -67,12 +78,12 @@ static void other(const char *exchanged, const char *found, const char *without)
 
 static char *check(const uint8_t *bytes, size_t length) {
     horncurlew_job_answer answer = horncurlew_check(bytes, length);
-    return TOLD(answer.number, answer.inputs, answer.gates, answer.faults);
+    return TOLD(answer.number, answer.inputs, answer.gates, answer.outputs, answer.faults);
 }
 
 static void test_check(void) {
-    same("check", check(first_job, JOB), "0 3 5 4");
-    same("check refused", check(first_job, 5), "1 0 0 0");
+    same("check", check(first_job, JOB), "0 3 5 2 6");
+    same("check refused", check(first_job, 5), "1 0 0 0 0");
 }
 
 /* The bytes, and the bytes that stand in the lent memory before. */
@@ -84,23 +95,26 @@ static char *rewrite(const uint8_t *bytes, const uint8_t *before, size_t room) {
 }
 
 static void test_rewrite(void) {
-    same("rewrite", rewrite(first_job, second_job, JOB), "0 22 | 30 b8 10 2c");
-    same("rewrite refused", rewrite(first_job, second_job, JOB - 1), "10 0 | 30 b4 08 0a");
+    same("rewrite", rewrite(first_job, second_job, JOB), "0 27 | 30 a8 08 02");
+    same("rewrite refused", rewrite(first_job, second_job, JOB - 1), "10 0 | 30 b0 08 24");
     other("bytes and out", rewrite(first_job, second_job, JOB), rewrite(second_job, first_job, JOB));
 }
 
-static char *table(const uint8_t *bytes, size_t circuit, const uint8_t *before, size_t room) {
+static char *table(const uint8_t *bytes, size_t circuit, size_t output, const uint8_t *before, size_t room) {
     uint8_t out[JOB];
     memcpy(out, before, JOB);
-    size_t number = horncurlew_table(bytes, JOB, circuit, out, room);
+    size_t number = horncurlew_table(bytes, JOB, circuit, output, out, room);
     return bytes_too(TOLD(number), out, 3);
 }
 
 static void test_table(void) {
-    same("table", table(first_job, 3, second_job, JOB), "0 | f3 b4 08");
-    same("table refused", table(first_job, 5, second_job, JOB), "11 | 30 b4 08");
-    other("bytes and out", table(first_job, 3, second_job, JOB), table(second_job, 3, first_job, JOB));
-    other("circuit and out_length", table(first_job, 3, second_job, 1), table(first_job, 1, second_job, 3));
+    same("table", table(first_job, 3, 1, second_job, JOB), "0 | 3c b0 08");
+    same("table of no circuit", table(first_job, 7, 2, second_job, JOB), "11 | 30 b0 08");
+    same("table at no output", table(first_job, 6, 2, second_job, 0), "20 | 30 b0 08");
+    other("bytes and out", table(first_job, 3, 1, second_job, JOB), table(second_job, 3, 1, first_job, JOB));
+    other("circuit and output", table(first_job, 1, 0, second_job, JOB), table(first_job, 0, 1, second_job, JOB));
+    other("circuit and out_length", table(first_job, 3, 0, second_job, 1), table(first_job, 1, 0, second_job, 3));
+    other("output and out_length", table(first_job, 3, 0, second_job, 1), table(first_job, 3, 1, second_job, 0));
 }
 
 static char *spectrum(size_t inputs, uint8_t kind, size_t polarity) {
@@ -136,52 +150,64 @@ static void test_undo(void) {
 static char *choose(const uint8_t *bytes, uint8_t purpose, uint8_t kind, size_t polarity, size_t room) {
     uint16_t work[WORK] = {0};
     horncurlew_choice_answer answer = horncurlew_choose(bytes, JOB, purpose, kind, polarity, work, room);
-    char *text = TOLD(answer.number, answer.first, answer.second, answer.inputs, answer.gates, answer.faults,
-                      answer.count, answer.entries[0], answer.entries[1], answer.entries[2],
-                      answer.entries[HORNCURLEW_MOST_ENTRIES - 1]);
+    char *text = TOLD(answer.number, answer.first, answer.second, answer.inputs, answer.gates, answer.outputs,
+                      answer.faults, answer.count);
+    numbers_too(text, answer.entry_indices, 5);
+    numbers_too(text, &answer.entry_indices[HORNCURLEW_MOST_ENTRIES - 1], 1);
+    numbers_too(text, answer.entry_outputs, 5);
+    numbers_too(text, &answer.entry_outputs[HORNCURLEW_MOST_ENTRIES - 1], 1);
     return numbers_too(text, work, room);
 }
 
 static void test_choose(void) {
-    same("choose", choose(first_job, 0, 1, 2, WORK), "0 0 0 3 5 4 2 4 3 0 0" SPECTRA);
+    same("choose", choose(first_job, 0, 1, 2, WORK), "0 0 0 3 5 2 6 4 | 0 1 2 6 0 | 0 | 1 0 1 0 0 | 0" SPECTRA);
     same("choose alike", choose(alike_job, 0, 1, 2, WORK),
-         "15 2 4 0 0 0 0 0 0 0 0"
-         " | 1 1 2 2 2 2 3 4 0 1 0 2 0 2 0 4 1 1 2 2 1 2 2 4 1 2 2 4 2 4 3 6 1 1 2 2 1 2 2 4");
-    same("choose refused", choose(first_job, 0, 1, 2, 2), "10 0 0 0 0 0 0 0 0 0 0 | 0 0");
+         "15 2 6 0 0 0 0 0 | 0 0 0 0 0 | 0 | 0 0 0 0 0 | 0" ALIKE_SPECTRA);
+    same("choose refused", choose(first_job, 0, 1, 2, 2), "10 0 0 0 0 0 0 0 | 0 0 0 0 0 | 0 | 0 0 0 0 0 | 0 | 0 0");
     other("purpose and kind", choose(first_job, 0, 1, 2, WORK), choose(first_job, 1, 0, 2, WORK));
     other("purpose and polarity", choose(first_job, 0, 1, 2, WORK), choose(first_job, 2, 1, 0, WORK));
     other("kind and polarity", choose(first_job, 0, 1, 2, WORK), choose(first_job, 0, 2, 1, WORK));
 }
 
-static char *locate(uint8_t kind, size_t polarity, uint16_t index, uint16_t reading) {
+static char *locate(uint8_t kind, size_t polarity, uint16_t index, uint16_t output, uint16_t reading) {
     uint16_t work[WORK] = {7};
     horncurlew_location_answer answer =
-        horncurlew_locate(first_job, JOB, kind, polarity, &index, 1, &reading, 1, work, WORK);
-    return numbers_too(TOLD(answer.number, answer.agreeing, answer.circuit), work, WORK);
+        horncurlew_locate(first_job, JOB, kind, polarity, &index, 1, &output, 1, &reading, 1, work, WORK);
+    char *text = TOLD(answer.number, answer.agreeing, answer.circuit);
+    return answer.number == 0 ? numbers_too(text, work, WORK) : numbers_too(text, work, 4);
 }
 
 static void test_locate(void) {
-    same("locate", locate(0, 2, 6, 0),
-         "0 3 1 | 1 1 0 0 0 0 1 0 0 1 0 0 0 0 0 0 1 1 0 0 1 0 0 0 1 0 0 0 0 0 1 0 1 1 0 1 1 1 0 1");
-    same("locate alone", locate(1, 2, 7, 6), "0 1 3" SPECTRA);
-    same("locate refused", locate(1, 2, 8, 6),
-         "16 0 0 | 7 0 0 0 0 0 0 0 0 0 0 0 0 0 0 0 0 0 0 0 0 0 0 0 0 0 0 0 0 0 0 0 0 0 0 0 0 0 0 0");
-    other("kind and polarity", locate(1, 2, 7, 6), locate(2, 1, 7, 6));
-    other("indices and readings", locate(1, 2, 7, 6), locate(1, 2, 6, 7));
+    same("locate", locate(0, 2, 2, 1, 0),
+         "0 3 1 | 1 1 1 1 0 0 0 0 1 1 1 1 1 1 0 0 1 1 1 1 0 0 0 0 0 0 0 0 0 0 0 0 0 0 0 0 0 0 0 0 0 0 0 0 0 0 1 1"
+         " 1 0 1 0 0 0 0 0 1 0 1 0 1 0 0 0 1 1 1 1 0 0 0 0 0 0 1 1 0 0 0 0 1 1 1 1 0 0 1 1 0 0 0 0 0 0 0 0"
+         " 0 0 0 0 0 0 0 0 1 1 1 1 1 1 0 0");
+    same("locate alone", locate(1, 2, 7, 1, 4), "0 1 3" SPECTRA);
+    same("locate at no index", locate(1, 2, 8, 2, 4), "16 0 0 | 7 0 0 0");
+    same("locate at no output", locate(1, 2, 7, 2, 4), "20 0 0 | 7 0 0 0");
+    other("kind and polarity", locate(1, 2, 7, 1, 4), locate(2, 1, 7, 1, 4));
+    other("indices and outputs", locate(1, 2, 0, 1, 1), locate(1, 2, 1, 0, 1));
+    other("indices and readings", locate(1, 2, 7, 1, 4), locate(1, 2, 4, 1, 7));
+    other("outputs and readings", locate(1, 2, 7, 1, 0), locate(1, 2, 7, 0, 1));
 }
 
-/* The lists and the work are of one type, and each is known by its length. */
-static void test_locate_lengths(void) {
-    static const uint16_t indices[2] = {4, 3}, readings[3] = {2, 4, 0};
+/* The number and the agreeing circuits by the first so many entries of each list. The lists and the work are of one
+ * type, and each is known by its length. */
+static char *locate_lengths(size_t indices_length, size_t outputs_length, size_t readings_length, size_t work_length) {
+    static const uint16_t indices[3] = {6, 1, 0}, outputs[3] = {0, 1, 0}, readings[3] = {2, 2, 0};
     uint16_t work[WORK];
-    horncurlew_location_answer answer =
-        horncurlew_locate(first_job, JOB, 1, 2, indices, 2, readings, 2, work, WORK);
-    same("locate by two", numbers_too(TOLD(answer.number, answer.agreeing, answer.circuit), work, WORK),
-         "0 1 3" SPECTRA);
-    answer = horncurlew_locate(first_job, JOB, 1, 2, indices, 2, readings, 3, work, WORK);
-    same("locate with a reading more", TOLD(answer.number, answer.agreeing, answer.circuit), "17 0 0");
-    answer = horncurlew_locate(first_job, JOB, 1, 2, indices, 2, readings, 2, work, WORK - 1);
-    same("locate with less work", TOLD(answer.number, answer.agreeing, answer.circuit), "10 0 0");
+    horncurlew_location_answer answer = horncurlew_locate(first_job, JOB, 1, 2, indices, indices_length, outputs,
+                                                          outputs_length, readings, readings_length, work, work_length);
+    char *text = TOLD(answer.number, answer.agreeing, answer.circuit);
+    return answer.number == 0 ? numbers_too(text, work, WORK) : text;
+}
+
+static void test_locate_lengths(void) {
+    same("locate by two", locate_lengths(2, 2, 2, WORK), "0 1 3" SPECTRA);
+    same("locate with an index more", locate_lengths(3, 2, 2, WORK), "17 0 0");
+    same("locate with an output more", locate_lengths(2, 3, 2, WORK), "17 0 0");
+    same("locate with a reading more", locate_lengths(2, 2, 3, WORK), "17 0 0");
+    same("locate with less work", locate_lengths(2, 2, 2, WORK - 1), "10 0 0");
 }
 
 static char *report(const uint8_t *bytes, const uint8_t *before, size_t work_length, size_t room) {
@@ -194,17 +220,17 @@ static char *report(const uint8_t *bytes, const uint8_t *before, size_t work_len
 
 static void test_report(void) {
     enum { ROOM = HORNCURLEW_LARGEST_REPORT };
-    same("report", report(first_job, second_job, WORK, ROOM), "1 70 | 69 6e 70 75 74 73 20 33 20 67 | 1 1 2 2");
+    same("report", report(first_job, second_job, WORK, ROOM), "1 122 | 69 6e 70 75 74 73 20 33 20 67 | 0 0 1 1");
     same("report refused", report(first_job, second_job, WORK - 1, ROOM),
          "1 11 | 72 65 66 75 73 65 64 20 31 30 | 7 7 0 0");
     same("report without room", report(first_job, second_job, WORK, ROOM - 1),
-         "0 0 | 30 b4 08 0a 08 0a 02 0a 04 06 | 7 7 0 0");
+         "0 0 | 30 b0 08 24 04 1c 06 11 85 00 | 7 7 0 0");
     other("bytes and out", report(first_job, second_job, WORK, ROOM), report(second_job, first_job, WORK, ROOM));
 }
 
 int main(void) {
-    same("version", TOLD(horncurlew_version()), "2");
-    same("the header's version", TOLD(HORNCURLEW_VERSION), "2");
+    same("version", TOLD(horncurlew_version()), "3");
+    same("the header's version", TOLD(HORNCURLEW_VERSION), "3");
     test_check();
     test_rewrite();
     test_table();

@@ -62,6 +62,7 @@ fn numbers() {
         ("VERSION", horncurlew::VERSION),
         ("STACK", horncurlew::STACK),
         ("SMALL_STACK", horncurlew::SMALL_STACK),
+        ("MOST_OUTPUTS", horncurlew::MOST_OUTPUTS),
         ("LONGEST_JOB", horncurlew::LONGEST_JOB),
         ("LARGEST_TABLE", horncurlew::LARGEST_TABLE),
         ("MOST_WORK", horncurlew::MOST_WORK),
@@ -79,5 +80,5 @@ fn numbers() {
 fn report() {
     let output = run("header_report");
     assert!(output.status.success());
-    assert_eq!(output.stdout, b"inputs 2 gates 1 faults 3\nsignature 1 3\n0 0 1\n1 0 0\n2 0 2\n3 1 2\n");
+    assert_eq!(output.stdout, b"inputs 2 gates 1 faults 3\nsignature 1:0 3:0\n0 0 1\n1 0 0\n2 0 2\n3 1 2\n");
 }

@@ -4,11 +4,11 @@
 #include <stdio.h>
 
 int main(void) {
-    static const uint8_t job[12] = {0x20, 0x20, 0x00, 0x10, 0x41, 0x80, 0x00, 0x20, 0x00, 0x20, 0x40, 0x80};
+    static const uint8_t job[12] = {0x20, 0x20, 0x00, 0x10, 0x10, 0x60, 0x00, 0x08, 0x00, 0x08, 0x10, 0x20};
     static uint16_t work[HORNCURLEW_MOST_WORK];
     static uint8_t text[HORNCURLEW_LARGEST_REPORT];
 
-    horncurlew_report_answer report = horncurlew_report(job, sizeof job, work, HORNCURLEW_MOST_WORK, text, 16609);
+    horncurlew_report_answer report = horncurlew_report(job, sizeof job, work, HORNCURLEW_MOST_WORK, text, 16735);
     if (report.written != 0 || report.length != 0)
         return 1;
     report = horncurlew_report(job, sizeof job, work, HORNCURLEW_MOST_WORK, text, sizeof text);

@@ -1,13 +1,13 @@
 //! Choosing a signature.
 //!
-//! Isolating keeps the circuits in classes: two are in one class while no coefficient taken tells them apart. An index
+//! Isolating keeps the circuits in classes: two are in one class while no coefficient taken tells them apart. An entry
 //! is taken when it splits a class. One is dropped when those before it and those kept after it leave no two circuits
-//! in one class. Detecting keeps, per index taken, the set of faults that it tells from the good circuit.
+//! in one class. Detecting keeps, per entry taken, the set of faults that it tells from the good circuit.
 
 use crate::differences::MOST_CIRCUITS;
 use crate::job::{read, Job, MOST_FAULTS};
 use crate::refusal::{self, Refusal};
-use crate::spectra::{fill, Kind};
+use crate::spectra::{fill, size, width, Kind};
 use crate::words::Table;
 
 /// Which pairs of circuits a signature must tell apart.
@@ -19,11 +19,26 @@ pub enum Purpose {
     Detecting,
 }
 
+/// The coefficient of an index at an output.
+#[derive(Clone, Copy, Debug, Default, PartialEq, Eq)]
+pub struct Entry {
+    pub index: u16,
+    pub output: u16,
+}
+
 /// What choosing comes to.
 #[derive(Clone, Copy, Debug, PartialEq, Eq)]
+#[allow(clippy::large_enum_variant, reason = "there is one a call, and nothing here uses the heap")]
 pub enum Chosen {
     /// The job's counts and the signature: the first `count` entries, in the order of taking; the others are 0.
-    Signature { inputs: usize, gates: usize, faults: usize, count: usize, entries: [u16; MOST_FAULTS] },
+    Signature {
+        inputs: usize,
+        gates: usize,
+        outputs: usize,
+        faults: usize,
+        count: usize,
+        entries: [Entry; MOST_FAULTS],
+    },
     /// Refusal 15 with the first pair of circuits that have equal tables.
     Alike(usize, usize),
     /// Any other refusal.
@@ -53,51 +68,70 @@ const ORDER: [[u16; 256]; 9] = {
     order
 };
 
-/// Chooses a signature; `work` then holds coefficient j of circuit c at place c x N + j.
+/// Chooses a signature; `work` then holds coefficient j of circuit c at output o at place (c x outputs + o) x N + j.
 pub fn choose(bytes: &[u8], purpose: Purpose, kind: Kind, polarity: usize, work: &mut [u16]) -> Chosen {
     let job = match read(bytes) {
         Ok(job) => job,
         Err(number) => return Chosen::Refused(number),
     };
-    let (inputs, faults) = (usize::from(job.inputs), usize::from(job.fault_count));
-    if polarity >> inputs != 0 {
+    if polarity >> job.inputs != 0 {
         return Chosen::Refused(refusal::POLARITY);
     }
-    let Some(work) = work.get_mut(..(faults + 1) << inputs) else {
+    let Some(work) = work.get_mut(..size(&job)) else {
         return Chosen::Refused(refusal::MEMORY);
     };
-    let tables = fill(&job, kind, polarity, work);
-    decide(&job, purpose, &tables[..faults + 1], work)
+    let alike = match job.output_count {
+        1 => fill_and_compare::<1>(&job, purpose, kind, polarity, work),
+        2 => fill_and_compare::<2>(&job, purpose, kind, polarity, work),
+        3 => fill_and_compare::<3>(&job, purpose, kind, polarity, work),
+        _ => fill_and_compare::<4>(&job, purpose, kind, polarity, work),
+    };
+    match alike {
+        Some((lower, higher)) => Chosen::Alike(lower, higher),
+        None => signature(&job, purpose, work),
+    }
 }
 
-/// The choice for a job whose circuits' tables and spectra are there.
-fn decide(job: &Job, purpose: Purpose, tables: &[Table], work: &[u16]) -> Chosen {
-    let (inputs, faults) = (usize::from(job.inputs), usize::from(job.fault_count));
-    let alike = match purpose {
+/// Writes the spectra of a job of O outputs, and gives the first needed pair of circuits with equal tables at all
+/// outputs.
+fn fill_and_compare<const O: usize>(
+    job: &Job,
+    purpose: Purpose,
+    kind: Kind,
+    polarity: usize,
+    work: &mut [u16],
+) -> Option<(usize, usize)> {
+    let tables = fill::<O>(job, kind, polarity, work);
+    let tables = &tables[..=job.fault_count.into()];
+    match purpose {
         Purpose::Isolating => first_alike(tables),
         Purpose::Detecting => (1..tables.len()).find(|c| tables[*c] == tables[0]).map(|c| (0, c)),
-    };
-    if let Some((lower, higher)) = alike {
-        return Chosen::Alike(lower, higher);
     }
-    let spectra = Spectra { inputs, places: 1 << inputs, circuits: faults + 1, work };
-    let mut entries = [0; MOST_FAULTS];
+}
+
+/// The signature of a job whose spectra are there; no needed pair of circuits is alike.
+fn signature(job: &Job, purpose: Purpose, work: &[u16]) -> Chosen {
+    let [inputs, gates, outputs, faults] =
+        [job.inputs, job.gate_count, job.output_count, job.fault_count].map(usize::from);
+    let spectra = Spectra { inputs, outputs, circuits: faults + 1, width: width(job), work };
+    let mut entries = [Entry::default(); MOST_FAULTS];
     let count = match purpose {
         Purpose::Isolating => isolate(&spectra, &mut entries),
         Purpose::Detecting => detect(&spectra, &mut entries),
     };
-    Chosen::Signature { inputs, gates: job.gate_count.into(), faults, count, entries }
+    Chosen::Signature { inputs, gates, outputs, faults, count, entries }
 }
 
-/// The first pair of equal tables, by the lower number, then by the higher.
-fn first_alike(tables: &[Table]) -> Option<(usize, usize)> {
+/// The first pair of circuits with equal tables, by the lower number, then by the higher.
+fn first_alike<const O: usize>(tables: &[[Table; O]]) -> Option<(usize, usize)> {
     // Twice as many slots as circuits at least, so a free one is always found.
     const SLOTS: usize = 2 * MOST_CIRCUITS;
     const FREE: u8 = u8::MAX;
     let mut slots = [FREE; SLOTS];
     let mut first: Option<(usize, usize)> = None;
     for (circuit, table) in tables.iter().enumerate() {
-        let hash = table.iter().fold(0u64, |hash, word| (hash ^ word).wrapping_mul(0x9e37_79b9_7f4a_7c15));
+        let words = table.as_flattened().iter();
+        let hash = words.fold(0u64, |hash, word| (hash ^ word).wrapping_mul(0x9e37_79b9_7f4a_7c15));
         let mut slot = (hash >> 57) as usize % SLOTS;
         while slots[slot] != FREE && tables[usize::from(slots[slot])] != *table {
             slot = (slot + 1) % SLOTS;
@@ -114,26 +148,35 @@ fn first_alike(tables: &[Table]) -> Option<(usize, usize)> {
     first
 }
 
-/// The coefficients of all circuits: N places for each.
+/// The coefficients of all circuits: a row for each, with N places for each output. A place in a row stands for an
+/// entry.
 struct Spectra<'a> {
     inputs: usize,
-    places: usize,
+    outputs: usize,
     circuits: usize,
+    width: usize,
     work: &'a [u16],
 }
 
 impl Spectra<'_> {
-    fn order(&self) -> &'static [u16] {
-        &ORDER[self.inputs][..self.places]
+    /// The places of all entries: by the order of the index, by the index, then by the output.
+    #[inline]
+    fn order(&self) -> impl Iterator<Item = usize> + '_ {
+        let indices = &ORDER[self.inputs][..1 << self.inputs];
+        indices.iter().flat_map(|index| (0..self.outputs).map(|output| output << self.inputs | usize::from(*index)))
+    }
+
+    fn entry(&self, place: usize) -> Entry {
+        Entry { index: (place % (1 << self.inputs)) as u16, output: (place >> self.inputs) as u16 }
     }
 
     #[inline]
-    fn coefficient(&self, circuit: usize, index: u16) -> u16 {
-        self.work[circuit * self.places + usize::from(index)]
+    fn coefficient(&self, circuit: usize, place: usize) -> u16 {
+        self.work[circuit * self.width + place]
     }
 }
 
-/// An index's coefficient of each circuit.
+/// An entry's coefficient of each circuit.
 type Column = [u16; MOST_CIRCUITS];
 
 /// The circuits in classes.
@@ -152,19 +195,19 @@ impl Classes {
         Classes { label: [0; MOST_CIRCUITS], shared }
     }
 
-    /// Writes an index's coefficients of the circuits that share a class, and tells whether a class has different ones.
+    /// Writes an entry's coefficients of the circuits that share a class, and tells whether a class has different ones.
     #[inline]
-    fn differ(&self, spectra: &Spectra, index: u16, column: &mut Column) -> bool {
+    fn differ(&self, spectra: &Spectra, place: usize, column: &mut Column) -> bool {
         let mut differ = false;
         for circuit in ones(self.shared) {
-            column[circuit] = spectra.coefficient(circuit, index);
+            column[circuit] = spectra.coefficient(circuit, place);
             differ |= column[circuit] != column[usize::from(self.label[circuit])];
         }
         differ
     }
 
-    /// Splits the classes by coefficient. A step of the inner loop parts two circuits for good, so over all splits there
-    /// are no more steps than pairs of circuits.
+    /// Splits the classes by coefficient. A step of the inner loop parts two circuits for good, so over all splits
+    /// there are no more steps than pairs of circuits.
     fn split(&mut self, column: &Column) {
         const LAST: u8 = u8::MAX;
         // The classes that come of one are chained by their labels.
@@ -211,18 +254,18 @@ fn ones(mut set: u64) -> impl Iterator<Item = usize> {
 }
 
 /// Writes the isolating signature and gives its length; no two circuits have equal spectra.
-fn isolate(spectra: &Spectra, entries: &mut [u16; MOST_FAULTS]) -> usize {
+fn isolate(spectra: &Spectra, entries: &mut [Entry; MOST_FAULTS]) -> usize {
     let mut taken = [0; MOST_FAULTS];
     let mut before = [Classes::one(0); MOST_FAULTS];
     let mut count = 0;
     let mut column = [0; MOST_CIRCUITS];
     let mut classes = Classes::one(spectra.circuits);
-    for index in spectra.order() {
+    for place in spectra.order() {
         if classes.shared == 0 {
             break;
         }
-        if classes.differ(spectra, *index, &mut column) {
-            taken[count] = *index;
+        if classes.differ(spectra, place, &mut column) {
+            taken[count] = place;
             before[count] = classes;
             count += 1;
             classes.split(&column);
@@ -231,33 +274,33 @@ fn isolate(spectra: &Spectra, entries: &mut [u16; MOST_FAULTS]) -> usize {
 
     let mut kept = 0u64;
     let mut after = Classes::one(spectra.circuits);
-    for place in (0..count).rev() {
-        if !before[place].isolate_with(&after) {
-            kept |= 1 << place;
-            if after.differ(spectra, taken[place], &mut column) {
+    for at in (0..count).rev() {
+        if !before[at].isolate_with(&after) {
+            kept |= 1 << at;
+            if after.differ(spectra, taken[at], &mut column) {
                 after.split(&column);
             }
         }
     }
-    keep(&taken[..count], kept, entries)
+    keep(spectra, &taken[..count], kept, entries)
 }
 
 /// Writes the detecting signature and gives its length; no fault has the good circuit's spectrum.
-fn detect(spectra: &Spectra, entries: &mut [u16; MOST_FAULTS]) -> usize {
-    let differs = |circuit: usize, index| spectra.coefficient(circuit, index) != spectra.coefficient(0, index);
+fn detect(spectra: &Spectra, entries: &mut [Entry; MOST_FAULTS]) -> usize {
+    let differs = |circuit: usize, place| spectra.coefficient(circuit, place) != spectra.coefficient(0, place);
     let all = u64::MAX >> (MOST_CIRCUITS - spectra.circuits) & !1;
     let mut taken = [0; MOST_FAULTS];
     let mut detected = [0u64; MOST_FAULTS];
     let mut before = [0u64; MOST_FAULTS];
     let mut count = 0;
     let mut so_far = 0;
-    for index in spectra.order() {
+    for place in spectra.order() {
         if so_far == all {
             break;
         }
-        if ones(all & !so_far).any(|circuit| differs(circuit, *index)) {
-            taken[count] = *index;
-            detected[count] = ones(all).fold(0, |set, circuit| set | u64::from(differs(circuit, *index)) << circuit);
+        if ones(all & !so_far).any(|circuit| differs(circuit, place)) {
+            taken[count] = place;
+            detected[count] = ones(all).fold(0, |set, circuit| set | u64::from(differs(circuit, place)) << circuit);
             before[count] = so_far;
             so_far |= detected[count];
             count += 1;
@@ -266,21 +309,21 @@ fn detect(spectra: &Spectra, entries: &mut [u16; MOST_FAULTS]) -> usize {
 
     let mut kept = 0u64;
     let mut after = 0;
-    for place in (0..count).rev() {
-        if before[place] | after != all {
-            kept |= 1 << place;
-            after |= detected[place];
+    for at in (0..count).rev() {
+        if before[at] | after != all {
+            kept |= 1 << at;
+            after |= detected[at];
         }
     }
-    keep(&taken[..count], kept, entries)
+    keep(spectra, &taken[..count], kept, entries)
 }
 
-/// Writes those taken that are kept, a bit each, and gives their number.
-fn keep(taken: &[u16], kept: u64, entries: &mut [u16; MOST_FAULTS]) -> usize {
+/// Writes the entries of those taken that are kept, a bit each, and gives their number.
+fn keep(spectra: &Spectra, taken: &[usize], kept: u64, entries: &mut [Entry; MOST_FAULTS]) -> usize {
     let mut count = 0;
-    for (place, index) in taken.iter().enumerate() {
-        if kept >> place & 1 == 1 {
-            entries[count] = *index;
+    for (at, place) in taken.iter().enumerate() {
+        if kept >> at & 1 == 1 {
+            entries[count] = spectra.entry(*place);
             count += 1;
         }
     }

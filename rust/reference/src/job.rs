@@ -4,9 +4,10 @@ use crate::refusal::{self, Refusal};
 
 pub const MOST_INPUTS: usize = 8;
 pub const MOST_GATES: usize = 64;
+pub const MOST_OUTPUTS: usize = 4;
 pub const MOST_FAULTS: usize = 63;
-/// The most bytes that a job can have: 4 + 7 + 64 x 17 + 7 + 6 + 63 x 16 bits.
-pub const LONGEST_JOB: usize = 265;
+/// The most bytes that a job can have: 4 + 7 + 64 x 17 + 2 + 4 x 7 + 6 + 63 x 16 bits.
+pub const LONGEST_JOB: usize = 268;
 
 /// A gate and the lines that it reads.
 #[derive(Clone, Copy, Debug, PartialEq, Eq)]
@@ -30,13 +31,15 @@ pub enum Fault {
     Bridge(u8, u8, bool),
 }
 
-/// A circuit and its faults. Gate q drives line `inputs` + q; fault c, from 1, is `faults[c - 1]`.
+/// A circuit and its faults. Gate q drives line `inputs` + q; output o is line `outputs[o]`; fault c, from 1, is
+/// `faults[c - 1]`.
 #[derive(Clone, Copy, Debug, PartialEq, Eq)]
 pub struct Job {
     pub inputs: u8,
     pub gate_count: u8,
     pub gates: [Gate; MOST_GATES],
-    pub output: u8,
+    pub output_count: u8,
+    pub outputs: [u8; MOST_OUTPUTS],
     pub fault_count: u8,
     pub faults: [Fault; MOST_FAULTS],
 }
@@ -76,11 +79,15 @@ pub fn read(bytes: &[u8]) -> Result<Job, Refusal> {
     for (gate, own) in gates.iter_mut().zip(inputs..lines) {
         *gate = read_gate(fields.take(17)?, own)?;
     }
-    let output = fields.take(7)? as u8;
-    if output >= lines {
-        return Err(refusal::OUTPUT);
+    let output_count = fields.take(2)? as u8 + 1;
+    let mut outputs = [0; MOST_OUTPUTS];
+    for output in &mut outputs[..output_count.into()] {
+        *output = fields.take(7)? as u8;
+        if *output >= lines {
+            return Err(refusal::OUTPUT);
+        }
     }
-    if has_loose_gate(inputs, &gates[..gate_count.into()], output) {
+    if has_loose_gate(inputs, &gates[..gate_count.into()], &outputs[..output_count.into()]) {
         return Err(refusal::LOOSE_GATE);
     }
     let fault_count = fields.take(6)? as u8;
@@ -89,7 +96,7 @@ pub fn read(bytes: &[u8]) -> Result<Job, Refusal> {
         *fault = read_fault(fields.take(16)?, inputs, lines)?;
     }
     fields.end()?;
-    Ok(Job { inputs, gate_count, gates, output, fault_count, faults })
+    Ok(Job { inputs, gate_count, gates, output_count, outputs, fault_count, faults })
 }
 
 /// The gate in a field of 3 + 7 + 7 bits, driving line `own`.
@@ -115,12 +122,12 @@ fn read_gate(field: u32, own: u8) -> Result<Gate, Refusal> {
     })
 }
 
-/// Whether some gate's line is neither the output nor read, directly or through other gates, by the gate that drives
-/// the output. Every gate reads lines below its own. An output that is an input has no gate, and uses none.
-fn has_loose_gate(inputs: u8, gates: &[Gate], output: u8) -> bool {
-    // The output and the lines reached from it, a bit each. What reads a line stands above it: when a gate's turn
+/// Whether some gate's line is no output and no output depends on it: none is driven by a gate that reads it, directly
+/// or through other gates. Every gate reads lines below its own, and outputs are lines of the circuit.
+fn has_loose_gate(inputs: u8, gates: &[Gate], outputs: &[u8]) -> bool {
+    // The outputs and the lines reached from them, a bit each. What reads a line stands above it: when a gate's turn
     // comes, from the last one down, its line is reached or never will be.
-    let mut reached = 1u128 << output;
+    let mut reached = outputs.iter().fold(0u128, |lines, output| lines | 1 << output);
     for (gate, line) in gates.iter().zip(inputs..inputs + gates.len() as u8).rev() {
         if reached >> line & 1 == 0 {
             return true;
@@ -168,8 +175,8 @@ struct Fields<'a> {
 }
 
 impl Fields<'_> {
-    /// The next `width` bits, 1 to 25. Inlined always, as the two functions of a field above: reading takes half as long
-    /// again where the compiler decides.
+    /// The next `width` bits, 1 to 25. Inlined always, as the two functions of a field above: reading takes half as
+    /// long again where the compiler decides.
     #[inline(always)]
     fn take(&mut self, width: usize) -> Result<u32, Refusal> {
         let end = self.at + width;
@@ -210,7 +217,10 @@ pub fn write(job: &Job, out: &mut [u8]) -> Result<usize, Refusal> {
         let (kind, a, b) = gate.fields();
         bits.put(u32::from(kind) << 14 | u32::from(a) << 7 | u32::from(b), 17);
     }
-    bits.put(job.output.into(), 7);
+    bits.put(u32::from(job.output_count) - 1, 2);
+    for output in &job.outputs[..job.output_count.into()] {
+        bits.put((*output).into(), 7);
+    }
     bits.put(job.fault_count.into(), 6);
     for fault in &job.faults[..job.fault_count.into()] {
         let (kind, a, b) = match *fault {
@@ -239,10 +249,14 @@ fn check(job: &Job) -> Result<usize, Refusal> {
             return Err(refusal::GATE_LINE);
         }
     }
-    if job.output >= lines {
+    if job.output_count == 0 || usize::from(job.output_count) > MOST_OUTPUTS {
+        return Err(refusal::OUTPUT_NUMBER);
+    }
+    let outputs = &job.outputs[..job.output_count.into()];
+    if outputs.iter().any(|output| *output >= lines) {
         return Err(refusal::OUTPUT);
     }
-    if has_loose_gate(inputs, &job.gates[..job.gate_count.into()], job.output) {
+    if has_loose_gate(inputs, &job.gates[..job.gate_count.into()], outputs) {
         return Err(refusal::LOOSE_GATE);
     }
     if usize::from(job.fault_count) > MOST_FAULTS {
@@ -255,8 +269,8 @@ fn check(job: &Job) -> Result<usize, Refusal> {
             Fault::Bridge(low, high, _) => check_bridge(low, high, inputs)?,
         }
     }
-    let bits = 4 + 7 + 17 * usize::from(job.gate_count) + 7 + 6 + 16 * usize::from(job.fault_count);
-    Ok(bits.div_ceil(8))
+    let [gates, outputs, faults] = [job.gate_count, job.output_count, job.fault_count].map(usize::from);
+    Ok((4 + 7 + 17 * gates + 2 + 7 * outputs + 6 + 16 * faults).div_ceil(8))
 }
 
 /// Writes fields of bits one after another, four bytes at a time.

@@ -2,7 +2,7 @@
 
 use crate::job::read;
 use crate::refusal::{self, Refusal};
-use crate::spectra::{fill, Kind};
+use crate::spectra::{fill, size, width, Kind};
 
 /// What locating comes to.
 #[derive(Clone, Copy, Debug, PartialEq, Eq)]
@@ -16,12 +16,14 @@ pub enum Located {
     Refused(Refusal),
 }
 
-/// Finds the circuits whose coefficients at the indices are the readings; `work` then holds the spectra as in choosing.
+/// Finds the circuits whose coefficients at a list's entries are the readings. An entry is an index and an output,
+/// which come in two lists. `work` then holds the spectra as in choosing.
 pub fn locate(
     bytes: &[u8],
     kind: Kind,
     polarity: usize,
     indices: &[u16],
+    outputs: &[u16],
     readings: &[u16],
     work: &mut [u16],
 ) -> Located {
@@ -29,26 +31,36 @@ pub fn locate(
         Ok(job) => job,
         Err(number) => return Located::Refused(number),
     };
-    let (inputs, faults) = (usize::from(job.inputs), usize::from(job.fault_count));
-    if polarity >> inputs != 0 {
+    if polarity >> job.inputs != 0 {
         return Located::Refused(refusal::POLARITY);
     }
     // Without a branch per index the compiler compares many at a time.
-    if indices.iter().fold(0, |all, index| all | *index) >> inputs != 0 {
+    if indices.iter().fold(0, |all, index| all | *index) >> job.inputs != 0 {
         return Located::Refused(refusal::INDEX);
     }
-    if indices.len() != readings.len() {
+    if outputs.iter().fold(0, |most, output| most.max(*output)) >= job.output_count.into() {
+        return Located::Refused(refusal::OUTPUT_NUMBER);
+    }
+    if indices.len() != outputs.len() || indices.len() != readings.len() {
         return Located::Refused(refusal::READINGS);
     }
-    let Some(work) = work.get_mut(..(faults + 1) << inputs) else {
+    let Some(work) = work.get_mut(..size(&job)) else {
         return Located::Refused(refusal::MEMORY);
     };
-    fill(&job, kind, polarity, work);
+    match job.output_count {
+        1 => drop(fill::<1>(&job, kind, polarity, work)),
+        2 => drop(fill::<2>(&job, kind, polarity, work)),
+        3 => drop(fill::<3>(&job, kind, polarity, work)),
+        _ => drop(fill::<4>(&job, kind, polarity, work)),
+    }
 
     let mut lowest = 0;
     let mut count = 0;
-    for (circuit, spectrum) in work.chunks_exact(1 << inputs).enumerate() {
-        let agrees = indices.iter().zip(readings).all(|(index, reading)| spectrum[usize::from(*index)] == *reading);
+    for (circuit, row) in work.chunks_exact(width(&job)).enumerate() {
+        let mut list = indices.iter().zip(outputs).zip(readings);
+        let agrees = list.all(|((index, output), reading)| {
+            row[usize::from(*output) << job.inputs | usize::from(*index)] == *reading
+        });
         if agrees {
             if count == 0 {
                 lowest = circuit;

@@ -1,6 +1,6 @@
 //! The refusals, by the documents' numbers.
 
-/// The number of a refusal, 1 to 19.
+/// The number of a refusal, 1 to 20.
 pub type Refusal = u8;
 
 /// The bytes end inside a field.
@@ -13,7 +13,7 @@ pub const GATES: Refusal = 3;
 pub const GATE_LINE: Refusal = 4;
 /// A NOT or BUF with line b other than line a.
 pub const ONE_LINE: Refusal = 5;
-/// The output line isn't one of the circuit's.
+/// An output line isn't one of the circuit's.
 pub const OUTPUT: Refusal = 6;
 /// A stuck line isn't one of the circuit's, or a bridged line is no input.
 pub const FAULT_LINE: Refusal = 7;
@@ -35,10 +35,11 @@ pub const NO_SPECTRUM: Refusal = 14;
 pub const ALIKE: Refusal = 15;
 /// An index isn't below N.
 pub const INDEX: Refusal = 16;
-/// The numbers of indices and of readings differ.
+/// The numbers of indices, of outputs and of readings differ.
 pub const READINGS: Refusal = 17;
 /// A record with more than 63 faults.
 pub const FAULTS: Refusal = 18;
-/// A loose gate: its line is neither the output nor read, directly or through other gates, by the gate that
-/// drives the output.
+/// A loose gate: its line is no output, and no output depends on it.
 pub const LOOSE_GATE: Refusal = 19;
+/// The output number is too high, or a record's outputs aren't 1 to 4.
+pub const OUTPUT_NUMBER: Refusal = 20;

@@ -7,16 +7,20 @@ use crate::spectra::Kind;
 /// The work that the program lends to choosing.
 const WORK: usize = 32768;
 
-/// What the program prints for these bytes on its standard input. It reads no more than 266 of them, as `read` does.
+/// What the program prints for these bytes on its standard input. It reads no more than 269 of them, as `read` does.
 pub fn report(bytes: &[u8]) -> Vec<u8> {
+    report_with(bytes, &mut [0; WORK])
+}
+
+/// The same with other work, which then holds the spectra as in choosing.
+pub fn report_with(bytes: &[u8], work: &mut [u16]) -> Vec<u8> {
     let mut text = Vec::new();
-    let mut work = [0u16; WORK];
-    match choose(bytes, Purpose::Isolating, Kind::Mrm, 0, &mut work) {
+    match choose(bytes, Purpose::Isolating, Kind::Mrm, 0, work) {
         Chosen::Refused(number) => line(&mut text, b"refused", &[number.into()]),
         Chosen::Alike(lower, higher) => line(&mut text, b"refused", &[refusal::ALIKE.into(), lower, higher]),
-        Chosen::Signature { inputs, gates, faults, count, entries } => {
+        Chosen::Signature { inputs, gates, outputs, faults, count, entries } => {
             let signature = &entries[..count];
-            text.reserve(64 + (faults + 2) * (4 + 4 * count));
+            text.reserve(64 + (faults + 2) * (4 + 6 * count));
             word(&mut text, b"inputs");
             number(&mut text, inputs);
             word(&mut text, b" gates");
@@ -25,14 +29,16 @@ pub fn report(bytes: &[u8]) -> Vec<u8> {
             number(&mut text, faults);
             text.push(b'\n');
             word(&mut text, b"signature");
-            for index in signature {
-                number(&mut text, usize::from(*index));
+            for entry in signature {
+                number(&mut text, entry.index.into());
+                text.push(b':');
+                digits(&mut text, entry.output.into());
             }
             text.push(b'\n');
-            for (circuit, spectrum) in work.chunks_exact(1 << inputs).take(faults + 1).enumerate() {
+            for (circuit, row) in work.chunks_exact(outputs << inputs).take(faults + 1).enumerate() {
                 digits(&mut text, circuit);
-                for index in signature {
-                    number(&mut text, usize::from(spectrum[usize::from(*index)]));
+                for entry in signature {
+                    number(&mut text, row[usize::from(entry.output) << inputs | usize::from(entry.index)].into());
                 }
                 text.push(b'\n');
             }

@@ -4,7 +4,7 @@
 //! xors of whole words, made into numbers at the end. Plain sums start from those of eight entries, looked up; then, in
 //! place and in blocks of twice the size each time, the lower half of a block is added to the upper.
 
-use crate::differences::{all_tables, MOST_CIRCUITS};
+use crate::differences::{all_tables, Tables, MOST_CIRCUITS};
 use crate::job::{Job, MOST_INPUTS};
 use crate::refusal::{self, Refusal};
 use crate::words::{exchange, pack, packed_size, spare_bits, xor_sums, Table};
@@ -103,13 +103,23 @@ pub fn undo(inputs: usize, numbers: &[u16], kind: Kind, polarity: usize, out: &m
     Ok(())
 }
 
-/// Writes the spectra of circuits 0 to f one after another, and gives the circuits' tables.
-pub(crate) fn fill(job: &Job, kind: Kind, polarity: usize, work: &mut [u16]) -> [Table; MOST_CIRCUITS] {
+/// The number of coefficients of a circuit, those of output 0 first.
+pub(crate) fn width(job: &Job) -> usize {
+    usize::from(job.output_count) << job.inputs
+}
+
+/// The number of coefficients of circuits 0 to f.
+pub(crate) fn size(job: &Job) -> usize {
+    (usize::from(job.fault_count) + 1) * width(job)
+}
+
+/// Writes the spectra of circuits 0 to f one after another, each at output after output, and gives their tables. The
+/// job has O outputs.
+pub(crate) fn fill<const O: usize>(job: &Job, kind: Kind, polarity: usize, work: &mut [u16]) -> Tables<O> {
     let inputs = usize::from(job.inputs);
-    let mut tables = [[0; 4]; MOST_CIRCUITS];
+    let mut tables = [[[0; 4]; O]; MOST_CIRCUITS];
     all_tables(job, polarity, &mut tables);
-    let circuits = usize::from(job.fault_count) + 1;
-    for (table, row) in tables[..circuits].iter().zip(work.chunks_exact_mut(1 << inputs)) {
+    for (table, row) in tables.as_flattened().iter().zip(work.chunks_exact_mut(1 << inputs)) {
         transform(inputs, kind, table, row);
     }
     tables

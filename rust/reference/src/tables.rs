@@ -20,18 +20,22 @@ const ANSWERS: [[u64; 4]; 8] = [
     [0, 0, 1, 1], // BUF
 ];
 
-/// Writes the packed table of one circuit.
-pub fn table(bytes: &[u8], circuit: usize, out: &mut [u8]) -> Result<(), Refusal> {
+/// Writes the packed table of one circuit at one output.
+pub fn table(bytes: &[u8], circuit: usize, output: usize, out: &mut [u8]) -> Result<(), Refusal> {
     let job = read(bytes)?;
     if circuit > usize::from(job.fault_count) {
         return Err(refusal::CIRCUIT);
     }
+    let line = match job.outputs[..job.output_count.into()].get(output) {
+        Some(line) => usize::from(*line),
+        None => return Err(refusal::OUTPUT_NUMBER),
+    };
     let out = out.get_mut(..packed_size(job.inputs.into())).ok_or(refusal::MEMORY)?;
     let fault = circuit.checked_sub(1).map(|place| job.faults[place]);
     match job.inputs {
-        8 => pack(8, &evaluate::<4>(&job, fault), out),
-        7 => pack(7, &evaluate::<2>(&job, fault), out),
-        inputs => pack(inputs.into(), &evaluate::<1>(&job, fault), out),
+        8 => pack(8, &evaluate::<4>(&job, fault)[line], out),
+        7 => pack(7, &evaluate::<2>(&job, fault)[line], out),
+        inputs => pack(inputs.into(), &evaluate::<1>(&job, fault)[line], out),
     }
     Ok(())
 }
@@ -83,8 +87,8 @@ impl Cell {
     }
 }
 
-/// The table of the circuit with one fault, or with none.
-fn evaluate<const W: usize>(job: &Job, fault: Option<Fault>) -> [u64; W] {
+/// The tables of all lines of the circuit with one fault, or with none.
+fn evaluate<const W: usize>(job: &Job, fault: Option<Fault>) -> [[u64; W]; MOST_LINES] {
     let inputs = usize::from(job.inputs);
     let mut lines = [[0; W]; MOST_LINES];
     for (line, place) in lines[..inputs].iter_mut().enumerate() {
@@ -107,5 +111,5 @@ fn evaluate<const W: usize>(job: &Job, fault: Option<Fault>) -> [u64; W] {
     for (gate, line) in job.gates[..job.gate_count.into()].iter().zip(inputs..) {
         lines[line] = if line == stuck.0 { stuck.1 } else { Cell::new(*gate).answer(&lines) };
     }
-    lines[usize::from(job.output)]
+    lines
 }

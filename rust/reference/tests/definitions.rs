@@ -1,7 +1,7 @@
 //! A slow and literal model of the documents, compared with the library on random jobs, whole and damaged.
 
 use reference::{choose, locate, read, report, spectrum, table, undo, write};
-use reference::{Chosen, Fault, Gate, Job, Kind, Located, Purpose};
+use reference::{Chosen, Entry, Fault, Gate, Job, Kind, Located, Purpose};
 
 // ---- the model ----
 
@@ -28,7 +28,8 @@ fn model_read(bytes: &[u8]) -> Result<Job, u8> {
         inputs: bits.field(4)?,
         gate_count: 0,
         gates: [Gate::Buf(0); 64],
-        output: 0,
+        output_count: 0,
+        outputs: [0; 4],
         fault_count: 0,
         faults: [Fault::Stuck(0, false); 63],
     };
@@ -61,9 +62,13 @@ fn model_read(bytes: &[u8]) -> Result<Job, u8> {
             _ => unreachable!(),
         };
     }
-    job.output = bits.field(7)?;
-    if job.output >= n + g {
-        return Err(6);
+    job.output_count = bits.field(2)? + 1;
+    for o in 0..job.output_count {
+        let line = bits.field(7)?;
+        if line >= n + g {
+            return Err(6);
+        }
+        job.outputs[o as usize] = line;
     }
     if model_loose(&job) {
         return Err(19);
@@ -121,11 +126,16 @@ fn add_read(job: &Job, line: u8, found: &mut Vec<u8>) {
     }
 }
 
-/// Whether some gate's line is neither the output nor read by the gate that drives the output.
+/// Whether some gate's line is no output, and none depends on it.
 fn model_loose(job: &Job) -> bool {
-    let mut read = Vec::new();
-    add_read(job, job.output, &mut read);
-    (job.inputs..job.inputs + job.gate_count).any(|line| line != job.output && !read.contains(&line))
+    let depends = |output: &u8, line: u8| {
+        let mut read = Vec::new();
+        add_read(job, *output, &mut read);
+        read.contains(&line)
+    };
+    let outputs = &job.outputs[..usize::from(job.output_count)];
+    let is_loose = |line| !outputs.iter().any(|output| *output == line || depends(output, line));
+    (job.inputs..job.inputs + job.gate_count).any(is_loose)
 }
 
 /// The bytes of a record in order, or the refusal other than 10.
@@ -147,8 +157,15 @@ fn model_write(job: &Job) -> Result<Vec<u8>, u8> {
         }
         bits += &format!("{kind:03b}{a:07b}{b:07b}");
     }
-    if usize::from(job.output) >= n + g {
-        return Err(6);
+    if !(1..=4).contains(&job.output_count) {
+        return Err(20);
+    }
+    bits += &format!("{:02b}", job.output_count - 1);
+    for o in 0..usize::from(job.output_count) {
+        if usize::from(job.outputs[o]) >= n + g {
+            return Err(6);
+        }
+        bits += &format!("{:07b}", job.outputs[o]);
     }
     if model_loose(job) {
         return Err(19);
@@ -156,7 +173,7 @@ fn model_write(job: &Job) -> Result<Vec<u8>, u8> {
     if job.fault_count > 63 {
         return Err(18);
     }
-    bits += &format!("{:07b}{:06b}", job.output, job.fault_count);
+    bits += &format!("{:06b}", job.fault_count);
     for c in 0..usize::from(job.fault_count) {
         let (kind, a, b) = match job.faults[c] {
             Fault::Stuck(line, level) => (if level { 1 } else { 0 }, line, line),
@@ -176,8 +193,8 @@ fn model_write(job: &Job) -> Result<Vec<u8>, u8> {
     Ok((0..bits.len() / 8).map(|i| u8::from_str_radix(&bits[8 * i..8 * i + 8], 2).unwrap()).collect())
 }
 
-/// Entry m of the table of a circuit.
-fn model_entry(job: &Job, circuit: usize, m: usize) -> bool {
+/// Entry m of the tables of a circuit: the value of each output.
+fn model_entry(job: &Job, circuit: usize, m: usize) -> Vec<bool> {
     let n = usize::from(job.inputs);
     let fault = if circuit == 0 { None } else { Some(job.faults[circuit - 1]) };
     let mut lines = Vec::new();
@@ -210,11 +227,13 @@ fn model_entry(job: &Job, circuit: usize, m: usize) -> bool {
         }
         lines.push(value);
     }
-    lines[usize::from(job.output)]
+    job.outputs[..usize::from(job.output_count)].iter().map(|output| lines[usize::from(*output)]).collect()
 }
 
-fn model_table(job: &Job, circuit: usize) -> Vec<bool> {
-    (0..1 << job.inputs).map(|m| model_entry(job, circuit, m)).collect()
+/// The tables of a circuit, one for each output.
+fn model_tables(job: &Job, circuit: usize) -> Vec<Vec<bool>> {
+    let entries: Vec<_> = (0..1 << job.inputs).map(|m| model_entry(job, circuit, m)).collect();
+    (0..usize::from(job.output_count)).map(|o| entries.iter().map(|values| values[o]).collect()).collect()
 }
 
 fn model_pack(table: &[bool]) -> Vec<u8> {
@@ -248,42 +267,56 @@ fn model_undo(numbers: &[u16], kind: Kind, k: usize) -> Option<Vec<bool>> {
     (model_spectrum(&table, kind, k) == numbers).then_some(table)
 }
 
+/// Per circuit and output a table and its spectrum.
 struct Model {
     job: Job,
-    tables: Vec<Vec<bool>>,
-    spectra: Vec<Vec<u16>>,
+    tables: Vec<Vec<Vec<bool>>>,
+    spectra: Vec<Vec<Vec<u16>>>,
 }
 
 fn model(job: &Job, kind: Kind, k: usize) -> Model {
-    let tables: Vec<_> = (0..=usize::from(job.fault_count)).map(|c| model_table(job, c)).collect();
-    let spectra = tables.iter().map(|table| model_spectrum(table, kind, k)).collect();
+    let tables: Vec<_> = (0..=usize::from(job.fault_count)).map(|c| model_tables(job, c)).collect();
+    let spectrum = |table: &Vec<bool>| model_spectrum(table, kind, k);
+    let spectra = tables.iter().map(|outputs| outputs.iter().map(spectrum).collect()).collect();
     Model { job: *job, tables, spectra }
 }
 
 impl Model {
-    fn tells(&self, set: &[usize], pair: (usize, usize)) -> bool {
-        set.iter().any(|j| self.spectra[pair.0][*j] != self.spectra[pair.1][*j])
+    fn coefficient(&self, circuit: usize, entry: &Entry) -> u16 {
+        self.spectra[circuit][usize::from(entry.output)][usize::from(entry.index)]
+    }
+
+    fn tells(&self, set: &[Entry], pair: (usize, usize)) -> bool {
+        set.iter().any(|entry| self.coefficient(pair.0, entry) != self.coefficient(pair.1, entry))
+    }
+
+    /// All entries, in the order of looking.
+    fn scan(&self) -> Vec<Entry> {
+        let outputs = u16::from(self.job.output_count);
+        let indices = 0..1u16 << self.job.inputs;
+        let mut scan: Vec<_> =
+            indices.flat_map(|index| (0..outputs).map(move |output| Entry { index, output })).collect();
+        scan.sort_by_key(|entry| (entry.index.count_ones(), entry.index, entry.output));
+        scan
     }
 
     /// The signature, or the pair that is alike.
-    fn choose(&self, purpose: Purpose) -> Result<Vec<usize>, (usize, usize)> {
+    fn choose(&self, purpose: Purpose) -> Result<Vec<Entry>, (usize, usize)> {
         let circuits = self.tables.len();
         let lower = if purpose == Purpose::Isolating { circuits } else { 1 };
         let needed: Vec<_> = (0..lower).flat_map(|a| (a + 1..circuits).map(move |b| (a, b))).collect();
         if let Some(pair) = needed.iter().find(|pair| self.tables[pair.0] == self.tables[pair.1]) {
             return Err(*pair);
         }
-        let mut order: Vec<usize> = (0..1 << self.job.inputs).collect();
-        order.sort_by_key(|j| (j.count_ones(), *j));
         let mut taken = Vec::new();
-        for j in order {
-            if needed.iter().any(|pair| self.tells(&[j], *pair) && !self.tells(&taken, *pair)) {
-                taken.push(j);
+        for entry in self.scan() {
+            if needed.iter().any(|pair| self.tells(&[entry], *pair) && !self.tells(&taken, *pair)) {
+                taken.push(entry);
             }
         }
         let mut kept = taken.clone();
-        for j in taken.iter().rev() {
-            let rest: Vec<_> = kept.iter().copied().filter(|i| i != j).collect();
+        for entry in taken.iter().rev() {
+            let rest: Vec<_> = kept.iter().copied().filter(|other| other != entry).collect();
             if needed.iter().all(|pair| self.tells(&rest, *pair)) {
                 kept = rest;
             }
@@ -291,8 +324,8 @@ impl Model {
         Ok(kept)
     }
 
-    fn locate(&self, indices: &[u16], readings: &[u16]) -> Located {
-        let gives = |c: &usize| (0..indices.len()).all(|i| self.spectra[*c][usize::from(indices[i])] == readings[i]);
+    fn locate(&self, list: &[Entry], readings: &[u16]) -> Located {
+        let gives = |c: &usize| (0..list.len()).all(|i| self.coefficient(*c, &list[i]) == readings[i]);
         let agreeing: Vec<_> = (0..self.spectra.len()).filter(gives).collect();
         match agreeing.len() {
             0 => Located::Nowhere,
@@ -301,10 +334,22 @@ impl Model {
         }
     }
 
+    /// The size of the spectra.
+    fn size(&self) -> usize {
+        (self.spectra.len() * usize::from(self.job.output_count)) << self.job.inputs
+    }
+
     /// The spectra, then what the work held.
     fn work(&self, before: &[u16]) -> Vec<u16> {
-        let mut work: Vec<_> = self.spectra.concat();
-        work.extend_from_slice(&before[work.len()..]);
+        let mut work = before.to_vec();
+        let (outputs, places) = (usize::from(self.job.output_count), 1 << self.job.inputs);
+        for c in 0..self.spectra.len() {
+            for o in 0..outputs {
+                for j in 0..places {
+                    work[((c * outputs) + o) * places + j] = self.spectra[c][o][j];
+                }
+            }
+        }
         work
     }
 }
@@ -315,16 +360,19 @@ fn model_report(bytes: &[u8]) -> String {
         Err(number) => return format!("refused {number}\n"),
     };
     let model = model(&job, Kind::Mrm, 0);
+    if model.size() > 32768 {
+        return "refused 10\n".to_string();
+    }
     match model.choose(Purpose::Isolating) {
         Err((a, b)) => format!("refused 15 {a} {b}\n"),
         Ok(signature) => {
             let mut text = format!("inputs {} gates {} faults {}\n", job.inputs, job.gate_count, job.fault_count);
             text += "signature";
-            signature.iter().for_each(|j| text += &format!(" {j}"));
+            signature.iter().for_each(|entry| text += &format!(" {}:{}", entry.index, entry.output));
             text += "\n";
-            for (c, spectrum) in model.spectra.iter().enumerate() {
+            for c in 0..model.spectra.len() {
                 text += &format!("{c}");
-                signature.iter().for_each(|j| text += &format!(" {}", spectrum[*j]));
+                signature.iter().for_each(|entry| text += &format!(" {}", model.coefficient(c, entry)));
                 text += "\n";
             }
             text
@@ -360,10 +408,11 @@ impl Random {
         lines.swap_remove(place)
     }
 
-    /// The gate of line `own`. `unread` are the gate lines that no gate reads yet; each of the gates that are left, this
-    /// one among them, can join two of them to one.
-    fn gate(&mut self, own: usize, left: usize, unread: &mut Vec<u8>) -> Gate {
-        let (must_read, must_join) = (unread.len() >= left, unread.len() > left);
+    /// The gate of line `own`. `unread` are the gate lines that no gate reads yet; each of the gates that are left,
+    /// this one among them, can join two of them to one, and as many as there are outputs may stay.
+    fn gate(&mut self, own: usize, left: usize, outputs: usize, unread: &mut Vec<u8>) -> Gate {
+        let room = left + outputs - 1;
+        let (must_read, must_join) = (unread.len() >= room, unread.len() > room);
         let a = if must_read { self.take(unread) } else { self.line(own) };
         let b = if must_join { self.take(unread) } else { self.line(own) };
         let gate = match self.below(if must_join { 7 } else { 9 }) {
@@ -391,23 +440,40 @@ impl Random {
         }
     }
 
+    /// The output lines: those that no gate reads, and any others, in any order.
+    fn outputs(&mut self, lines: usize, count: usize, mut unread: Vec<u8>) -> [u8; 4] {
+        let mut outputs = [0; 4];
+        for place in 0..count {
+            let must_take = unread.len() >= count - place;
+            outputs[place] = if must_take || (!unread.is_empty() && self.below(2) == 0) {
+                self.take(&mut unread)
+            } else if place > 0 && self.below(4) == 0 {
+                outputs[self.below(place)]
+            } else {
+                self.below(lines) as u8
+            };
+        }
+        outputs
+    }
+
     /// A job without loose gates; with `distinct`, faults that are alike are left out.
-    fn job(&mut self, inputs: usize, gates: usize, faults: usize, distinct: bool) -> Job {
+    fn job(&mut self, inputs: usize, gates: usize, outputs: usize, faults: usize, distinct: bool) -> Job {
         let mut job = Job {
             inputs: inputs as u8,
             gate_count: gates as u8,
             gates: [Gate::Buf(0); 64],
-            output: 0,
+            output_count: outputs as u8,
+            outputs: [0; 4],
             fault_count: 0,
             faults: [Fault::Stuck(0, false); 63],
         };
         let mut unread = Vec::new();
         for q in 0..gates {
-            job.gates[q] = self.gate(inputs + q, gates - q, &mut unread);
+            job.gates[q] = self.gate(inputs + q, gates - q, outputs, &mut unread);
         }
         let lines = inputs + gates;
-        job.output = unread.first().copied().unwrap_or(self.below(inputs) as u8);
-        let mut tables = vec![model_table(&job, 0)];
+        job.outputs = self.outputs(lines, outputs, unread);
+        let mut tables = vec![model_tables(&job, 0)];
         for _ in 0..4 * faults {
             if usize::from(job.fault_count) == faults {
                 break;
@@ -415,12 +481,12 @@ impl Random {
             job.faults[usize::from(job.fault_count)] = self.fault(inputs, lines);
             job.fault_count += 1;
             if distinct {
-                let table = model_table(&job, job.fault_count.into());
-                if tables.contains(&table) {
+                let faulty = model_tables(&job, job.fault_count.into());
+                if tables.contains(&faulty) {
                     job.fault_count -= 1;
                     job.faults[usize::from(job.fault_count)] = Fault::Stuck(0, false);
                 } else {
-                    tables.push(table);
+                    tables.push(faulty);
                 }
             }
         }
@@ -429,8 +495,9 @@ impl Random {
 
     fn small_job(&mut self) -> Job {
         let (inputs, gates, faults) = (1 + self.below(5), self.below(14), self.below(12));
+        let outputs = if self.below(2) == 0 { 1 } else { 2 + self.below(3) };
         let distinct = self.below(4) != 0;
-        self.job(inputs, gates, faults, distinct)
+        self.job(inputs, gates, outputs, faults, distinct)
     }
 
     fn kind(&mut self) -> Kind {
@@ -459,92 +526,127 @@ impl Random {
     }
 }
 
+/// The indices and the outputs of entries.
+fn lists(entries: &[Entry]) -> (Vec<u16>, Vec<u16>) {
+    entries.iter().map(|entry| (entry.index, entry.output)).unzip()
+}
+
 /// Compares every operation on these bytes with the model.
 fn compare(random: &mut Random, bytes: &[u8]) {
     let expected = model_read(bytes);
     assert_eq!(read(bytes), expected);
     let kind = random.kind();
-    let spoilt = random.numbers(8);
-    let mut work = spoilt.clone();
     let Ok(job) = expected else {
         let number = expected.unwrap_err();
+        let spoilt = random.numbers(8);
+        let mut work = spoilt.clone();
         let mut out = [0x5a; 32];
-        assert_eq!(table(bytes, random.below(70), &mut out), Err(number));
+        assert_eq!(table(bytes, random.below(70), random.below(6), &mut out), Err(number));
         assert_eq!(out, [0x5a; 32]);
         assert_eq!(choose(bytes, Purpose::Isolating, kind, random.below(300), &mut work), Chosen::Refused(number));
-        assert_eq!(locate(bytes, kind, random.below(300), &[0], &[], &mut work), Located::Refused(number));
+        assert_eq!(locate(bytes, kind, random.below(300), &[0], &[9], &[], &mut work), Located::Refused(number));
         assert_eq!(work, spoilt);
         assert_eq!(String::from_utf8(report(bytes)).unwrap(), format!("refused {number}\n"));
         return;
     };
-    let places = 1usize << job.inputs;
-    let size = (usize::from(job.fault_count) + 1) * places;
-    let k = random.below(places);
-    let model = model(&job, kind, k);
 
     let mut out = vec![0x5a; bytes.len() + 2];
     assert_eq!(write(&job, &mut out), Ok(bytes.len()));
     assert_eq!(&out[..bytes.len()], bytes);
     assert_eq!(out[bytes.len()..], [0x5a; 2]);
 
-    for (c, entries) in model.tables.iter().enumerate() {
-        let packed = model_pack(entries);
-        let mut out = vec![0x5a; packed.len() + 1];
-        assert_eq!(table(bytes, c, &mut out[..packed.len() - 1]), Err(10));
-        assert_eq!(table(bytes, c, &mut out), Ok(()));
-        assert_eq!(out[..packed.len()], packed);
-        assert_eq!(out[packed.len()], 0x5a);
-    }
-    assert_eq!(table(bytes, model.tables.len(), &mut []), Err(11));
-
+    let k = random.below(1 << job.inputs);
+    let model = model(&job, kind, k);
+    compare_tables(bytes, &model);
     for purpose in [Purpose::Isolating, Purpose::Detecting] {
-        let spare = random.below(5);
-        let spoilt = random.numbers(size + spare);
-        let mut work = spoilt.clone();
-        assert_eq!(choose(bytes, purpose, kind, places + k, &mut work), Chosen::Refused(13));
-        assert_eq!(choose(bytes, purpose, kind, k, &mut work[..size - 1]), Chosen::Refused(10));
-        assert_eq!(work, spoilt);
-        let chosen = choose(bytes, purpose, kind, k, &mut work);
-        assert_eq!(work, model.work(&spoilt));
-        match (chosen, model.choose(purpose)) {
-            (Chosen::Alike(a, b), Err(pair)) => assert_eq!((a, b), pair),
-            (Chosen::Signature { inputs, gates, faults, count, entries }, Ok(signature)) => {
-                assert_eq!((inputs, gates), (job.inputs.into(), job.gate_count.into()));
-                assert_eq!(faults, job.fault_count.into());
-                assert_eq!(entries[..count].iter().map(|j| usize::from(*j)).collect::<Vec<_>>(), signature);
-                assert!(count <= faults);
-                if purpose == Purpose::Isolating {
-                    for (c, spectrum) in model.spectra.iter().enumerate() {
-                        let readings: Vec<_> = signature.iter().map(|j| spectrum[*j]).collect();
-                        assert_eq!(locate(bytes, kind, k, &entries[..count], &readings, &mut work), Located::Alone(c));
-                    }
+        compare_choice(random, bytes, purpose, kind, k, &model);
+    }
+    compare_location(random, bytes, kind, k, &model);
+    assert_eq!(String::from_utf8(report(bytes)).unwrap(), model_report(bytes));
+}
+
+fn compare_tables(bytes: &[u8], model: &Model) {
+    let outputs = usize::from(model.job.output_count);
+    for (c, tables) in model.tables.iter().enumerate() {
+        for (o, entries) in tables.iter().enumerate() {
+            let packed = model_pack(entries);
+            let mut out = vec![0x5a; packed.len() + 1];
+            assert_eq!(table(bytes, c, o, &mut out[..packed.len() - 1]), Err(10));
+            assert_eq!(table(bytes, c, o, &mut out), Ok(()));
+            assert_eq!(out[..packed.len()], packed);
+            assert_eq!(out[packed.len()], 0x5a);
+        }
+        assert_eq!(table(bytes, c, outputs, &mut []), Err(20));
+    }
+    assert_eq!(table(bytes, model.tables.len(), outputs, &mut []), Err(11));
+}
+
+fn compare_choice(random: &mut Random, bytes: &[u8], purpose: Purpose, kind: Kind, k: usize, model: &Model) {
+    let (job, size) = (&model.job, model.size());
+    let spare = random.below(5);
+    let spoilt = random.numbers(size + spare);
+    let mut work = spoilt.clone();
+    assert_eq!(choose(bytes, purpose, kind, (1 << job.inputs) + k, &mut work), Chosen::Refused(13));
+    assert_eq!(choose(bytes, purpose, kind, k, &mut work[..size - 1]), Chosen::Refused(10));
+    assert_eq!(work, spoilt);
+    let chosen = choose(bytes, purpose, kind, k, &mut work);
+    assert_eq!(work, model.work(&spoilt));
+    match (chosen, model.choose(purpose)) {
+        (Chosen::Alike(a, b), Err(pair)) => assert_eq!((a, b), pair),
+        (Chosen::Signature { inputs, gates, outputs, faults, count, entries }, Ok(signature)) => {
+            assert_eq!((inputs, gates), (job.inputs.into(), job.gate_count.into()));
+            assert_eq!((outputs, faults), (job.output_count.into(), job.fault_count.into()));
+            assert_eq!(entries[..count], signature);
+            assert!(entries[count..].iter().all(|entry| *entry == Entry::default()));
+            assert!(count <= faults);
+            if purpose == Purpose::Isolating {
+                let (indices, outputs) = lists(&signature);
+                for c in 0..model.spectra.len() {
+                    let readings: Vec<_> = signature.iter().map(|entry| model.coefficient(c, entry)).collect();
+                    let located = locate(bytes, kind, k, &indices, &outputs, &readings, &mut work);
+                    assert_eq!(located, Located::Alone(c));
                 }
             }
-            (chosen, expected) => panic!("{chosen:?}, not {expected:?}"),
         }
+        (chosen, expected) => panic!("{chosen:?}, not {expected:?}"),
     }
+}
 
+fn compare_location(random: &mut Random, bytes: &[u8], kind: Kind, k: usize, model: &Model) {
+    let (places, outputs) = (1 << model.job.inputs, usize::from(model.job.output_count));
     let length = random.below(4);
-    let indices: Vec<_> = (0..length).map(|_| random.below(places) as u16).collect();
+    let entry =
+        |random: &mut Random| Entry { index: random.below(places) as u16, output: random.below(outputs) as u16 };
+    let list: Vec<_> = (0..length).map(|_| entry(random)).collect();
     let of = random.below(model.spectra.len());
-    let mut readings: Vec<_> = indices.iter().map(|j| model.spectra[of][usize::from(*j)]).collect();
+    let mut readings: Vec<_> = list.iter().map(|entry| model.coefficient(of, entry)).collect();
     if length > 0 && random.below(3) == 0 {
         readings[random.below(length)] ^= 1;
     }
     let spare = random.below(5);
-    let spoilt = random.numbers(size + spare);
+    let (size, spoilt) = (model.size(), random.numbers(model.size() + spare));
     let mut work = spoilt.clone();
-    assert_eq!(locate(bytes, kind, k, &indices, &readings, &mut work[..size - 1]), Located::Refused(10));
-    let mut more = readings.clone();
-    more.push(0);
-    assert_eq!(locate(bytes, kind, k, &indices, &more, &mut work), Located::Refused(17));
-    more[0] = places as u16;
-    assert_eq!(locate(bytes, kind, k, &more, &[], &mut work), Located::Refused(16));
+    let (indices, outputs_of) = lists(&list);
+    let mut at = |indices: &[u16], outputs: &[u16], readings: &[u16], room: usize| {
+        locate(bytes, kind, k, indices, outputs, readings, &mut work[..room])
+    };
+    // Each list in turn with a number more.
+    let more = |numbers: &[u16], number: usize| [numbers, &[number as u16]].concat();
+    let all = size + spare;
+    assert_eq!(at(&indices, &outputs_of, &readings, size - 1), Located::Refused(10));
+    assert_eq!(at(&indices, &outputs_of, &more(&readings, 0), 0), Located::Refused(17));
+    assert_eq!(at(&indices, &more(&outputs_of, outputs - 1), &readings, all), Located::Refused(17));
+    assert_eq!(at(&more(&indices, places - 1), &outputs_of, &readings, all), Located::Refused(17));
+    assert_eq!(at(&indices, &more(&outputs_of, 0), &more(&readings, 0), all), Located::Refused(17));
+    assert_eq!(at(&more(&indices, 0), &outputs_of, &more(&readings, 0), all), Located::Refused(17));
+    assert_eq!(at(&more(&indices, 0), &more(&outputs_of, 0), &readings, all), Located::Refused(17));
+    assert_eq!(at(&indices, &more(&outputs_of, outputs), &[], 0), Located::Refused(20));
+    assert_eq!(at(&more(&indices, places), &more(&outputs_of, outputs), &[], 0), Located::Refused(16));
+    // An output that is too high before an index that is.
+    assert_eq!(at(&more(&[0], places), &[outputs as u16, 0], &[], 0), Located::Refused(16));
     assert_eq!(work, spoilt);
-    assert_eq!(locate(bytes, kind, k, &indices, &readings, &mut work), model.locate(&indices, &readings));
+    assert_eq!(locate(bytes, kind, k, &indices, &outputs_of, &readings, &mut work), model.locate(&list, &readings));
     assert_eq!(work, model.work(&spoilt));
-
-    assert_eq!(String::from_utf8(report(bytes)).unwrap(), model_report(bytes));
 }
 
 #[test]
@@ -559,7 +661,7 @@ fn small_jobs() {
 #[test]
 fn damaged_jobs() {
     let mut random = Random(2);
-    let mut seen = [0; 20];
+    let mut seen = [0; 21];
     for _ in 0..6000 {
         let job = random.small_job();
         let mut bytes = model_write(&job).unwrap();
@@ -575,7 +677,8 @@ fn large_jobs() {
     let mut random = Random(3);
     for turn in 0..24 {
         let (inputs, gates) = (6 + turn % 3, 64 - random.below(30));
-        let job = random.job(inputs, gates, if turn < 6 { 63 } else { 20 }, turn % 4 != 0);
+        let outputs = [1, 4, 2, 3][turn % 4];
+        let job = random.job(inputs, gates, outputs, if turn < 6 { 63 } else { 20 }, turn % 4 != 0);
         compare(&mut random, &model_write(&job).unwrap());
     }
 }
@@ -599,17 +702,18 @@ fn any_bytes() {
 #[test]
 fn records() {
     let mut random = Random(5);
-    let mut seen = [0; 20];
+    let mut seen = [0; 21];
     for _ in 0..6000 {
         let mut job = random.small_job();
         for _ in 0..random.below(3) {
             let any = if random.below(2) == 0 { random.below(12) } else { random.below(256) } as u8;
             let place = random.below(14);
-            match random.below(7) {
+            match random.below(8) {
                 0 => job.inputs = any,
                 1 => job.gate_count = any,
-                2 => job.output = any,
+                2 => job.outputs[random.below(4)] = any,
                 3 => job.fault_count = any,
+                7 => job.output_count = any,
                 4 => job.gates[place] = Gate::Xor(any, 0),
                 5 => job.faults[place] = Fault::Stuck(any, true),
                 _ => job.faults[place] = Fault::Bridge(any, random.below(9) as u8, true),
@@ -629,7 +733,7 @@ fn records() {
         }
         seen[expected.err().unwrap_or(0) as usize] += 1;
     }
-    assert!([0, 2, 3, 4, 6, 19, 18, 7, 8].iter().all(|number| seen[*number] > 0), "{seen:?}");
+    assert!([0, 2, 3, 4, 20, 6, 19, 18, 7, 8].iter().all(|number| seen[*number] > 0), "{seen:?}");
 }
 
 fn compare_table(entries: &[bool], kind: Kind, k: usize) {

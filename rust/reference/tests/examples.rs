@@ -1,12 +1,14 @@
-//! Document 01's examples, P1 to P10 and the report of job A, and the checks that they leave open.
+//! Document 01's examples in the layout of several outputs, P1 to P10 and the report of job A, and the checks that they
+//! leave open.
 
 use reference::Kind::{Mrm, Rm};
 use reference::Purpose::{Detecting, Isolating};
 use reference::{choose, locate, read, report, spectrum, table, undo, write};
-use reference::{Chosen, Fault, Gate, Kind, Located, Purpose};
+use reference::{Chosen, Entry, Fault, Gate, Job, Kind, Located, Purpose};
 
-const JOB_A: [u8; 12] = [0x20, 0x20, 0x00, 0x10, 0x41, 0x80, 0x00, 0x20, 0x00, 0x20, 0x40, 0x80];
-const JOB_P10: [u8; 8] = [0x20, 0x20, 0x00, 0x10, 0x40, 0xc0, 0x00, 0x80];
+const JOB_A: [u8; 12] = [0x20, 0x20, 0x00, 0x10, 0x10, 0x60, 0x00, 0x08, 0x00, 0x08, 0x10, 0x20];
+const JOB_P2: [u8; 4] = [0x10, 0, 0, 0];
+const JOB_P10: [u8; 8] = [0x20, 0x20, 0x00, 0x10, 0x10, 0x30, 0x00, 0x20];
 
 fn spectrum_of(inputs: usize, table: &[u8], kind: Kind, polarity: usize) -> Vec<u16> {
     let mut out = vec![0; 1 << inputs];
@@ -14,12 +16,31 @@ fn spectrum_of(inputs: usize, table: &[u8], kind: Kind, polarity: usize) -> Vec<
     out
 }
 
-fn signature(bytes: &[u8], purpose: Purpose, kind: Kind) -> Vec<u16> {
+/// The signature as indices and outputs.
+fn signature(bytes: &[u8], purpose: Purpose, kind: Kind) -> Vec<(u16, u16)> {
     let mut work = [0; 1024];
     match choose(bytes, purpose, kind, 0, &mut work) {
-        Chosen::Signature { count, entries, .. } => entries[..count].to_vec(),
+        Chosen::Signature { count, entries, .. } => entries[..count].iter().map(|e| (e.index, e.output)).collect(),
         other => panic!("{other:?}"),
     }
+}
+
+/// The bytes of a record.
+fn written(job: &Job) -> Vec<u8> {
+    let mut bytes = [0; 300];
+    let size = write(job, &mut bytes).unwrap();
+    bytes[..size].to_vec()
+}
+
+/// A job without gates, of these output lines and faults.
+fn without_gates(inputs: u8, outputs: &[u8], faults: &[Fault]) -> Job {
+    let mut job = read(&JOB_P2).unwrap();
+    job.inputs = inputs;
+    job.output_count = outputs.len() as u8;
+    job.outputs[..outputs.len()].copy_from_slice(outputs);
+    job.fault_count = faults.len() as u8;
+    job.faults[..faults.len()].copy_from_slice(faults);
+    job
 }
 
 #[test]
@@ -30,18 +51,21 @@ fn p1_no_bytes() {
 
 #[test]
 fn p2_smallest_job() {
-    let job = read(&[0x10, 0, 0]).unwrap();
-    assert_eq!((job.inputs, job.gate_count, job.output, job.fault_count), (1, 0, 0, 0));
+    let job = read(&JOB_P2).unwrap();
+    assert_eq!((job.inputs, job.gate_count, job.output_count, job.fault_count), (1, 0, 1, 0));
+    assert_eq!(job.outputs, [0; 4]);
     assert!(job.gates.iter().all(|gate| *gate == Gate::Buf(0)));
     assert!(job.faults.iter().all(|fault| *fault == Fault::Stuck(0, false)));
-    assert_eq!(signature(&[0x10, 0, 0], Isolating, Mrm), []);
-    assert_eq!(report(&[0x10, 0, 0]), b"inputs 1 gates 0 faults 0\nsignature\n0\n");
+    assert_eq!(signature(&JOB_P2, Isolating, Mrm), []);
+    assert_eq!(report(&JOB_P2), b"inputs 1 gates 0 faults 0\nsignature\n0\n");
+    // Its bytes of one output end in the fault count.
+    assert_eq!(read(&JOB_P2[..3]), Err(1));
 }
 
 #[test]
 fn p3_byte_after_the_end() {
-    assert_eq!(read(&[0x10, 0, 0, 0]), Err(9));
-    assert_eq!(report(&[0x10, 0, 0, 0]), b"refused 9\n");
+    assert_eq!(read(&[0x10, 0, 0, 0, 0]), Err(9));
+    assert_eq!(report(&[0x10, 0, 0, 0, 0]), b"refused 9\n");
 }
 
 #[test]
@@ -62,13 +86,15 @@ fn p7_undoing() {
 
 #[test]
 fn p8_p9_job_a() {
-    assert_eq!(signature(&JOB_A, Isolating, Rm), [1, 2, 3]);
-    assert_eq!(signature(&JOB_A, Isolating, Mrm), [1, 3]);
-    assert_eq!(signature(&JOB_A, Detecting, Rm), [3]);
+    assert_eq!(signature(&JOB_A, Isolating, Rm), [(1, 0), (2, 0), (3, 0)]);
+    assert_eq!(signature(&JOB_A, Isolating, Mrm), [(1, 0), (3, 0)]);
+    assert_eq!(signature(&JOB_A, Detecting, Rm), [(3, 0)]);
     let mut work = [7; 20];
     let chosen = choose(&JOB_A, Isolating, Mrm, 0, &mut work);
-    let Chosen::Signature { inputs: 2, gates: 1, faults: 3, count: 2, entries } = chosen else { panic!("{chosen:?}") };
-    assert!(entries[2..].iter().all(|entry| *entry == 0));
+    let Chosen::Signature { inputs: 2, gates: 1, outputs: 1, faults: 3, count: 2, entries } = chosen else {
+        panic!("{chosen:?}")
+    };
+    assert!(entries[2..].iter().all(|entry| *entry == Entry::default()));
     assert_eq!(work, [0, 0, 0, 1, 0, 0, 0, 0, 0, 0, 1, 2, 0, 1, 0, 2, 7, 7, 7, 7]);
 }
 
@@ -82,7 +108,7 @@ fn p10_alike() {
 
 #[test]
 fn report_of_job_a() {
-    let text = "inputs 2 gates 1 faults 3\nsignature 1 3\n0 0 1\n1 0 0\n2 0 2\n3 1 2\n";
+    let text = "inputs 2 gates 1 faults 3\nsignature 1:0 3:0\n0 0 1\n1 0 0\n2 0 2\n3 1 2\n";
     assert_eq!(report(&JOB_A), text.as_bytes());
 }
 
@@ -96,11 +122,90 @@ fn reading_judges_fields_in_turn() {
     assert_eq!(read(&[0x20, 0x38, 0x00, 0x20]), Err(4));
     assert_eq!(read(&[0x20, 0x38, 0x00, 0x10]), Err(5));
     // Stuck fault on line 0 whose b is no line: 8. On a line that isn't: 7.
-    assert_eq!(read(&[0x10, 0x00, 0x01, 0x00, 0x05]), Err(8));
-    assert_eq!(read(&[0x10, 0x00, 0x01, 0x00, 0x80]), Err(7));
-    assert_eq!(read(&[0x10, 0x00, 0x01]), Err(1));
+    assert_eq!(read(&[0x10, 0x00, 0x00, 0x40, 0x01, 0x40]), Err(8));
+    assert_eq!(read(&[0x10, 0x00, 0x00, 0x40, 0x20, 0x00]), Err(7));
+    assert_eq!(read(&[0x10, 0x00, 0x00, 0x40]), Err(1));
     // The last spare bit.
-    assert_eq!(read(&[0x20, 0x20, 0x00, 0x10, 0x40, 0x01]), Err(9));
+    assert_eq!(read(&[0x10, 0x00, 0x00, 0x01]), Err(9));
+}
+
+/// Each output is judged by 6 as soon as it is read.
+#[test]
+fn outputs_in_turn() {
+    // Of one input: two outputs, of which the first is line 0 or 1; the second is cut off, or line 1.
+    assert_eq!(read(&[0x10, 0x08, 0x00]), Err(1));
+    assert_eq!(read(&[0x10, 0x08, 0x10]), Err(6));
+    assert_eq!(read(&[0x10, 0x08, 0x00, 0x20]), Err(6));
+    assert_eq!(read(&[0x10, 0x08, 0x00, 0x00]), Err(1));
+    assert_eq!(read(&[0x10, 0x08, 0x00, 0x00, 0x00]).unwrap().output_count, 2);
+    // The highest of four.
+    let job = without_gates(8, &[7, 0, 7, 3], &[]);
+    assert_eq!(read(&written(&job)), Ok(job));
+    for place in 0..4 {
+        let mut job = job;
+        job.outputs[place] = 8;
+        assert_eq!(write(&job, &mut []), Err(6));
+    }
+}
+
+/// In a record the number of outputs is judged after the gates and before the output lines.
+#[test]
+fn outputs_of_a_record() {
+    for count in [0, 5, 255] {
+        let mut job = without_gates(8, &[8], &[]);
+        job.output_count = count;
+        assert_eq!(write(&job, &mut []), Err(20));
+        job.gate_count = 1;
+        job.gates[0] = Gate::Buf(8);
+        assert_eq!(write(&job, &mut []), Err(4));
+    }
+    // Unused outputs are neither checked nor written.
+    let mut job = without_gates(1, &[0], &[]);
+    job.outputs = [0, 9, 9, 9];
+    assert_eq!(written(&job), JOB_P2);
+}
+
+/// A copy of an input twice, then another input: the first and the third differ, the second tells nothing more.
+#[test]
+fn several_outputs() {
+    let faults = [Fault::Stuck(0, false), Fault::Stuck(1, false), Fault::Bridge(0, 1, true)];
+    let bytes = written(&without_gates(2, &[0, 0, 1], &faults));
+    let mut out = [0x5a; 2];
+    for (circuit, tables) in [[0x50, 0x50, 0x30], [0, 0, 0x30], [0x50, 0x50, 0], [0x10; 3]].iter().enumerate() {
+        for (output, expected) in tables.iter().enumerate() {
+            assert_eq!(table(&bytes, circuit, output, &mut out), Ok(()));
+            assert_eq!(out, [*expected, 0x5a]);
+        }
+    }
+    let mut work = [7; 50];
+    let chosen = choose(&bytes, Isolating, Mrm, 0, &mut work);
+    assert!(matches!(chosen, Chosen::Signature { outputs: 3, faults: 3, .. }), "{chosen:?}");
+    assert_eq!(signature(&bytes, Isolating, Mrm), [(1, 0), (2, 2)]);
+    assert_eq!(signature(&bytes, Detecting, Mrm), [(1, 0), (2, 2)]);
+    #[rustfmt::skip]
+    let spectra = [
+        0, 1, 0, 2, 0, 1, 0, 2, 0, 0, 1, 2,
+        0, 0, 0, 0, 0, 0, 0, 0, 0, 0, 1, 2,
+        0, 1, 0, 2, 0, 1, 0, 2, 0, 0, 0, 0,
+        0, 0, 0, 1, 0, 0, 0, 1, 0, 0, 0, 1,
+        7, 7,
+    ];
+    assert_eq!(work, spectra);
+    assert_eq!(locate(&bytes, Mrm, 0, &[1, 2], &[0, 2], &[0, 0], &mut work), Located::Alone(3));
+    assert_eq!(locate(&bytes, Mrm, 0, &[2, 1, 1], &[2, 1, 0], &[0, 1, 1], &mut work), Located::Alone(2));
+    assert_eq!(locate(&bytes, Mrm, 0, &[1], &[2], &[0], &mut work), Located::Several(0, 4));
+    let text = "inputs 2 gates 0 faults 3\nsignature 1:0 2:2\n0 1 1\n1 0 1\n2 1 0\n3 0 0\n";
+    assert_eq!(report(&bytes), text.as_bytes());
+}
+
+/// Circuits are alike when all outputs agree on every input.
+#[test]
+fn alike_at_one_output_only() {
+    let faults = [Fault::Stuck(1, false), Fault::Stuck(1, true)];
+    let mut work = [0; 24];
+    assert_eq!(choose(&written(&without_gates(2, &[0], &faults)), Isolating, Rm, 0, &mut work), Chosen::Alike(0, 1));
+    assert_eq!(signature(&written(&without_gates(2, &[0, 1], &faults)), Isolating, Mrm), [(2, 1)]);
+    assert_eq!(signature(&written(&without_gates(2, &[0, 1], &faults)), Isolating, Rm), [(0, 1), (2, 1)]);
 }
 
 #[test]
@@ -112,23 +217,37 @@ fn more_bytes_than_any_job_are_9() {
 }
 
 #[test]
-fn longest_job_has_no_spare_bit() {
-    let mut job = read(&[0x80, 0, 0]).unwrap();
+fn longest_job_has_one_spare_bit() {
+    let mut job = without_gates(8, &[71, 0, 71, 7], &[Fault::Bridge(6, 7, false); 63]);
     job.gate_count = 64;
     // A chain of gates, each read by the next.
     job.gates = std::array::from_fn(|q| Gate::Xnor(7 + q as u8, 7));
-    job.output = 71;
-    job.fault_count = 63;
-    job.faults = [Fault::Bridge(6, 7, false); 63];
-    let mut out = [0xee; 270];
-    assert_eq!(write(&job, &mut out[..264]), Err(10));
-    assert_eq!(out, [0xee; 270]);
-    assert_eq!(write(&job, &mut out), Ok(265));
-    assert_eq!(out[265..], [0xee; 5]);
-    assert_eq!(read(&out[..265]), Ok(job));
-    assert_eq!(read(&out[..264]), Err(1));
-    assert_eq!(read(&out[..266]), Err(9));
+    let mut out = [0xee; 273];
+    assert_eq!(write(&job, &mut out[..267]), Err(10));
+    assert_eq!(out, [0xee; 273]);
+    assert_eq!(write(&job, &mut out), Ok(268));
+    assert_eq!(out[268..], [0xee; 5]);
+    assert_eq!(read(&out[..268]), Ok(job));
+    assert_eq!(read(&out[..267]), Err(1));
+    assert_eq!(read(&out[..269]), Err(9));
     assert_eq!(read(&out), Err(9));
+    out[267] |= 1;
+    assert_eq!(read(&out[..268]), Err(9));
+}
+
+/// The report lends 32768 numbers. All of these jobs have alike circuits, for which 15 comes after 10.
+#[test]
+fn report_at_the_edge_of_its_work() {
+    let first_line = |inputs, outputs: &[u8], faults: usize| {
+        let job = without_gates(inputs, outputs, &[Fault::Stuck(0, false); 63][..faults]);
+        String::from_utf8(report(&written(&job))).unwrap()
+    };
+    assert_eq!(first_line(8, &[0; 4], 31), "refused 15 1 2\n");
+    assert_eq!(first_line(8, &[0; 4], 32), "refused 10\n");
+    assert_eq!(first_line(8, &[0; 3], 41), "refused 15 1 2\n");
+    assert_eq!(first_line(8, &[0; 3], 42), "refused 10\n");
+    assert_eq!(first_line(8, &[0; 2], 63), "refused 15 1 2\n");
+    assert_eq!(first_line(7, &[0; 4], 63), "refused 15 1 2\n");
 }
 
 #[test]
@@ -147,24 +266,29 @@ fn refusals_come_in_the_stated_order() {
     assert_eq!(undo(1, &[], Rm, 1, &mut []), Err(14));
     assert_eq!(undo(1, &[0, 2], Rm, 1, &mut []), Err(14));
     assert_eq!(undo(1, &[0, 1], Rm, 1, &mut []), Err(10));
-    assert_eq!(table(&JOB_A, 4, &mut []), Err(11));
-    assert_eq!(table(&JOB_A, 3, &mut []), Err(10));
+    assert_eq!(table(&JOB_A, 4, 1, &mut []), Err(11));
+    assert_eq!(table(&JOB_A, 3, 1, &mut []), Err(20));
+    assert_eq!(table(&JOB_A, 3, usize::MAX, &mut []), Err(20));
+    assert_eq!(table(&JOB_A, 3, 0, &mut []), Err(10));
     assert_eq!(choose(&JOB_P10, Isolating, Rm, 4, &mut []), Chosen::Refused(13));
     assert_eq!(choose(&JOB_P10, Isolating, Rm, 3, &mut numbers[..7]), Chosen::Refused(10));
-    assert_eq!(locate(&JOB_P10, Rm, 4, &[4], &[], &mut []), Located::Refused(13));
-    assert_eq!(locate(&JOB_P10, Rm, 3, &[4], &[], &mut []), Located::Refused(16));
-    assert_eq!(locate(&JOB_P10, Rm, 3, &[3], &[], &mut []), Located::Refused(17));
-    assert_eq!(locate(&JOB_P10, Rm, 3, &[3], &[0], &mut numbers[..7]), Located::Refused(10));
+    assert_eq!(locate(&JOB_P10, Rm, 4, &[4], &[1], &[], &mut []), Located::Refused(13));
+    assert_eq!(locate(&JOB_P10, Rm, 3, &[3, 4], &[1], &[], &mut []), Located::Refused(16));
+    assert_eq!(locate(&JOB_P10, Rm, 3, &[3], &[0, 1], &[], &mut []), Located::Refused(20));
+    assert_eq!(locate(&JOB_P10, Rm, 3, &[3], &[0], &[], &mut []), Located::Refused(17));
+    assert_eq!(locate(&JOB_P10, Rm, 3, &[3], &[], &[0], &mut []), Located::Refused(17));
+    assert_eq!(locate(&JOB_P10, Rm, 3, &[], &[0], &[0], &mut []), Located::Refused(17));
+    assert_eq!(locate(&JOB_P10, Rm, 3, &[3], &[0], &[0], &mut numbers[..7]), Located::Refused(10));
     assert_eq!(numbers, [9; 8]);
 }
 
 #[test]
 fn locating_job_a() {
     let mut work = [0; 16];
-    assert_eq!(locate(&JOB_A, Mrm, 0, &[1, 3], &[0, 2], &mut work), Located::Alone(2));
-    assert_eq!(locate(&JOB_A, Mrm, 0, &[3, 3, 1], &[2, 2, 1], &mut work), Located::Alone(3));
-    assert_eq!(locate(&JOB_A, Mrm, 0, &[3], &[2], &mut work), Located::Several(2, 2));
-    assert_eq!(locate(&JOB_A, Mrm, 0, &[3], &[3], &mut work), Located::Nowhere);
-    assert_eq!(locate(&JOB_A, Mrm, 0, &[], &[], &mut work), Located::Several(0, 4));
-    assert_eq!(locate(&[0x10, 0, 0], Mrm, 0, &[], &[], &mut work), Located::Alone(0));
+    assert_eq!(locate(&JOB_A, Mrm, 0, &[1, 3], &[0, 0], &[0, 2], &mut work), Located::Alone(2));
+    assert_eq!(locate(&JOB_A, Mrm, 0, &[3, 3, 1], &[0, 0, 0], &[2, 2, 1], &mut work), Located::Alone(3));
+    assert_eq!(locate(&JOB_A, Mrm, 0, &[3], &[0], &[2], &mut work), Located::Several(2, 2));
+    assert_eq!(locate(&JOB_A, Mrm, 0, &[3], &[0], &[3], &mut work), Located::Nowhere);
+    assert_eq!(locate(&JOB_A, Mrm, 0, &[], &[], &[], &mut work), Located::Several(0, 4));
+    assert_eq!(locate(&JOB_P2, Mrm, 0, &[], &[], &[], &mut work), Located::Alone(0));
 }

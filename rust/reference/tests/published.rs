@@ -1,6 +1,9 @@
 //! The vectors of published.txt: what the papers print and what the definitions give for their circuits.
 
-use reference::{choose, locate, report, spectrum, table, undo, Chosen, Kind, Located, Purpose};
+use reference::{choose, locate, read, report, spectrum, table, undo, Chosen, Entry, Kind, Located, Purpose};
+
+/// The most numbers that a job's work has.
+const MOST_WORK: usize = 64 * 4 * 256;
 
 fn bytes(text: &str) -> Vec<u8> {
     (0..text.len() / 2).map(|i| u8::from_str_radix(&text[2 * i..2 * i + 2], 16).unwrap()).collect()
@@ -22,6 +25,15 @@ fn number(word: &str) -> usize {
     word.parse().unwrap()
 }
 
+/// Entries as index, colon, output.
+fn entries(words: &[&str]) -> Vec<Entry> {
+    let entry = |word: &&str| {
+        let (index, output) = word.split_once(':').unwrap();
+        Entry { index: index.parse().unwrap(), output: output.parse().unwrap() }
+    };
+    words.iter().map(entry).collect()
+}
+
 fn check_spectrum(inputs: usize, packed: &[u8], kind: Kind, polarity: usize, coefficients: &[u16]) {
     let mut out = vec![0; 1 << inputs];
     assert_eq!(spectrum(inputs, packed, kind, polarity, &mut out), Ok(()));
@@ -32,35 +44,41 @@ fn check_spectrum(inputs: usize, packed: &[u8], kind: Kind, polarity: usize, coe
 }
 
 fn check_signature(job: &[u8], purpose: Purpose, kind: Kind, polarity: usize, expected: &[&str]) {
-    let mut work = vec![0; 64 * 256];
+    let mut work = vec![0; MOST_WORK];
     match (choose(job, purpose, kind, polarity, &mut work), expected) {
         (Chosen::Alike(lower, higher), ["alike", pair @ ..]) => {
             assert_eq!([lower as u16, higher as u16], *numbers(pair));
         }
-        (Chosen::Signature { count, entries, .. }, _) => assert_eq!(entries[..count], numbers(expected)),
+        (Chosen::Signature { count, entries: found, .. }, _) => assert_eq!(found[..count], entries(expected)),
         (other, _) => panic!("{other:?}, not {expected:?}"),
     }
 }
 
-/// The circuit differs from the good one at these indices and no others.
-fn check_shows(job: &[u8], kind: Kind, polarity: usize, circuit: usize, indices: &[u16]) {
-    let mut work = vec![0; 64 * 256];
-    locate(job, kind, polarity, &[], &[], &mut work);
-    let places = 1 << (job[0] >> 4);
-    let differs = |j: &u16| work[usize::from(*j)] != work[circuit * places + usize::from(*j)];
-    assert_eq!((0..places as u16).filter(differs).collect::<Vec<_>>(), indices);
+/// The circuit differs from the good one at these entries and no others.
+fn check_shows(job: &[u8], kind: Kind, polarity: usize, circuit: usize, expected: &[Entry]) {
+    let mut work = vec![0; MOST_WORK];
+    locate(job, kind, polarity, &[], &[], &[], &mut work);
+    let (inputs, outputs) = read(job).map(|job| (job.inputs, u16::from(job.output_count))).unwrap();
+    let all = (0..1 << inputs).flat_map(|index| (0..outputs).map(move |output| Entry { index, output }));
+    let coefficient = |circuit: usize, entry: &Entry| {
+        let row = circuit * usize::from(outputs) + usize::from(entry.output);
+        work[(row << inputs) + usize::from(entry.index)]
+    };
+    let differs = |entry: &Entry| coefficient(0, entry) != coefficient(circuit, entry);
+    assert_eq!(all.filter(differs).collect::<Vec<_>>(), expected);
 }
 
 fn check_locate(job: &[u8], kind: Kind, polarity: usize, rest: &[&str]) {
-    let parts: Vec<&[&str]> = rest.split(|word| *word == ":").collect();
+    let parts: Vec<&[&str]> = rest.split(|word| *word == "/").collect();
     let expected = match parts[2] {
         ["none"] => Located::Nowhere,
         ["alone", circuit] => Located::Alone(number(circuit)),
         ["several", lowest, count] => Located::Several(number(lowest), number(count)),
         other => panic!("{other:?}"),
     };
-    let mut work = vec![0; 64 * 256];
-    assert_eq!(locate(job, kind, polarity, &numbers(parts[0]), &numbers(parts[1]), &mut work), expected);
+    let mut work = vec![0; MOST_WORK];
+    let (indices, outputs): (Vec<u16>, Vec<u16>) = entries(parts[0]).iter().map(|e| (e.index, e.output)).unzip();
+    assert_eq!(locate(job, kind, polarity, &indices, &outputs, &numbers(parts[1]), &mut work), expected);
 }
 
 #[test]
@@ -81,12 +99,14 @@ fn published_vectors() {
                 assert_eq!(answer, Err(14));
             }
             ["tables", ..] => {
-                for (circuit, packed) in words[1..].iter().enumerate() {
+                let outputs = usize::from(read(&job).unwrap().output_count);
+                for (place, packed) in words[1..].iter().enumerate() {
                     let mut out = vec![0; packed.len() / 2];
-                    assert_eq!(table(&job, circuit, &mut out), Ok(()));
+                    assert_eq!(table(&job, place / outputs, place % outputs, &mut out), Ok(()));
                     assert_eq!(out, bytes(packed), "{line}");
                 }
-                assert_eq!(table(&job, words.len() - 1, &mut [0; 32]), Err(11));
+                assert_eq!(table(&job, (words.len() - 1) / outputs, 0, &mut [0; 32]), Err(11));
+                assert_eq!(table(&job, 0, outputs, &mut [0; 32]), Err(20));
             }
             ["isolating", k, polarity, ..] => {
                 check_signature(&job, Purpose::Isolating, kind(k), number(polarity), &words[3..]);
@@ -99,12 +119,12 @@ fn published_vectors() {
                 assert_eq!(String::from_utf8(report(&job)).unwrap(), text);
             }
             ["shows", k, polarity, circuit, ..] => {
-                check_shows(&job, kind(k), number(polarity), number(circuit), &numbers(&words[4..]));
+                check_shows(&job, kind(k), number(polarity), number(circuit), &entries(&words[4..]));
             }
             ["locate", k, polarity, ..] => check_locate(&job, kind(k), number(polarity), &words[3..]),
             _ => panic!("{line}"),
         }
         count += 1;
     }
-    assert_eq!(count, 575);
+    assert_eq!(count, 599);
 }
