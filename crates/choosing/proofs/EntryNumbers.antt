@@ -2,8 +2,9 @@
 --
 --   code-fits       an entry's number fits two bytes
 --   outputs-codes   the numbers of an index's entries, output after output
---   length-codes    as many numbers as indices times outputs
---   codes-none, codes-next, codes-done   the numbers of the entries of the first indices are put, index after index
+--   length-outputs  as many as there are outputs
+--   length-codes    those of indices are as many as indices times outputs
+--   codesAt, codes-block   and stand index after index
 --   output-fits, index-fits   what an entry's number is taken apart into fits two bytes
 --   index-rest      its index is what is left of it
 --   decoded-map     numbers taken apart one by one
@@ -26,15 +27,16 @@ use lib.Count.{ones-le}
 use lib.Pow.{pow-mono}
 use lib.ListN.{length, getD, take, drop, length-map, length-append, List·getD-map}
 use lib.Seq.{take-suc, take-all, take-at, length-take-le}
+use Rattle.bits.specs.Blocks.{block}
 use Rattle.bits.specs.Bounds.{allBelow}
 use Rattle.bits.specs.Packed.{tabulate}
 use Rattle.bits.specs.Slices.{splice}
+use Rattle.bits.proofs.Blocks.{block-ext, block-append}
 use Rattle.bits.proofs.Bounds.{members-below}
 use Rattle.bits.proofs.Tests.{and-i}
 use Rattle.bits.proofs.Splice.{length-splice, splice-start}
 use Rattle.bits.proofs.Packed.{length-tabulate, tabulate-ext, tabulate-list}
 use Rattle.job.specs.Layout.{maxInputs, maxOutputs}
-use Rattle.tables.proofs.Blocks.{splice-none, splice-append}
 use Rattle.spectra.specs.Codes.{codeOf, codesOf}
 use Rattle.spectra.specs.Listed.{Entry}
 use Rattle.spectra.proofs.Codes.{code-below, code-index, code-output}
@@ -63,16 +65,7 @@ outputs-codes index size (suc outputs) =
 
 -- ---- index after index
 
-codes-snoc : (size outputs : ℕ) (l : List ℕ) (x : ℕ) → codesOf size (entriesOf outputs (l ++ (x ∷ []))) ≡ codesOf size (entriesOf outputs l) ++ codesOf size (outputsAt x outputs)
-unfolding entriesOf
-codes-snoc size outputs [] x = ap (codesOf size) (append-nil (outputsAt x outputs))
-codes-snoc size outputs (y ∷ l) x =
-    map-append (codeOf size) (outputsAt y outputs) (entriesOf outputs (l ++ (x ∷ [])))
-    ∙ ap (λ (m : List ℕ). codesOf size (outputsAt y outputs) ++ m) (codes-snoc size outputs l x)
-    ∙ sym (append-assoc (codesOf size (outputsAt y outputs)) (codesOf size (entriesOf outputs l)) (codesOf size (outputsAt x outputs)))
-    ∙ ap (λ (m : List ℕ). m ++ codesOf size (outputsAt x outputs)) (sym (map-append (codeOf size) (outputsAt y outputs) (entriesOf outputs l)))
-
-length-outputs : (index size outputs : ℕ) → length (codesOf size (outputsAt index outputs)) ≡ outputs
+pub length-outputs : (index size outputs : ℕ) → length (codesOf size (outputsAt index outputs)) ≡ outputs
 length-outputs index size outputs = ap length (sym (outputs-codes index size outputs)) ∙ length-tabulate outputs (λ o. o * size + index)
 
 pub length-codes : (size outputs : ℕ) (l : List ℕ) → length (codesOf size (entriesOf outputs l)) ≡ length l * outputs
@@ -84,50 +77,20 @@ length-codes size outputs (x ∷ l) =
     ∙ ap₂ _+_ (length-outputs x size outputs) (length-codes size outputs l)
     ∙ (let e : outputs + length l * outputs ≡ suc (length l) * outputs = omega (arith, suc-mul (length l) outputs) in e)
 
--- the entries of the first indices
-pub record CodesTo (size outputs : ℕ) (indices start of : List ℕ) (i : ℕ) : Type 0 where
-  pub within : i ≤ length indices
-  pub room : length indices * outputs ≤ length start
-  pub put : of ≡ splice start 0 (codesOf size (entriesOf outputs (take i indices)))
+-- the numbers of the entries of index i of a list
+abbrev pub codesAt : ℕ → ℕ → List ℕ → ℕ → List ℕ
+codesAt size outputs l i = codesOf size (outputsAt (getD l i 0) outputs)
 
-module _ {size outputs : ℕ} {indices start : List ℕ} where
-  pub codes-none : length indices * outputs ≤ length start → CodesTo size outputs indices start start 0
-  unfolding entriesOf
-  codes-none h = record { within = omega arith; room = h; put = sym (splice-none start 0) }
-
-  module _ {of : List ℕ} {i : ℕ} (c : CodesTo size outputs indices start of i) where
-    length-first : length (codesOf size (entriesOf outputs (take i indices))) ≡ i * outputs
-    length-first = length-codes size outputs (take i indices) ∙ ap (λ (k : ℕ). k * outputs) (length-take-le i indices (c .within))
-
-    first-room : i * outputs ≤ length start
-    first-room = le-trans (mul-le-mul-right outputs (c .within)) (c .room)
-
-    pub codes-length : length of ≡ length start
-    codes-length = ap length (c .put) ∙ length-splice start 0 (codesOf size (entriesOf outputs (take i indices))) (omega (arith, length-first, first-room))
-
-    pub codes-room : i < length indices → i * outputs + outputs ≤ length of
-    codes-room h =
-        let m : suc i * outputs ≤ length indices * outputs = mul-le-mul-right outputs h in
-        omega (arith, m, suc-mul i outputs, c .room, codes-length)
-
-    pub codes-next : {after : List ℕ} → i < length indices → after ≡ splice of (i * outputs) (codesOf size (outputsAt (getD indices i 0) outputs))
-        → CodesTo size outputs indices start after (i + 1)
-    codes-next {after} h e =
-        record {
-          within = omega arith;
-          room = c .room;
-          put =
-              e
-              ∙ ap (λ (s : List ℕ). splice s (i * outputs) (codesOf size (outputsAt (getD indices i 0) outputs))) (c .put)
-              ∙ splice-append start 0 (codesOf size (entriesOf outputs (take i indices))) (codesOf size (outputsAt (getD indices i 0) outputs)) (i * outputs)
-              (zero-add (length (codesOf size (entriesOf outputs (take i indices)))) ∙ length-first) first-room
-              ∙ ap (splice start 0) (sym (codes-snoc size outputs (take i indices) (getD indices i 0)))
-              ∙ ap (λ (l : List ℕ). splice start 0 (codesOf size (entriesOf outputs l)))
-              (sym (ap (λ (k : ℕ). take k indices) (add-one i) ∙ take-suc indices i 0 h));
-        }
-
-    pub codes-done : length indices ≤ i → of ≡ splice start 0 (codesOf size (entriesOf outputs indices))
-    codes-done h = c .put ∙ ap (λ (l : List ℕ). splice start 0 (codesOf size (entriesOf outputs l))) (take-all i indices h)
+pub codes-block : (size outputs : ℕ) (l : List ℕ) → block (length l) (codesAt size outputs l) ≡ codesOf size (entriesOf outputs l)
+unfolding entriesOf block
+codes-block size outputs [] = refl
+codes-block size outputs (x ∷ l) =
+    let f = codesAt size outputs (x ∷ l) in
+    let more : suc (length l) ≡ 1 + length l = omega arith in
+    ap (λ (k : ℕ). block k f) more ∙ sym (block-append 1 (length l) f)
+    ∙ ap (λ (m : List ℕ). codesOf size (outputsAt x outputs) ++ m)
+    (block-ext (length l) (λ i. f (1 + i)) (codesAt size outputs l) (λ i _. let e : 1 + i ≡ suc i = omega arith in ap f e) ∙ codes-block size outputs l)
+    ∙ sym (map-append (codeOf size) (outputsAt x outputs) (entriesOf outputs l))
 
 -- ---- numbers taken apart
 

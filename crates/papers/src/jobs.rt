@@ -38,7 +38,7 @@ struct Row {
     end: usize,
 }
 
-// The number of a circuit's row at an output, among rows of the circuits one after the other; no row's where there is none.
+// The number of a circuit's row at an output, the rows going circuit after circuit, output after output; `MAX_ROWS` where there is none.
 fn row_number(outputs: usize, circuit: usize, output: usize) -> usize {
     if MAX_FAULTS < circuit {
         return MAX_ROWS;
@@ -195,7 +195,7 @@ fn list_filled(line: &[u8], counts: Counts, packed: &[u8]) {
 
 fn list_unlike(work: &[u16], counts: Counts, circuit: usize) {
     let outputs = counts.outputs;
-    listing::begin(b"detects");
+    listing::put(b"detects");
     let mut o = 0;
     while o < outputs {
         list_unlike_at(work, counts, circuit, o);

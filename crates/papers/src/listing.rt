@@ -2,7 +2,8 @@
 use bits::Refusal;
 use libc::STDOUT_FILENO;
 
-fn put(text: &[u8]) {
+// Text within a line.
+pub fn put(text: &[u8]) {
     io::write_all(STDOUT_FILENO, text);
 }
 
@@ -100,11 +101,6 @@ pub fn bytes(word: &[u8], bytes: &[u8], count: usize) {
 pub fn circuit(circuit: usize, table: &[u8]) {
     io::print_decimal(STDOUT_FILENO, circuit as u64);
     bytes(b"", table, table.len());
-}
-
-// The start of a line.
-pub fn begin(word: &[u8]) {
-    put(word);
 }
 
 // The entries at which two rows of an output have different numbers.

@@ -135,6 +135,8 @@ fn document_examples() {
     expect(&[], b"refused 1\n", "P1");
     expect(&[0x10, 0, 0, 0], b"inputs 1 gates 0 faults 0\nsignature\n0\n", "P2");
     expect(&[0x10, 0, 0, 0, 0], b"refused 9\n", "P3");
+    // P3's bytes before there were several outputs are P2's now, and P2's end inside the fault count
+    expect(&[0x10, 0, 0], b"refused 1\n", "P2 in the earlier layout");
     expect(&[0x20, 0x20, 0x00, 0x10, 0x10, 0x30, 0x00, 0x20], b"refused 15 0 1\n", "P10");
 }
 

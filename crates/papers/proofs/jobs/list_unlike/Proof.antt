@@ -10,11 +10,11 @@ Inv-loop work counts circuit outputs o₀ t7 o = Unit {0}
 abbrev μ-loop : tie.MeasureT-loop
 μ-loop work counts circuit outputs o₀ t7 o = outputs - o
 
-slice-aggregate-begin : tie.Need-slice-aggregate-begin Inv-loop μ-loop
-slice-aggregate-begin c = search needs
+slice-aggregate-put : tie.Need-slice-aggregate-put Inv-loop μ-loop
+slice-aggregate-put c = search needs
 
-begin-requires : tie.Need-begin-requires Inv-loop μ-loop
-begin-requires c κs = search needs
+put-requires : tie.Need-put-requires Inv-loop μ-loop
+put-requires c κs = search needs
 
 loop-holds : tie.Need-loop-holds Inv-loop μ-loop
 loop-holds c = search needs
@@ -46,8 +46,8 @@ list-unlike-spec =
     (tie.spec
     Inv-loop
     μ-loop
-    slice-aggregate-begin
-    begin-requires
+    slice-aggregate-put
+    put-requires
     loop-holds
     list-unlike-at-requires
     add-o
