@@ -3,7 +3,8 @@
 --   block-ext      blocks of equal lists are equal
 --   block-append   a block behind a block
 --   block-blocks   blocks side by side are one block
---   length-block   lists of one length together have so many times that length
+--   length-below   lists of one length together have so many times that length
+--   length-block   lists that all have one length together have so many times that length
 --   block-at       element j of list i stands at i × length + j
 --   block-list     and the whole list from there on
 use Prim.Native.Nat.{ℕ, zero, suc, _+_, _*_, _≤_, _<_}
@@ -37,10 +38,14 @@ block-blocks (suc a) b f =
     ap (λ (l : List ℕ). l ++ block b (λ j. f (a * b + j))) (block-blocks a b f)
     ∙ block-append (a * b) b f ∙ ap (λ (k : ℕ). block k f) (sym (suc-mul a b))
 
-pub length-block : (w : ℕ) (f : ℕ → List ℕ) → ((i : ℕ) → length (f i) ≡ w) → (c : ℕ) → length (block c f) ≡ c * w
+pub length-below : (w : ℕ) (f : ℕ → List ℕ) (c : ℕ) → ((i : ℕ) → i < c → length (f i) ≡ w) → length (block c f) ≡ c * w
 unfolding block
-length-block w f long zero = sym (zero-mul w)
-length-block w f long (suc c) = length-append (block c f) (f c) ∙ ap₂ _+_ (length-block w f long c) (long c) ∙ sym (suc-mul c w)
+length-below w f zero long = sym (zero-mul w)
+length-below w f (suc c) long =
+    length-append (block c f) (f c) ∙ ap₂ _+_ (length-below w f c (λ i h. long i (omega arith))) (long c (omega arith)) ∙ sym (suc-mul c w)
+
+pub length-block : (w : ℕ) (f : ℕ → List ℕ) → ((i : ℕ) → length (f i) ≡ w) → (c : ℕ) → length (block c f) ≡ c * w
+length-block w f long c = length-below w f c (λ i _. long i)
 
 module _ (width : ℕ) (f : ℕ → List ℕ) (wide : (i : ℕ) → length (f i) ≡ width) where
   -- the list lies before the last, or is the last

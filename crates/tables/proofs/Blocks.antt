@@ -2,7 +2,6 @@
 --
 --   tabulate-block   bytes worked out one by one are a block of tables, each of the bytes at its own place
 --   length-slice     a slice that ends within its list has as many numbers as it says
---   length-below     lists of one length together have so many times that length
 --   splice-none      no new bytes
 --   splice-append    new bytes put behind new bytes
 --   splice-again     new bytes put over as many new bytes
@@ -27,7 +26,7 @@ use lib.Seq.{length-take-le, take-at, drop-at, drop-drop, drop-append-add}
 use mir.Syntax.{w64}
 use mir.Val.{Fits}
 use Rattle.bits.specs.Packed.{tabulate}
-use Rattle.bits.proofs.Blocks.{block-append, length-block}
+use Rattle.bits.proofs.Blocks.{block-append, length-below, length-block}
 use Rattle.bits.specs.Slices.{slice, splice}
 use Rattle.bits.proofs.Slices.{slice-same, slice-other}
 use Rattle.bits.proofs.Splice.{length-splice}
@@ -56,12 +55,6 @@ row-end r w c i h =
 
 pub length-slice : (at w : ℕ) (l : List ℕ) → at + w ≤ length l → length (slice at w l) ≡ w
 length-slice at w l h = length-take-le w (drop at l) (omega (arith, length-drop at l))
-
-pub length-below : (w : ℕ) (f : ℕ → List ℕ) (c : ℕ) → ((i : ℕ) → i < c → length (f i) ≡ w) → length (block c f) ≡ c * w
-unfolding block
-length-below w f zero long = sym (zero-mul w)
-length-below w f (suc c) long =
-    length-append (block c f) (f c) ∙ ap₂ _+_ (length-below w f c (λ i h. long i (omega arith))) (long c (omega arith)) ∙ sym (suc-mul c w)
 
 pub splice-append : (out : List ℕ) (at : ℕ) (a b : List ℕ) (k : ℕ) → at + length a ≡ k → k ≤ length out → splice (splice out at a) k b ≡ splice out at (a ++ b)
 splice-append out at a b k e h =

@@ -37,8 +37,8 @@ use Rattle.bits.specs.Blocks.{block}
 use Rattle.tables.specs.Work.{blockBytes, rowOf, Wide, Sound, Good, Side, Asked, tablesAt, tablesFrom, askedRow, rowsAt, RowsThere}
 use Rattle.tables.specs.declared.evaluator.Batch.{Batch}
 use Rattle.tables.specs.declared.rows.Shape.{Shape}
-use Rattle.bits.proofs.Blocks.{block-ext}
-use Rattle.tables.proofs.Blocks.{length-slice, length-below, splice-again, Placed, placed-none, placed-length, placed-room, placed-one, placed-next, placed-more}
+use Rattle.bits.proofs.Blocks.{block-ext, length-below}
+use Rattle.tables.proofs.Blocks.{length-slice, splice-again, Placed, placed-none, placed-length, placed-room, placed-one, placed-next, placed-more}
 use Rattle.tables.proofs.WrittenTables.{side-tables, length-tables, tables-single, tables-all}
 use Rattle.tables.proofs.Sizes.{block-fits}
 use Rattle.tables.proofs.Space.{row-order, wide-bytes, wide-some, wide-kept, wide-fewer, tableBytes-most, sound-bytes, sound-some, block-room}
