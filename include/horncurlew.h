@@ -1,9 +1,11 @@
 /*
  * Reed-Muller signatures of a small logic circuit: the proved library, for C.
  *
- * A job holds a circuit of 1 to 8 inputs, up to 64 gates and 1 to 4 outputs, and a list of up to 63 single faults. N
- * is 2 to the power of the number of inputs. Circuit 0 is the good one, circuit c the one with fault c, from 1. Outputs
- * number from 0 in the order of the job's fields. An entry, of a signature or of a list, is an index and an output.
+ * A job holds a circuit of 1 to 8 inputs, up to 64 gates and 1 to 4 outputs, and a list of up to 63 single faults, each
+ * with the number, 1 to 63, of the part that is mended for it; several faults may have one part. N is 2 to the power of
+ * the number of inputs. Circuit 0 is the good one and has part 0, circuit c is the one with fault c, from 1, and has
+ * its part. Outputs number from 0 in the order of the job's fields. An entry, of a signature or of a list, is an index
+ * and an output.
  *
  * What a caller owes: a length is the number of elements, not of bytes, that its pointer is lent for; a pointer isn't
  * null unless its length is 0; it is aligned for its elements; and memory that a call may write overlaps nothing else
@@ -27,7 +29,7 @@ extern "C" {
 /* The version of this header: raised with every change of the job's layout, of a function, a struct or a number below.
  * Where horncurlew_version() gives another number the library isn't the one that this header declares, and nothing else
  * of it may be called. */
-#define HORNCURLEW_VERSION 3
+#define HORNCURLEW_VERSION 4
 
 /* The stack that a call needs, in bytes, with its answer: choosing, locating and the report, and any other call.
  * Measured on x86-64 Linux over the largest jobs, and rounded up (rust/differential/tests/stack.rs measures again, and
@@ -56,20 +58,22 @@ enum {
     HORNCURLEW_READINGS = 17,      /* the numbers of indices, outputs and readings differ */
     HORNCURLEW_FAULTS = 18,        /* a record with more than 63 faults; no call here takes a record */
     HORNCURLEW_LOOSE_GATE = 19,    /* a loose gate: its line is no output, nor does any output depend on it */
-    HORNCURLEW_OUTPUT_NUMBER = 20  /* an output number that is too high; a record's outputs that aren't 1 to 4 */
+    HORNCURLEW_OUTPUT_NUMBER = 20, /* an output number that is too high; a record's outputs that aren't 1 to 4 */
+    HORNCURLEW_PART = 21           /* a fault's part isn't 1 to 63 */
 };
 
 /* A kind of spectrum: Reed-Muller (sums modulo 2) or, any number but 0, modified Reed-Muller (plain sums). */
 enum { HORNCURLEW_RM = 0, HORNCURLEW_MRM = 1 };
 
-/* What a signature tells apart: every two circuits or, any number but 0, the good circuit and each faulty one. */
+/* What a signature tells apart: every two circuits whose parts differ or, any number but 0, the good circuit and each
+ * faulty one. Faults of one part need no telling apart, equal or not. */
 enum { HORNCURLEW_ISOLATING = 0, HORNCURLEW_DETECTING = 1 };
 
 /* The most outputs of a job. */
 #define HORNCURLEW_MOST_OUTPUTS 4
 
 /* The largest room that a call can need, in elements. */
-#define HORNCURLEW_LONGEST_JOB 268       /* bytes of a job */
+#define HORNCURLEW_LONGEST_JOB 316       /* bytes of a job */
 #define HORNCURLEW_LARGEST_TABLE 32      /* bytes of a packed table */
 #define HORNCURLEW_MOST_COEFFICIENTS 256 /* numbers of a spectrum */
 #define HORNCURLEW_MOST_WORK 65536       /* numbers of the work: 64 circuits of 4 outputs */
@@ -106,11 +110,21 @@ typedef struct {
     uint16_t entry_outputs[HORNCURLEW_MOST_ENTRIES];
 } horncurlew_choice_answer;
 
-/* How many circuits agree, and the lowest of them. */
+/* What was found of the circuits that agree with readings. */
+enum {
+    HORNCURLEW_NOWHERE = 0, /* no circuit agrees */
+    HORNCURLEW_PARTED = 1,  /* one or more agree, and all of them have one part */
+    HORNCURLEW_SEVERAL = 2  /* two or more agree, and they have different parts */
+};
+
+/* Which of these, in found. Under HORNCURLEW_PARTED the part, 0 if it is the good circuit's, and the lowest circuit
+ * that agrees; how many agree isn't told. Under HORNCURLEW_SEVERAL the lowest circuit and how many agree. */
 typedef struct {
     size_t number;
-    size_t agreeing;
+    size_t found;
+    size_t part;
     size_t circuit;
+    size_t agreeing;
 } horncurlew_location_answer;
 
 /* Whether a text was written, 1 or 0, and its length. */
@@ -127,7 +141,7 @@ size_t horncurlew_version(void);
 
 /* Whether the bytes are a job, and its counts. Refusals, as the fields come: at each field 1 if the bytes end in it;
  * 2; 3; for each gate 4, 5; for each output 6, before the next is read; 19, before the fault count is read; for each
- * fault 7, 8; after the last field 9. */
+ * fault, once its four fields are read, 7, 8, 21; after the last field 9. */
 horncurlew_job_answer horncurlew_check(const uint8_t *bytes, size_t bytes_length);
 
 /* Reads a job and writes it again to out. Refusals: reading's, 10. */
@@ -153,9 +167,10 @@ size_t horncurlew_undo(size_t inputs, const uint16_t *numbers, size_t numbers_le
 horncurlew_choice_answer horncurlew_choose(const uint8_t *bytes, size_t bytes_length, uint8_t purpose, uint8_t kind,
                                            size_t polarity, uint16_t *work, size_t work_length);
 
-/* Finds the circuits of a job whose coefficients at the entries are the readings, in order. Entry i is indices[i] at
- * output outputs[i]; entries may come in any order and more than once. The work is as in choosing. Refusals: reading's,
- * 13, 16 for any of the indices, 20 for any of the outputs, 17 where the three lengths aren't equal, 10. */
+/* Finds the circuits of a job whose coefficients at the entries are the readings, in order, and their part where all of
+ * them have one. Entry i is indices[i] at output outputs[i]; entries may come in any order and more than once. The work
+ * is as in choosing. Refusals: reading's, 13, 16 for any of the indices, 20 for any of the outputs, 17 where the three
+ * lengths aren't equal, 10. */
 horncurlew_location_answer horncurlew_locate(const uint8_t *bytes, size_t bytes_length, uint8_t kind, size_t polarity,
                                              const uint16_t *indices, size_t indices_length, const uint16_t *outputs,
                                              size_t outputs_length, const uint16_t *readings, size_t readings_length,

@@ -12,7 +12,7 @@ use mathlib.Core.Bool.{Bool, true, false}
 use mathlib.Core.List.{List, _++_}
 use lib.ListN.{length, drop}
 use Rattle.bits.specs.declared.Refusal.{Refusal}
-use Rattle.bits.specs.declared.Refusal.the-variants.{BytesEnd, Inputs, Gates, GateLine, OneLine, Output, FaultLine, FaultPair, Spare, Memory, Circuit, Table, Polarity, NoSpectrum, Alike, Index, Readings, Faults, LooseGate, OutputNumber}
+use Rattle.bits.specs.declared.Refusal.the-variants.{BytesEnd, Inputs, Gates, GateLine, OneLine, Output, FaultLine, FaultPair, Spare, Memory, Circuit, Table, Polarity, NoSpectrum, Alike, Index, Readings, Faults, LooseGate, OutputNumber, Part}
 use Rattle.bits.specs.declared.Outcome.{Outcome}
 use Rattle.bits.specs.declared.Outcome.the-variants.{Done, Refused}
 
@@ -38,6 +38,7 @@ number Readings = 17
 number Faults = 18
 number LooseGate = 19
 number OutputNumber = 20
+number Part = 21
 
 pub data Answer (A : Type 0) : Type 0 where
   gives : A → Answer A

@@ -42,6 +42,7 @@ pub enum Refusal {
     Faults,
     LooseGate,
     OutputNumber,
+    Part,
 }
 
 impl Refusal {
@@ -70,6 +71,7 @@ impl Refusal {
             Refusal::Faults => 18,
             Refusal::LooseGate => 19,
             Refusal::OutputNumber => 20,
+            Refusal::Part => 21,
         }
     }
 }

@@ -15,7 +15,7 @@ use Rattle.choosing.specs.declared.Purpose.the-variants.{Isolating}
 
 -- of one input and two outputs
 abbrev paired : Family
-paired = record { inputs = 1; circuits = 1; outputs = 2; entry = λ c o m. 0 }
+paired = record { inputs = 1; circuits = 1; outputs = 2; part = λ c. c; entry = λ c o m. 0 }
 
 pub output-last : scanEntries paired
     ≡ record { index = 0; output = 0 } ∷ record { index = 0; output = 1 } ∷ record { index = 1; output = 0 } ∷ record { index = 1; output = 1 } ∷ []
@@ -24,7 +24,7 @@ output-last = refl
 
 -- of one input, both 0 throughout
 abbrev twins : Family
-twins = record { inputs = 1; circuits = 2; outputs = 1; entry = λ c o m. 0 }
+twins = record { inputs = 1; circuits = 2; outputs = 1; part = λ c. c; entry = λ c o m. 0 }
 
 pub ten-first : chosenFrom Isolating twins Mrm 0 3 ≡ refused 10
 unfolding chosenFrom somePair someBelow

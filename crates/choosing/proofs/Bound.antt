@@ -15,7 +15,7 @@ use Rattle.choosing.proofs.Entries.{looked-entry}
 
 module _ (purpose : Purpose) (kind : Kind) (k : ℕ) (F : Family) where
   pub signature-short : 1 ≤ F .circuits → length (signatureIn purpose kind k F) + 1 ≤ F .circuits
-  signature-short h = signature-bounded (coefOf kind k F) (F .circuits) (needed purpose) (scanEntries F) h
+  signature-short h = signature-bounded (coefOf kind k F) (F .circuits) (needed purpose (F .part)) (scanEntries F) h
 
   pub signature-below : (e : Entry) → List·Memᴰ e (signatureIn purpose kind k F) → (e .index < 2 ^ (F .inputs)) × (e .output < F .outputs)
-  signature-below e m = looked-entry F (signature-from (coefOf kind k F) (F .circuits) (needed purpose) (scanEntries F) m)
+  signature-below e m = looked-entry F (signature-from (coefOf kind k F) (F .circuits) (needed purpose (F .part)) (scanEntries F) m)

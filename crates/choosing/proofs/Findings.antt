@@ -1,8 +1,9 @@
 -- Choosing over the filled work is choosing for the listed circuits (specs/Choosing.antt, specs/Looking.antt).
 --
---   mark-needed       circuits a below b are needed apart exactly when their marks differ
+--   marks-needed      circuits a below b are needed apart exactly when their marks differ
+--   needed-same       which pairs are needed depends on the parts alone
 --   filled-answer     what the method chooses from the spectra in the work, by the marks of a purpose
---   chosen-same       choosing sees no more of a family than its entries
+--   chosen-same       choosing sees no more of a family than its parts and entries
 --   exited            what a call answers and leaves
 --   chosen-room       where the spectra are filled, there was room for them
 --   chosen-unfilled   a refusal of the spectra is choosing's
@@ -24,13 +25,13 @@ use Rattle.bits.specs.Answer.Answer.{gives, refused}
 use Rattle.bits.specs.declared.Outcome.{Outcome}
 use Rattle.bits.specs.declared.Outcome.the-variants as outcomes
 use Rattle.bits.specs.declared.Refusal.{Refusal}
-use Rattle.bits.specs.Tabulation.{Tabulates}
 use Rattle.bits.proofs.Answers.{never-gives, refused-same, unless-onward, onward-onward}
+use Rattle.job.specs.Layout.{maxFaults}
 use Rattle.job.specs.declared.Job.{Job}
 use Rattle.reading.specs.Reading.{reading}
 use Rattle.bits.specs.Bounds.{eachBelow, allBelow}
 use Rattle.tables.specs.Family.{Family, familyOf, sameTables}
-use Rattle.tables.specs.Operations.{noCounts}
+use Rattle.tables.specs.Operations.{noCounts, partIn}
 use Rattle.tables.specs.declared.Counts.{Counts}
 use Rattle.tables.specs.declared.Delivery.{Delivery}
 use Rattle.tables.proofs.Families.{SameFamily, Delivers}
@@ -48,17 +49,18 @@ use Rattle.method.proofs.Firsts.{firstPair-same}
 use Rattle.method.proofs.Names.{agree-named, signature-named}
 use Rattle.bits.proofs.Tests.{by-test}
 use Rattle.chooser.specs.Matrix as chooser
-use Rattle.chooser.specs.Matrix.{cell, maxRows, fits, choiceOver}
+use Rattle.chooser.specs.Matrix.{cell, differ, maxRows, fits, choiceOver}
 use Rattle.chooser.specs.declared.Choice as picked
 use Rattle.bits.proofs.Bounds.{each-same}
 use Rattle.chooser.proofs.Relation.{choice-needed}
 use Rattle.choosing.specs.Choosing.{needed, scanOrder, entriesOf, scanEntries, signatureIn, alikePair, signatureOf, Finding, findingBy, finding, chosenFrom, chosenOf, AtExit, found, atExit, countsIn, verdictNumber, verdictPair}
-use Rattle.choosing.specs.Looking.{mark, Filled, unchosen, chosenBy, decodedFrom, chosenFor, scanCodes, chosenIn}
+use Rattle.choosing.specs.Looking.{marksOf, Filled, unchosen, chosenBy, decodedFrom, chosenFor, scanCodes, chosenIn}
 use Rattle.choosing.specs.declared.Chosen.{Chosen}
 use Rattle.choosing.specs.declared.Purpose.{Purpose}
 use Rattle.choosing.specs.declared.Purpose.the-variants.{Isolating, Detecting}
 use Rattle.choosing.specs.declared.Verdict.the-variants.{Refused}
 use Rattle.choosing.specs.declared.Signature.{Signature}
+use Rattle.choosing.proofs.Arrays.{faulty-mark}
 use Rattle.choosing.proofs.Bound.{signature-below}
 use Rattle.choosing.proofs.Entries.{entries-within, looked-entry}
 use Rattle.choosing.proofs.EntryNumbers.{length-codes, scan-size, codes-within, decoded-codes}
@@ -68,11 +70,18 @@ use Rattle.choosing.proofs.Sizes.{faults-rows}
 
 -- ---- which pairs are needed
 
-pub mark-needed : (purpose : Purpose) (a b : ℕ) → a < b → not (eqb (mark purpose a) (mark purpose b)) ≡ needed purpose a b
-mark-needed Isolating a b h = ap not (ne-eqb a b (λ e. omega arith))
-mark-needed Detecting a zero h = absurd (omega arith)
-mark-needed Detecting zero (suc b) h = refl
-mark-needed Detecting (suc a) (suc b) h = sym (ne-eqb (suc a) 0 (λ e. omega arith))
+pub marks-needed : (purpose : Purpose) (parts : List ℕ) (a b : ℕ) → a < b → b ≤ maxFaults
+    → differ (marksOf purpose parts) a b ≡ needed purpose (partIn parts) a b
+marks-needed Isolating parts a b h l = refl
+marks-needed Detecting parts a zero h l = absurd (omega arith)
+marks-needed Detecting parts zero (suc b) h l = ap (λ (m : ℕ). not (eqb 0 m)) (faulty-mark b (omega arith))
+marks-needed Detecting parts (suc a) (suc b) h l =
+    ap₂ (λ (x y : ℕ). not (eqb x y)) (faulty-mark a (omega arith)) (faulty-mark b (omega arith))
+    ∙ sym (ne-eqb (suc a) 0 (λ e. omega arith))
+
+pub needed-same : (purpose : Purpose) (part other : ℕ → ℕ) → ((c : ℕ) → part c ≡ other c) → (a b : ℕ) → needed purpose part a b ≡ needed purpose other a b
+needed-same Isolating part other same a b = ap₂ (λ (x y : ℕ). not (eqb x y)) (same a) (same b)
+needed-same Detecting part other same a b = refl
 
 -- ---- the method over the work
 
@@ -106,19 +115,23 @@ module _ (counts : Counts) (work : List ℕ) (enough : Filled counts (length wor
       )
 
   module _ (purpose : Purpose) where
+    -- the pairs that the parts make needed
+    abbrev wanted : ℕ → ℕ → Bool
+    wanted = needed purpose (partIn (counts .parts))
+
     told : (p : Pair) (l : List ℕ) → chosenBy counts (chooser.choiceBy p l .untold) (decodedFrom (2 ^ n) (chooser.choiceBy p l .signature)) ≡ chosenFor p counts l
     told nobody l = refl
     told (pair a b) l = refl
 
     -- the marks of the purpose tell which pairs are needed
-    marked : (marks : List ℕ) → length marks ≡ maxRows → Tabulates maxRows (mark purpose) marks
-        → chooser.choice work width rows marks (scanCodes counts) ≡ choiceOver work width rows (needed purpose) (scanCodes counts)
+    marked : (marks : List ℕ) → length marks ≡ maxRows → marks ≡ marksOf purpose (counts .parts)
+        → chooser.choice work width rows marks (scanCodes counts) ≡ choiceOver work width rows wanted (scanCodes counts)
     marked marks long of =
         let few : rows ≤ maxRows = omega (arith, enough .faults-few, faults-rows) in
-        choice-needed work width rows marks (scanCodes counts) (needed purpose) filled-fits (subst (λ (m : ℕ). rows ≤ m) (sym long) few)
-        (λ a b h k. ap₂ (λ (x y : ℕ). not (eqb x y)) (of a (omega arith)) (of b (omega arith)) ∙ mark-needed purpose a b h)
+        choice-needed work width rows marks (scanCodes counts) wanted filled-fits (subst (λ (m : ℕ). rows ≤ m) (sym long) few)
+        (λ a b h k. ap (λ (l : List ℕ). differ l a b) of ∙ marks-needed purpose (counts .parts) a b h (omega (arith, enough .faults-few)))
 
-    pub filled-answer : (c : picked.Choice) (marks : List ℕ) (count : ℕ) (list : List ℕ) → length marks ≡ maxRows → Tabulates maxRows (mark purpose) marks
+    pub filled-answer : (c : picked.Choice) (marks : List ℕ) (count : ℕ) (list : List ℕ) → length marks ≡ maxRows → marks ≡ marksOf purpose (counts .parts)
         → count ≡ length (scanCodes counts) → list ≡ scanCodes counts → c ≡ chooser.choice work count rows marks list
         → chosenBy counts (c .untold) (decodedFrom (2 ^ n) (c .signature)) ≡ chosenIn purpose counts (cell work width)
     unfolding choiceOver
@@ -128,19 +141,19 @@ module _ (counts : Counts) (work : List ℕ) (enough : Filled counts (length wor
         in
         ap (λ (x : picked.Choice). chosenBy counts (x .untold) (decodedFrom (2 ^ n) (x .signature)))
         (e ∙ ap₂ (λ (x : ℕ) (l : List ℕ). chooser.choice work x rows marks l) wide q ∙ marked marks long of)
-        ∙ told (firstPair rows (λ a b. needed purpose a b && agree (cell work width) (scanCodes counts) a b))
-        (signature (cell work width) rows (needed purpose) (scanCodes counts))
+        ∙ told (firstPair rows (λ a b. wanted a b && agree (cell work width) (scanCodes counts) a b))
+        (signature (cell work width) rows wanted (scanCodes counts))
 
 -- ---- families with the same entries
 
 module _ (purpose : Purpose) (kind : Kind) (k room : ℕ) where
   module _ (F G : Family) (same : SameFamily F G) where
-    -- the second family's entries, its counts named as the first's
+    -- the second family's parts and entries, its counts named as the first's
     abbrev other : Family
-    other = record { inputs = F .inputs; circuits = F .circuits; outputs = F .outputs; entry = G .entry }
+    other = record { inputs = F .inputs; circuits = F .circuits; outputs = F .outputs; part = G .part; entry = G .entry }
 
     other-is : other ≡ G
-    other-is = λ i. record { inputs = same .inputs i; circuits = same .circuits i; outputs = same .outputs i; entry = G .entry }
+    other-is = λ i. record { inputs = same .inputs i; circuits = same .circuits i; outputs = same .outputs i; part = G .part; entry = G .entry }
 
     tables-same : (a b : ℕ) → a < F .circuits → b < F .circuits → sameTables F a b ≡ sameTables other a b
     tables-same a b h l =
@@ -152,16 +165,16 @@ module _ (purpose : Purpose) (kind : Kind) (k room : ℕ) where
     finding-same : k < 2 ^ (F .inputs) → finding purpose kind k F ≡ finding purpose kind k other
     finding-same below =
         ap₂ findingBy
-        (firstPair-same (F .circuits) (λ a b. needed purpose a b && sameTables F a b) (λ a b. needed purpose a b && sameTables other a b)
-        (λ a b h l. ap (λ (t : Bool). needed purpose a b && t) (tables-same a b (omega arith) l)))
-        (signature-same (coefOf kind k F) (coefOf kind k other) (F .circuits) (needed purpose) (needed purpose) (scanEntries F)
+        (firstPair-same (F .circuits) (λ a b. needed purpose (F .part) a b && sameTables F a b) (λ a b. needed purpose (G .part) a b && sameTables other a b)
+        (λ a b h l. ap₂ _&&_ (needed-same purpose (F .part) (G .part) (same .part) a b) (tables-same a b (omega arith) l)))
+        (signature-same (coefOf kind k F) (coefOf kind k other) (F .circuits) (needed purpose (F .part)) (needed purpose (G .part)) (scanEntries F)
         (λ c e h m. coefficient-ext kind (F .inputs) k (F .entry c (e .output)) (G .entry c (e .output)) (e .index) below
         (λ i g. same .entry c (e .output) i h (looked-entry F m .1) g))
-        (λ a b h l. refl))
+        (λ a b h l. needed-same purpose (F .part) (G .part) (same .part) a b))
 
     spectra-other : k < 2 ^ (F .inputs) → familySpectra kind k F ≡ familySpectra kind k other
     spectra-other below =
-        spectra-same kind k F other (record { inputs = refl; circuits = refl; outputs = refl; one = same .one; entry = same .entry }) below
+        spectra-same kind k F other (record { inputs = refl; circuits = refl; outputs = refl; one = same .one; part = same .part; entry = same .entry }) below
 
     -- past the checks
     past : Family → Answer (Fills Finding)
@@ -309,19 +322,23 @@ module _ (purpose : Purpose) (counts : Counts) (s : List ℕ) (kind : Kind) (k :
           (λ e m. coef-at a e (omega arith) m) (λ e m. coef-at b e l m)
           ∙ alike-tables kind k family (table-family-valid counts s (full .given .fits)) (full .given .below) a b
 
+      -- the pairs that the parts make needed
+      abbrev wants : ℕ → ℕ → Bool
+      wants = needed purpose (family .part)
+
       -- the signature over the work has the entries' numbers
-      signed-so : signature coef (counts .faults + 1) (needed purpose) (scanCodes counts) ≡ codesOf size (signatureIn purpose kind k family)
+      signed-so : signature coef (counts .faults + 1) wants (scanCodes counts) ≡ codesOf size (signatureIn purpose kind k family)
       signed-so =
-          signature-named (codeOf size) coef (counts .faults + 1) (needed purpose) (scanEntries family)
+          signature-named (codeOf size) coef (counts .faults + 1) wants (scanEntries family)
           ∙ ap (codesOf size)
-          (signature-same numbered (coefOf kind k family) (counts .faults + 1) (needed purpose) (needed purpose) (scanEntries family)
+          (signature-same numbered (coefOf kind k family) (counts .faults + 1) wants wants (scanEntries family)
           (λ c e h m. coef-at c e h m) (λ a b h l. refl))
 
-      paired-so : firstPair (counts .faults + 1) (λ a b. needed purpose a b && agree coef (scanCodes counts) a b) ≡ alikePair purpose family
+      paired-so : firstPair (counts .faults + 1) (λ a b. wants a b && agree coef (scanCodes counts) a b) ≡ alikePair purpose family
       paired-so =
-          firstPair-same (counts .faults + 1) (λ a b. needed purpose a b && agree coef (scanCodes counts) a b)
-          (λ a b. needed purpose a b && sameTables family a b)
-          (λ a b h l. ap (λ (t : Bool). needed purpose a b && t) (agree-tables a b h l))
+          firstPair-same (counts .faults + 1) (λ a b. wants a b && agree coef (scanCodes counts) a b)
+          (λ a b. wants a b && sameTables family a b)
+          (λ a b h l. ap (λ (t : Bool). wants a b && t) (agree-tables a b h l))
 
       pub chosen-filled : {c : Chosen} → c ≡ chosenIn purpose counts (cell after (counts .outputs * size)) → exited c after ≡ atExit counts answer work
       unfolding coef

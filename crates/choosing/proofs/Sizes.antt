@@ -2,11 +2,10 @@
 --
 --   faults-rows      the method has a row for each circuit of a job
 --   faults-entries   a signature has room for as many entries as a job has faults
---   rows-fit         a row's number fits in a byte
 --   places-fit       an index fits in two bytes
 --   entries-fit      so does an entry's number
-use Prim.Native.Nat.{_+_, _^_, _≤_, _<_}
-use lib.Dec.{lit≤, lit<}
+use Prim.Native.Nat.{_+_, _^_, _≤_}
+use lib.Dec.{lit≤}
 use Rattle.job.specs.Layout.{maxInputs, maxOutputs, maxFaults}
 use Rattle.chooser.specs.Matrix.{maxRows, maxSignature}
 use Rattle.choosing.specs.Looking.{maxPlaces, maxEntries}
@@ -18,10 +17,6 @@ faults-rows = lit≤ tt
 pub faults-entries : maxFaults ≤ maxSignature
 unfolding maxFaults maxSignature
 faults-entries = lit≤ tt
-
-pub rows-fit : maxRows < 2 ^ 8
-unfolding maxRows
-rows-fit = lit< tt
 
 pub places-fit : maxPlaces ≤ 2 ^ 16
 unfolding maxPlaces maxInputs

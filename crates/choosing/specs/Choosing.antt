@@ -1,4 +1,5 @@
--- Believed: choosing a signature for listed circuits, and for a job (document 01, "Choosing" and "Refusal by operation"; document 02, CR 2).
+-- Believed: choosing a signature for listed circuits, and for a job (document 01, "Choosing" and "Refusal by operation"; document 02, CR 2 and
+-- 3).
 --
 --   needed        which pairs of circuits a purpose needs told apart
 --   scanOrder     "The order of an index is its number of ones. Indices are looked at by order, then by value."
@@ -11,7 +12,7 @@
 --   signatureOf   entries as the signature that is answered
 --   atExit        what a call answers and leaves
 use Prim.Native.Nat.{ℕ, zero, suc, _+_, _-_, _^_}
-use mathlib.Core.Bool.{Bool, true, _&&_}
+use mathlib.Core.Bool.{Bool, not, _&&_}
 use mathlib.Core.List.{List, [], _∷_, _++_}
 use lib.Count.{ones}
 use lib.Dec.{leb, eqb}
@@ -36,10 +37,10 @@ use Rattle.choosing.specs.declared.Signature.{Signature}
 use Rattle.choosing.specs.declared.Verdict.{Verdict}
 use Rattle.choosing.specs.declared.Verdict.the-variants.{Done, Alike, Refused}
 
--- of circuits a below b: "Isolating needs this of every two circuits 0 to f; detecting, of circuit 0 and each fault."
-abbrev pub needed : Purpose → ℕ → ℕ → Bool
-needed Isolating a b = true
-needed Detecting a b = eqb a 0
+-- of circuits a below b, each with its part: "Isolating now needs only pairs whose parts differ"; "detecting, of circuit 0 and each fault."
+abbrev pub needed : Purpose → (ℕ → ℕ) → ℕ → ℕ → Bool
+needed Isolating part a b = not (eqb (part a) (part b))
+needed Detecting part a b = eqb a 0
 
 -- the indices below `size` whose order is below `order`, by order, then by value
 unfoldable pub scanTo : ℕ → ℕ → List ℕ
@@ -63,11 +64,11 @@ abbrev pub scanEntries : Family → List Entry
 scanEntries F = entriesOf (F .outputs) (scanOrder (F .inputs))
 
 abbrev pub signatureIn : Purpose → Kind → ℕ → Family → List Entry
-signatureIn purpose kind k F = signature (coefOf kind k F) (F .circuits) (needed purpose) (scanEntries F)
+signatureIn purpose kind k F = signature (coefOf kind k F) (F .circuits) (needed purpose (F .part)) (scanEntries F)
 
 -- "the first such pair, by lower number, then by higher"
 abbrev pub alikePair : Purpose → Family → Pair
-alikePair purpose F = firstPair (F .circuits) (λ a b. needed purpose a b && sameTables F a b)
+alikePair purpose F = firstPair (F .circuits) (λ a b. needed purpose (F .part) a b && sameTables F a b)
 
 pub data Finding : Type 0 where
   chosen : List Entry → Finding

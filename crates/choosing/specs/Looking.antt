@@ -10,7 +10,7 @@
 --   Placed      the indices stand at their places
 --   Listed      a list stands at the start of an array, and so many places are taken
 --   Filled      the counts are a job's, and its spectra lie within the work
---   mark        a circuit's mark: its own number, or whether it is a faulty one
+--   marksOf     the circuits' marks: their parts, or whether each is a faulty one
 --   chosenBy    the answer that the method's choice gives
 --   decodedOf   the entries of a signature whose numbers are taken apart
 --   scanCodes   the entries in the order of looking, each as one number
@@ -18,13 +18,13 @@
 use Prim.Native.Nat.{ℕ, zero, suc, _+_, _*_, _/_, _%_, _^_, _≤_, _<_}
 use mathlib.Core.Path.{_≡_}
 use mathlib.Core.Bool.{_&&_}
-use mathlib.Core.List.{List, [], map}
+use mathlib.Core.List.{List, [], _∷_, map}
 use lib.Count.{ones}
 use lib.Dec.{eqb}
-use lib.ListN.{length, take, getD}
+use lib.ListN.{length, take, getD, replicate}
 use Rattle.bits.specs.Passing.{passing}
 use Rattle.job.specs.Layout.{maxInputs, maxOutputs, maxFaults}
-use Rattle.tables.specs.Operations.{noCounts}
+use Rattle.tables.specs.Operations.{noCounts, partIn}
 use Rattle.tables.specs.declared.Counts.{Counts}
 use Rattle.bits.specs.declared.Refusal.the-variants.{Memory}
 use Rattle.method.specs.Method as method
@@ -85,10 +85,9 @@ pub record Filled (counts : Counts) (room : ℕ) : Type 0 where
   pub enough : (counts .faults + 1) * counts .outputs * 2 ^ (counts .inputs) ≤ room
 
 -- circuits are to be told apart where their marks differ
-abbrev pub mark : Purpose → ℕ → ℕ
-mark Isolating c = c
-mark Detecting zero = 0
-mark Detecting (suc c) = 1
+abbrev pub marksOf : Purpose → List ℕ → List ℕ
+marksOf Isolating parts = parts
+marksOf Detecting parts = 0 ∷ replicate maxFaults 1
 
 abbrev pub unchosen : Verdict → Chosen
 unchosen verdict = record { verdict = verdict; counts = noCounts; signature = signatureOf [] }
@@ -116,5 +115,5 @@ scanCodes counts = codesOf (2 ^ (counts .inputs)) (entriesOf (counts .outputs) (
 
 abbrev pub chosenIn : Purpose → Counts → (ℕ → ℕ → ℕ) → Chosen
 chosenIn purpose counts coef =
-    chosenFor (firstPair (counts .faults + 1) (λ a b. needed purpose a b && agree coef (scanCodes counts) a b)) counts
-    (signature coef (counts .faults + 1) (needed purpose) (scanCodes counts))
+    chosenFor (firstPair (counts .faults + 1) (λ a b. needed purpose (partIn (counts .parts)) a b && agree coef (scanCodes counts) a b)) counts
+    (signature coef (counts .faults + 1) (needed purpose (partIn (counts .parts))) (scanCodes counts))

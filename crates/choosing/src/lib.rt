@@ -2,8 +2,8 @@
 //
 // The tables are transformed into the lent work, which is the chooser's matrix: a row a circuit, with the coefficients
 // of one output after those of another. So an entry, an index and an output, is one number to the chooser, output × N +
-// index. The marks say which pairs are needed: a circuit's own number for isolating; 0 for the good circuit and 1 for
-// the others for detecting.
+// index. The marks say which pairs are needed: a circuit's part for isolating; 0 for the good circuit and 1 for the others
+// for detecting.
 //
 // The order of looking, by number of ones, then by value, then by output, is made without sorting: each index goes to the
 // next place of its order, and then each index gives its entries. The first place of an order is the number of indices
@@ -18,13 +18,13 @@ ghost use Rattle.job.specs.Layout.{maxInputs, maxOutputs};
 ghost use Rattle.bits.specs.Bounds.{allBelow};
 ghost use Rattle.bits.specs.Slices.{splice};
 ghost use Rattle.bits.specs.Tabulation.{Tabulates};
-ghost use Rattle.chooser.specs.Matrix.{cell, maxRows, maxSignature};
+ghost use Rattle.chooser.specs.Matrix.{cell, maxSignature};
 ghost use Rattle.reading.specs.Reading.{reading};
 ghost use Rattle.tables.specs.Operations.{noCounts};
 ghost use Rattle.spectra.specs.Codes.{codesOf};
 ghost use Rattle.spectra.specs.Operations.{fromTables};
 ghost use Rattle.choosing.specs.Choosing.{scanTo, scanOrder, outputsAt, entriesOf, signatureOf, chosenFrom, chosenOf, countsIn, atExit, verdictNumber, verdictPair};
-ghost use Rattle.choosing.specs.Looking.{maxPlaces, maxOrders, mark, Few, summed, Placed, Listed, Filled, decodedOf, chosenBy, chosenIn};
+ghost use Rattle.choosing.specs.Looking.{maxPlaces, maxOrders, marksOf, Few, summed, Placed, Listed, Filled, decodedOf, chosenBy, chosenIn};
 use bits::Outcome;
 use bits::Refusal;
 use chooser::MAX_SIGNATURE;
@@ -33,7 +33,7 @@ use spectra::Kind;
 use tables::ALL_TABLES_BYTES;
 use tables::Counts;
 
-// To tell every two circuits apart, or the good one from each fault.
+// To tell circuits of different parts apart, or the good one from each fault.
 pub enum Purpose {
     Isolating,
     Detecting,
@@ -96,33 +96,21 @@ struct Codes {
     of: [u16; MAX_ENTRIES],
 }
 
-// The mark of a circuit: its own number, or whether it is a faulty one.
-fn mark(purpose: Purpose, circuit: usize) -> u8
-    requires { ⌜ circuit < maxRows ⌝ }
-    ensures { λ r. ⌜ r ≡ mark purpose circuit ⌝ }
+// The marks of all circuits that there may be.
+fn marks_of(purpose: Purpose, counts: Counts) -> Marks
+    ensures { λ r. ⌜ r .of ≡ marksOf purpose (counts .parts) ⌝ }
 {
     match purpose {
-        Purpose::Isolating => circuit as u8,
+        Purpose::Isolating => {
+            let of = counts.parts;
+            Marks { of }
+        }
         Purpose::Detecting => {
-            if circuit == 0 {
-                return 0;
-            }
-            1
+            let mut of = [1u8; chooser::MAX_ROWS];
+            of[0] = 0;
+            Marks { of }
         }
     }
-}
-
-// The marks of all circuits that there may be.
-fn marks_of(purpose: Purpose) -> Marks
-    ensures { λ r. ⌜ Tabulates maxRows (mark purpose) (r .of) ⌝ }
-{
-    let mut of = [0u8; chooser::MAX_ROWS];
-    let mut c = 0;
-    while c < chooser::MAX_ROWS {
-        of[c] = mark(purpose, c);
-        c += 1;
-    }
-    Marks { of }
 }
 
 // The order of an index is its number of ones; those of the indices below `size`.
@@ -265,12 +253,7 @@ fn unchosen(verdict: Verdict) -> Chosen
 {
     Chosen {
         verdict,
-        counts: Counts {
-            inputs: 0,
-            gates: 0,
-            outputs: 0,
-            faults: 0,
-        },
+        counts: tables::no_counts(),
         signature: Signature {
             count: 0,
             indices: [0u16; MAX_SIGNATURE],
@@ -299,7 +282,7 @@ fn choose_filled(work: &[u16], counts: Counts, purpose: Purpose) -> Chosen
     requires { ⌜ Filled counts (length (now work)) ⌝ }
     ensures { λ r. ⌜ r ≡ chosenIn purpose counts (cell (now (work .entry)) (counts .outputs * 2 ^ (counts .inputs))) ⌝ }
 {
-    let marks = marks_of(purpose);
+    let marks = marks_of(purpose, counts);
     let scan = scan_entries(counts.inputs, counts.outputs);
     // every number of a circuit is an entry's, so there are as many as a row is wide
     let count = scan.count;

@@ -48,16 +48,16 @@ module _ (F : Family) (kind : Kind) (k room : ℕ) (below : ValidPolarity F k) (
   opened : (indices outputs numbers : List ℕ) → allBelow (2 ^ (F .inputs)) indices ≡ true → allBelow (F .outputs) outputs ≡ true
       → lengthsOk indices outputs numbers ≡ true
       → locatedFrom F kind k indices outputs numbers room
-      ≡ gives (record { value = location (agreeing kind k F (entriesAt indices outputs) numbers); filled = familySpectra kind k F })
+      ≡ gives (record { value = location (F .part) (agreeing kind k F (entriesAt indices outputs) numbers); filled = familySpectra kind k F })
   unfolding preparedBy
   opened indices outputs numbers is os paired = simp (lt-ltb k (2 ^ (F .inputs)) below, is, os, paired, le-leb (places F) room enough)
 
   pub located-opened : (list : List Entry) (numbers : List ℕ) → ValidList F list → length list ≡ length numbers
       → locatedFrom F kind k (indicesOf list) (outputsOf list) numbers room
-      ≡ gives (record { value = location (agreeing kind k F list numbers); filled = familySpectra kind k F })
+      ≡ gives (record { value = location (F .part) (agreeing kind k F list numbers); filled = familySpectra kind k F })
   located-opened list numbers valid paired =
       opened (indicesOf list) (outputsOf list) numbers
       (entries-ok (2 ^ (F .inputs)) (λ (e : Entry). e .index) list (λ e m. valid e m .0))
       (entries-ok (F .outputs) (λ (e : Entry). e .output) list (λ e m. valid e m .1))
       (lengths-ok list numbers paired)
-      ∙ ap (λ (l : List Entry). gives (record { value = location (agreeing kind k F l numbers); filled = familySpectra kind k F })) (entries-back list)
+      ∙ ap (λ (l : List Entry). gives (record { value = location (F .part) (agreeing kind k F l numbers); filled = familySpectra kind k F })) (entries-back list)

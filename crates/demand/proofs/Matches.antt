@@ -5,13 +5,14 @@
 --   readings-agree     rows with equal readings agree on it
 --   sameNumbers-eq     equal lists have the same numbers
 --   sameNumbers-ne     unequal ones do not
---   told-same          on a list that tells every two rows apart, rows with equal readings are one row
+--   told-part          on a list that tells rows of different parts apart, rows with equal readings have one part
 use Prim.Native.Nat.{ℕ, _<_}
 use native.Mathlib.Nat.{eq-or-lt-of-le}
 use mathlib.Core.Path.{_≡_, refl, sym, ap, _∙_}
 use mathlib.Core.Bool.{Bool, true, false, _&&_}
 use mathlib.Core.Logic.{⊎-elim}
 use mathlib.Core.List.{List, [], _∷_, map}
+use borrow.Author.Tests.{eqb-true, eqb-false}
 use lib.Dec.{eqb}
 use Rattle.bits.proofs.Below.{lt-or-ge}
 use Rattle.bits.proofs.Tests.{clash, by-test}
@@ -37,10 +38,15 @@ module _ {E : Type 0} (coef : ℕ → E → ℕ) where
   pub readings-agree : (l : List E) (a b : ℕ) → map (coef a) l ≡ map (coef b) l → agree coef l a b ≡ true
   readings-agree l a b e = agree-same l a b ∙ sameNumbers-eq (map (coef a) l) (map (coef b) l) e
 
-  pub told-same : (rows : ℕ) (l : List E) → ((a b : ℕ) → a < b → b < rows → agree coef l a b ≡ false)
-      → (a b : ℕ) → a < rows → b < rows → map (coef a) l ≡ map (coef b) l → a ≡ b
-  told-same rows l told a b h k e =
+  pub told-part : (rows : ℕ) (part : ℕ → ℕ) (l : List E) → ((a b : ℕ) → a < b → b < rows → (part a ≡ part b → ⊥) → agree coef l a b ≡ false)
+      → (a b : ℕ) → a < rows → b < rows → map (coef a) l ≡ map (coef b) l → part a ≡ part b
+  told-part rows part l told a b h k e =
+      by-test (eqb (part a) (part b)) (eqb-true (part a) (part b))
+      (λ f.
+      let differ = eqb-false (part a) (part b) f in
       ⊎-elim
-      (λ (p : a < b). absurd (clash (readings-agree l a b e) (told a b p k)))
-      (λ p. ⊎-elim (λ (q : b ≡ a). sym q) (λ q. absurd (clash (readings-agree l b a (sym e)) (told b a q h))) (eq-or-lt-of-le p))
-      (lt-or-ge a b)
+      (λ (p : a < b). absurd (clash (readings-agree l a b e) (told a b p k differ)))
+      (λ p.
+      ⊎-elim (λ (q : b ≡ a). ap part (sym q)) (λ q. absurd (clash (readings-agree l b a (sym e)) (told b a q h (λ s. differ (sym s)))))
+      (eq-or-lt-of-le p))
+      (lt-or-ge a b))

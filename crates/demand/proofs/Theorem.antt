@@ -1,7 +1,7 @@
 -- Demand 3 holds (specs/Demand.antt).
 --
 --   located-as        what locating says of readings at a valid list
---   located-alone     of the readings of a circuit at a list on which no other has them, it names that circuit alone
+--   located-part      of the readings of a circuit at a list on which circuits of one part alone have them, it gives that part, with the lowest of them
 --   alike-number      where a pair is found, and there alone, the number is 15, with that pair
 --   isolated          the signature that comes back, with all that is asked of it
 --   demand-family     demand 3 of listed circuits
@@ -31,13 +31,13 @@ use Rattle.choosing.specs.Choosing.{Finding, findingBy, alikePair, signatureIn,
 use Rattle.choosing.specs.declared.Purpose.the-variants.{Isolating}
 use Rattle.choosing.proofs.Bound.{signature-short, signature-below}
 use Rattle.locating.specs.Locating.{Location, agreeing, location, locatedFrom}
-use Rattle.locating.specs.Locating.Location.{alone}
-use Rattle.demand.specs.Demand.{returned, ValidPolarity, ValidList, Enough, ListedCircuit, SomeAlike, FirstAlike, readings, Isolated, Located, Demand3, Demand}
+use Rattle.locating.specs.Locating.Location.{parted}
+use Rattle.demand.specs.Demand.{returned, ValidPolarity, ValidList, Enough, ListedCircuit, SomeAlike, FirstAlike, readings, LowestGiving, Isolated, Located, Demand3, Demand}
 use Rattle.demand.proofs.Answers.{signature-returned, chosen-opened, located-opened}
 use Rattle.demand.proofs.FirstPairs.{pair-first, some-paired, none-paired}
-use Rattle.demand.proofs.Locations.{location-none, nowhere-none, location-alone}
+use Rattle.demand.proofs.Locations.{location-none, nowhere-none, location-part}
 use Rattle.demand.proofs.Matches.{sameNumbers-eq, sameNumbers-ne}
-use Rattle.demand.proofs.Signatures.{signed-each, signed-same}
+use Rattle.demand.proofs.Signatures.{signed-each, signed-part}
 
 -- ---- locating
 
@@ -49,7 +49,7 @@ module _ (F : Family) (kind : Kind) (k : ℕ) (work : List ℕ) (below : ValidPo
     abbrev same : ℕ → Bool
     same c = sameNumbers (readings F kind k list c) numbers
 
-    located-result : ValidList F list → length list ≡ length numbers → locate list numbers ≡ gives (location (agreeing kind k F list numbers))
+    located-result : ValidList F list → length list ≡ length numbers → locate list numbers ≡ gives (location (F .part) (agreeing kind k F list numbers))
     located-result valid paired =
         ap (λ (x : Answer (Fills Location)). leaves x work .answer)
         (located-opened F kind k (length work) below enough list numbers valid paired)
@@ -59,21 +59,27 @@ module _ (F : Family) (kind : Kind) (k : ℕ) (work : List ℕ) (below : ValidPo
         let answer = located-result valid paired in
         record {
           none-if = λ none.
-              answer ∙ ap gives (location-none same (F .circuits) (λ c h. sameNumbers-ne (readings F kind k list c) numbers (none c h)));
+              answer ∙ ap gives (location-none same (F .part) (F .circuits) (λ c h. sameNumbers-ne (readings F kind k list c) numbers (none c h)));
           none-only = λ e c h g.
-              clash (sameNumbers-eq (readings F kind k list c) numbers g) (nowhere-none same (F .circuits) (gives-same (sym answer ∙ e)) c h);
+              clash (sameNumbers-eq (readings F kind k list c) numbers g) (nowhere-none same (F .part) (F .circuits) (gives-same (sym answer ∙ e)) c h);
           result = answer;
         }
 
-  pub located-alone : (list : List Entry) → ValidList F list
-      → (c : ℕ) → ListedCircuit F c → ((d : ℕ) → ListedCircuit F d → readings F kind k list d ≡ readings F kind k list c → d ≡ c)
-      → locate list (readings F kind k list c) ≡ gives (alone c)
-  located-alone list valid c h only =
+  pub located-part : (list : List Entry) → ValidList F list
+      → (c : ℕ) → ListedCircuit F c → ((d : ℕ) → ListedCircuit F d → readings F kind k list d ≡ readings F kind k list c → F .part d ≡ F .part c)
+      → (d : ℕ) × LowestGiving F kind k list (readings F kind k list c) d × (locate list (readings F kind k list c) ≡ gives (parted (F .part c) d))
+  located-part list valid c h one =
       let numbers = readings F kind k list c in
-      located-result list numbers valid (sym (length-map list (coefOf kind k F c)))
-      ∙ ap gives
-      (location-alone (same list numbers) (F .circuits) c h (sameNumbers-refl numbers)
-      (λ d l t. only d l (sameNumbers-true (readings F kind k list d) numbers t)))
+      let r = location-part (same list numbers) (F .part) (F .circuits) c h (sameNumbers-refl numbers)
+      (λ d l t. one d l (sameNumbers-true (readings F kind k list d) numbers t)) in (
+        r .0,
+        (
+          r .1,
+          sameNumbers-true (readings F kind k list (r .0)) numbers (r .2),
+          λ x l g. clash (sameNumbers-eq (readings F kind k list x) numbers g) (r .3 x l),
+        ),
+        located-result list numbers valid (sym (length-map list (coefOf kind k F c))) ∙ ap gives (r .4),
+      )
 
 -- ---- choosing
 
@@ -123,8 +129,8 @@ module _ (F : Family) (counts : Counts) (kind : Kind) (k : ℕ) (work other : Li
         short = omega (arith, signature-short Isolating kind k F (v .good));
         valid = valid-signature;
         each-counts = signed-each F kind k;
-        named-alone = λ c h.
-            located-alone F kind k other below enough-other signed valid-signature c h (λ d l e. signed-same F kind k v below none d c l h e);
+        named-part = λ c h.
+            located-part F kind k other below enough-other signed valid-signature c h (λ d l e. signed-part F kind k v below none d c l h e);
       }
 
   pub demand-family : Demand3 F kind k isolate (locate F kind k other below enough-other)

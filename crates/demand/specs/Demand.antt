@@ -1,5 +1,5 @@
--- Believed: demand 3, one statement about choosing and locating together (document 01, "Words of demand 3"; document 02, CR 2). The theorem is `demand-3` in
--- proofs/Theorem.antt. It speaks of the listed circuits' tables, of what choosing answers (`isolate`) and of what locating answers to a list and readings
+-- Believed: demand 3, one statement about choosing and locating together (document 01, "Words of demand 3"; document 02, CR 2 and 3). The theorem is `demand-3`
+-- in proofs/Theorem.antt. It speaks of the listed circuits' tables, of what choosing answers (`isolate`) and of what locating answers to a list and readings
 -- (`locate`); a job enters at the end, by reading. `isolating` and `locating` there are what the contracts of `choosing::choose` and
 -- `locating::locate` name: the statement is about these definitions, and so about the code that is proved to equal them.
 use Prim.Native.Nat.{ℕ, _-_, _^_, _≤_, _<_}
@@ -20,7 +20,7 @@ use Rattle.choosing.specs.Choosing.{AtExit, chosenOf, countsIn, atExit, signatu
 use Rattle.choosing.specs.declared.Purpose.the-variants.{Isolating}
 use Rattle.choosing.specs.declared.Signature.{Signature}
 use Rattle.locating.specs.Locating.{Location, agreeing, location, locatedOf}
-use Rattle.locating.specs.Locating.Location.{alone, nowhere}
+use Rattle.locating.specs.Locating.Location.{parted, nowhere}
 
 -- "the list that choosing returned, unchanged"
 abbrev pub returned : Signature → List Entry
@@ -50,9 +50,14 @@ module _ (F : Family) where
   abbrev pub EqualOutputs : ℕ → ℕ → Type 0
   EqualOutputs a b = (o m : ℕ) → o < F .outputs → m < 2 ^ (F .inputs) → F .entry a o m ≡ F .entry b o m
 
-  -- "two listed faults, or a listed fault and the good circuit, give equal outputs on every input"
+  -- "pairs whose parts differ"
+  abbrev pub PartsDiffer : ℕ → ℕ → Type 0
+  PartsDiffer a b = F .part a ≡ F .part b → ⊥
+
+  -- "two listed faults, or a listed fault and the good circuit, give equal outputs on every input"; "two faults with equal functions are alike only" where
+  -- their parts differ
   abbrev pub AlikePair : ℕ → ℕ → Type 0
-  AlikePair a b = (a < b) × ListedCircuit a × ListedFault b × EqualOutputs a b
+  AlikePair a b = (a < b) × ListedCircuit a × ListedFault b × PartsDiffer a b × EqualOutputs a b
 
   abbrev pub SomeAlike : Type 0
   SomeAlike = (a : ℕ) × (b : ℕ) × AlikePair a b
@@ -70,6 +75,10 @@ module _ (F : Family) where
     abbrev pub Gives : List Entry → List ℕ → ℕ → Type 0
     Gives list numbers c = readings list c ≡ numbers
 
+    -- the lowest listed circuit that gives readings
+    abbrev pub LowestGiving : List Entry → List ℕ → ℕ → Type 0
+    LowestGiving list numbers d = ListedCircuit d × Gives list numbers d × ((c : ℕ) → c < d → Gives list numbers c → ⊥)
+
     abbrev pub NoneGives : List Entry → List ℕ → Type 0
     NoneGives list numbers = (c : ℕ) → ListedCircuit c → Gives list numbers c → ⊥
 
@@ -81,12 +90,13 @@ module _ (F : Family) where
       pub short : length list ≤ F .circuits - 1
       pub valid : ValidList list
       -- "Whichever one of them is dropped, two listed circuits have equal readings on the rest."; "The rest, when one coefficient is dropped, is the
-      -- signature without that entry."
+      -- signature without that entry."; "the clause on dropping keep[s] the same words over needed pairs"
       pub each-counts : (i : ℕ) → i < length list
-          → (a : ℕ) × (b : ℕ) × (a < b) × ListedCircuit b × (readings (without i list) a ≡ readings (without i list) b)
-      -- "Locating with this signature the readings of any listed circuit names that circuit alone."; "Naming a circuit alone is the result of one agreeing
-      -- circuit, with that circuit's number."
-      pub named-alone : (c : ℕ) → ListedCircuit c → locate list (readings list c) ≡ gives (alone c)
+          → (a : ℕ) × (b : ℕ) × (a < b) × ListedCircuit b × PartsDiffer a b × (readings (without i list) a ≡ readings (without i list) b)
+      -- "The promise that a listed circuit is named is from here a promise of its part": locating with this signature the readings of any listed circuit gives
+      -- its part, "with the lowest circuit" that has these readings
+      pub named-part : (c : ℕ) → ListedCircuit c
+          → (d : ℕ) × LowestGiving list (readings list c) d × (locate list (readings list c) ≡ gives (parted (F .part c) d))
 
     -- "For every valid list of indices, the signature included, and whatever readings, as many as the list is long": `answer` is locating's
     pub record Located (list : List Entry) (numbers : List ℕ) (answer : Answer Location) : Type 0 where
@@ -94,11 +104,11 @@ module _ (F : Family) where
       pub none-if : NoneGives list numbers → answer ≡ gives nowhere
       pub none-only : answer ≡ gives nowhere → NoneGives list numbers
       -- "and otherwise gives the result that document 01 fixes"
-      pub result : answer ≡ gives (location (agreeing kind k F list numbers))
+      pub result : answer ≡ gives (location (F .part) (agreeing kind k F list numbers))
 
     pub record Demand3 (isolate : AtExit) (locate : List Entry → List ℕ → Answer Location) : Type 0 where
       -- "an isolating signature is refused as alike exactly when two listed faults, or a listed fault and the good circuit, give equal outputs on every
-      -- input"; "Refused as alike means 15", with the first such pair
+      -- input", and have different parts; "Refused as alike means 15", with the first such pair
       pub alike-if : SomeAlike → isolate .number ≡ 15
       pub alike-only : isolate .number ≡ 15 → (a : ℕ) × (b : ℕ) × (isolate .pair ≡ pair a b) × FirstAlike a b
       pub otherwise : (SomeAlike → ⊥) → (list : List Entry) × Isolated isolate locate list

@@ -8,7 +8,7 @@ use Rattle.bits.specs.Building.{builtTo}
 use Rattle.bits.specs.Field.{spareOnly}
 use Rattle.bits.specs.Parser.{field}
 use Rattle.job.specs.Dependence.{depends, loose, noneLoose}
-use Rattle.job.specs.Layout.{maxInputs, maxGates, maxOutputs, maxFaults, inputCountBits, gateCountBits, gateKindBits, lineBits, outputCountBits, faultCountBits, faultKindBits}
+use Rattle.job.specs.Layout.{maxInputs, maxGates, maxOutputs, maxFaults, maxPart, inputCountBits, gateCountBits, gateKindBits, lineBits, outputCountBits, faultCountBits, faultKindBits, partBits}
 use Rattle.job.specs.Record.{noGates, noOutputs, noFaults, emptyJob}
 use Rattle.reading.specs.Reading.{entryFields, gate, outputLine, fault, entriesFrom, spare, fromEnd, fromFaults, fromFaultCount, fromOutputs, fromOutputCount, fromGates, wholeJob, reading}
 use Rattle.bits.specs.Packed.{tabulate, packed, entry}
@@ -42,6 +42,7 @@ unfolding
     maxGates
     maxOutputs
     maxFaults
+    maxPart
     inputCountBits
     gateCountBits
     gateKindBits
@@ -49,6 +50,7 @@ unfolding
     outputCountBits
     faultCountBits
     faultKindBits
+    partBits
     builtTo
     depends
     loose

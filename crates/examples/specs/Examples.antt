@@ -1,4 +1,5 @@
--- Believed: the examples of document 01, "Proved examples, P1 to P10", "rewritten with the new field" (document 02, CR 2).
+-- Believed: the examples of document 01, "Proved examples, P1 to P10", "rewritten with the new field" (document 02, CR 2); "in document
+-- 01's examples fault c has part c" (CR 3).
 --
 --   Example    a call and what it is to answer
 --   passes      the definitions answer so
@@ -87,7 +88,7 @@ allPass [] = true
 allPass (e ∷ es) = passes e && allPass es
 
 unfoldable pub jobA : List ℕ
-jobA = 0x20 ∷ 0x20 ∷ 0x00 ∷ 0x10 ∷ 0x10 ∷ 0x60 ∷ 0x00 ∷ 0x08 ∷ 0x00 ∷ 0x08 ∷ 0x10 ∷ 0x20 ∷ []
+jobA = 0x20 ∷ 0x20 ∷ 0x00 ∷ 0x10 ∷ 0x10 ∷ 0x60 ∷ 0x00 ∷ 0x00 ∷ 0xa0 ∷ 0x00 ∷ 0x04 ∷ 0x81 ∷ 0x02 ∷ 0x18 ∷ []
 
 -- what the report program prints for job A, line by line
 unfoldable pub textA : List ℕ
@@ -130,7 +131,7 @@ examples =
     -- P9
     ∷ chooses Detecting jobA Rm (3 ∷ [])
     -- P10
-    ∷ chooses-not Isolating (0x20 ∷ 0x20 ∷ 0x00 ∷ 0x10 ∷ 0x10 ∷ 0x30 ∷ 0x00 ∷ 0x20 ∷ []) Mrm 15 0 1
+    ∷ chooses-not Isolating (0x20 ∷ 0x20 ∷ 0x00 ∷ 0x10 ∷ 0x10 ∷ 0x30 ∷ 0x00 ∷ 0x20 ∷ 0x80 ∷ []) Mrm 15 0 1
     -- the report program on job A
     ∷ prints jobA textA
     ∷ []

@@ -151,9 +151,9 @@ chosen-by {counts = counts} {signature = signature} f p k v hp hk e ht h =
     )
 
 pub location-refused : {n : ℕ} {cause : Refusal} (v : Located) → v ≡ locating.Refused cause → n ≡ number cause
-    → record { number = n; agreeing = 0; circuit = 0 } ≡ locationOf (locatedTold v)
+    → record { number = n; found = 0; part = 0; circuit = 0; agreeing = 0 } ≡ locationOf (locatedTold v)
 location-refused v e h =
-    ap (λ (m : ℕ). record { number = m; agreeing = 0; circuit = 0 }) h ∙ ap (λ (x : Located). locationOf (locatedTold x)) (sym e)
+    ap (λ (m : ℕ). record { number = m; found = 0; part = 0; circuit = 0; agreeing = 0 }) h ∙ ap (λ (x : Located). locationOf (locatedTold x)) (sym e)
 
 pub located-by : {after : List ℕ} {kind : Kind} {r : LocationAnswer} (f : Kind → Leaves Location) (k : ℕ) (v : Located)
     → kind ≡ kindOf k → record { answer = locatedTold v; memory = after } ≡ f kind

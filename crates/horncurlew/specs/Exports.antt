@@ -24,7 +24,7 @@ use Rattle.choosing.specs.Choosing.{AtExit, chosenOf, countsIn, atExit}
 use Rattle.choosing.specs.declared.Purpose.{Purpose}
 use Rattle.choosing.specs.declared.Purpose.the-variants.{Isolating, Detecting}
 use Rattle.locating.specs.Locating.{Location}
-use Rattle.locating.specs.Locating.Location.{alone, several, nowhere}
+use Rattle.locating.specs.Locating.Location.{parted, several, nowhere}
 use Rattle.report_text.specs.declared.Reported.{Reported}
 use Rattle.report_text.specs.declared.Reported.the-variants.{Written, Short}
 use Rattle.horncurlew.specs.declared.ReportAnswer.{ReportAnswer}
@@ -34,7 +34,7 @@ use Rattle.horncurlew.specs.declared.ChoiceAnswer.{ChoiceAnswer}
 use Rattle.horncurlew.specs.declared.LocationAnswer.{LocationAnswer}
 
 abbrev pub version : ℕ
-version = 3
+version = 4
 
 abbrev pub kindOf : ℕ → Kind
 kindOf zero = Rm
@@ -95,12 +95,12 @@ choiceOf c =
       «entry_outputs» = c .signature .outputs;
     }
 
--- the number of agreeing circuits, and the lowest of them
+-- found: 1 with the part of all agreeing circuits, 2 with their number where they have several parts, each with the lowest of them; 0 where none agrees
 abbrev pub locationOf : Answer Location → LocationAnswer
-locationOf (gives (alone c)) = record { number = 0; agreeing = 1; circuit = c }
-locationOf (gives (several c count)) = record { number = 0; agreeing = count; circuit = c }
-locationOf (gives nowhere) = record { number = 0; agreeing = 0; circuit = 0 }
-locationOf (refused k) = record { number = k; agreeing = 0; circuit = 0 }
+locationOf (gives (parted p c)) = record { number = 0; found = 1; part = p; circuit = c; agreeing = 0 }
+locationOf (gives (several c count)) = record { number = 0; found = 2; part = 0; circuit = c; agreeing = count }
+locationOf (gives nowhere) = record { number = 0; found = 0; part = 0; circuit = 0; agreeing = 0 }
+locationOf (refused k) = record { number = k; found = 0; part = 0; circuit = 0; agreeing = 0 }
 
 -- 1 with the text's length, or 0 where there was less room than the longest text has
 abbrev pub reportOf : Reported → ReportAnswer

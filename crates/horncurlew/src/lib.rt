@@ -23,7 +23,7 @@ use tables::Counts;
 use writing::Written;
 
 // Raised with every change of an exported function, struct or number; HORNCURLEW_VERSION in include/horncurlew.h is the same number.
-const VERSION: usize = 3;
+const VERSION: usize = 4;
 
 // The counts of a job.
 #[repr(C)]
@@ -57,12 +57,15 @@ pub struct ChoiceAnswer {
     pub entry_outputs: [u16; chooser::MAX_SIGNATURE],
 }
 
-// How many circuits agree, and the lowest of them.
+// What agreeing circuits are found: 0 for none, 1 for circuits of one part, 2 for several parts. With 1 the part, with 2 how many circuits agree, and
+// with both the lowest of them.
 #[repr(C)]
 pub struct LocationAnswer {
     pub number: usize,
-    pub agreeing: usize,
+    pub found: usize,
+    pub part: usize,
     pub circuit: usize,
+    pub agreeing: usize,
 }
 
 // Whether the text was written, 1 or 0, and how many bytes it has.
@@ -260,25 +263,33 @@ fn location_of(located: Located) -> LocationAnswer
     ensures { λ r. ⌜ r ≡ locationOf (locatedTold located) ⌝ }
 {
     match located {
-        Located::Alone(circuit) => LocationAnswer {
+        Located::Part(part, circuit) => LocationAnswer {
             number: 0,
-            agreeing: 1,
+            found: 1,
+            part,
             circuit,
+            agreeing: 0,
         },
         Located::Several(circuit, agreeing) => LocationAnswer {
             number: 0,
-            agreeing,
+            found: 2,
+            part: 0,
             circuit,
+            agreeing,
         },
         Located::Nowhere => LocationAnswer {
             number: 0,
-            agreeing: 0,
+            found: 0,
+            part: 0,
             circuit: 0,
+            agreeing: 0,
         },
         Located::Refused(cause) => LocationAnswer {
             number: cause.number(),
-            agreeing: 0,
+            found: 0,
+            part: 0,
             circuit: 0,
+            agreeing: 0,
         },
     }
 }

@@ -10,18 +10,23 @@
 --   count-first     a number of outputs that isn't 1 to 4 is refused before an output that is no line
 --   output-first    this one before a loose gate
 --   loose-first     and a loose gate before a fault count over 63
+--   eight-first     a bridge whose lines are exchanged is refused before a part that isn't 1 to 63
+--   no-part         part 0 is refused
+--   last-part       63 is not
+--   past-parts      64 is
 use Prim.Native.Nat.{ℕ}
 use mathlib.Core.Path.{_≡_, refl}
 use mathlib.Core.Bool.{Bool, true, false}
 use mathlib.Core.List.{[], _∷_}
 use lib.ListN.{set}
-use Rattle.bits.specs.Answer.Answer.{refused}
+use Rattle.bits.specs.Answer.Answer.{gives, refused}
 use Rattle.bits.specs.Building.{builtTo}
-use Rattle.job.specs.Check.{checked, inTurn}
+use Rattle.job.specs.Check.{checked, inTurn, faultsChecked}
 use Rattle.job.specs.Dependence.{depends, loose, noneLoose}
-use Rattle.job.specs.Layout.{maxInputs, maxGates, maxOutputs, maxFaults}
+use Rattle.job.specs.Layout.{maxInputs, maxGates, maxOutputs, maxFaults, maxPart}
 use Rattle.job.specs.Record.{noGates, noOutputs, noFaults}
 use Rattle.job.specs.declared.BinaryKind.the-variants.{And, Or, Xor}
+use Rattle.job.specs.declared.Fault.the-variants.{Bridge}
 use Rattle.job.specs.declared.Gate.{Gate}
 use Rattle.job.specs.declared.Gate.the-variants.{Unary, Binary}
 use Rattle.job.specs.declared.GateEntry.{GateEntry}
@@ -83,3 +88,32 @@ output-first = refl
 pub loose-first : checked (crowded 1 0) ≡ refused 19
 unfolding checked inTurn noneLoose loose depends builtTo maxInputs maxGates maxOutputs maxFaults noGates noOutputs noFaults
 loose-first = refl
+
+-- two inputs, no gate, and an AND bridge of lines a and b with a part
+abbrev bridged : ℕ → ℕ → ℕ → Job
+bridged a b part =
+    record {
+      inputs = 2;
+      «gate_count» = 0;
+      gates = noGates;
+      «output_count» = 1;
+      outputs = noOutputs;
+      «fault_count» = 1;
+      faults = set noFaults 0 (record { fault = Bridge a b true; part = part });
+    }
+
+pub eight-first : checked (bridged 1 0 0) ≡ refused 8
+unfolding checked inTurn faultsChecked noneLoose loose depends builtTo maxInputs maxGates maxOutputs maxFaults maxPart noGates noOutputs noFaults
+eight-first = refl
+
+pub no-part : checked (bridged 0 1 0) ≡ refused 21
+unfolding checked inTurn faultsChecked noneLoose loose depends builtTo maxInputs maxGates maxOutputs maxFaults maxPart noGates noOutputs noFaults
+no-part = refl
+
+pub last-part : checked (bridged 0 1 63) ≡ gives tt
+unfolding checked inTurn faultsChecked noneLoose loose depends builtTo maxInputs maxGates maxOutputs maxFaults maxPart noGates noOutputs noFaults
+last-part = refl
+
+pub past-parts : checked (bridged 0 1 64) ≡ refused 21
+unfolding checked inTurn faultsChecked noneLoose loose depends builtTo maxInputs maxGates maxOutputs maxFaults maxPart noGates noOutputs noFaults
+past-parts = refl

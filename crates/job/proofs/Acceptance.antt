@@ -10,9 +10,9 @@ use lib.Dec.{leb, ltb}
 use Rattle.bits.specs.Answer.{unless}
 use Rattle.bits.specs.Answer.Answer.{gives}
 use Rattle.bits.proofs.Answers.{unless-true}
-use Rattle.job.specs.Check.{Valid, checked, inTurn, gateOk, gatesChecked, outputOk, outputsChecked, faultLineOk, faultOrderOk, faultsChecked}
+use Rattle.job.specs.Check.{Valid, checked, inTurn, gateOk, gatesChecked, outputOk, outputsChecked, faultLineOk, faultOrderOk, partOk, faultsChecked}
 use Rattle.job.specs.Layout.{maxInputs, maxGates, maxOutputs, maxFaults}
-use Rattle.job.specs.Record.{gateAt, outputAt, faultAt, lines}
+use Rattle.job.specs.Record.{gateAt, outputAt, faultAt, partAt, lines}
 use Rattle.job.specs.declared.Job.{Job}
 
 turn-pass : (ok : ℕ → Bool) (number left i : ℕ) → ((k : ℕ) → k < i + left → ok k ≡ true) → inTurn ok number left i ≡ gives tt
@@ -24,13 +24,15 @@ turn-pass ok number (suc left) i h =
 module _ (j : Job) where
   faults-pass : (left i : ℕ)
       → ((k : ℕ) → k < i + left → faultLineOk (j .inputs) (lines j) (faultAt j k) ≡ true)
-      → ((k : ℕ) → k < i + left → faultOrderOk (faultAt j k) ≡ true) → faultsChecked j left i ≡ gives tt
+      → ((k : ℕ) → k < i + left → faultOrderOk (faultAt j k) ≡ true)
+      → ((k : ℕ) → k < i + left → partOk (partAt j k) ≡ true) → faultsChecked j left i ≡ gives tt
   unfolding faultsChecked
-  faults-pass zero i h o = refl
-  faults-pass (suc left) i h o =
-      unless-true 7 (unless (faultOrderOk (faultAt j i)) 8 (faultsChecked j left (suc i))) (h i (omega arith))
-      ∙ unless-true 8 (faultsChecked j left (suc i)) (o i (omega arith))
-      ∙ faults-pass left (suc i) (λ k l. h k (omega arith)) (λ k l. o k (omega arith))
+  faults-pass zero i h o p = refl
+  faults-pass (suc left) i h o p =
+      unless-true 7 _ (h i (omega arith))
+      ∙ unless-true 8 _ (o i (omega arith))
+      ∙ unless-true 21 (faultsChecked j left (suc i)) (p i (omega arith))
+      ∙ faults-pass left (suc i) (λ k l. h k (omega arith)) (λ k l. o k (omega arith)) (λ k l. p k (omega arith))
 
 pub checked-valid : (j : Job) → Valid j → checked j ≡ gives tt
 unfolding checked
@@ -50,5 +52,6 @@ checked-valid j v =
     let faults-few : leb (j .«fault_count») maxFaults ≡ true = le-leb (j .«fault_count») maxFaults (v .faults-few) in
     let faults : faultsChecked j (j .«fault_count») 0 ≡ gives tt =
     faults-pass j (j .«fault_count») 0 (λ k l. v .fault-line k (omega arith)) (λ k l. v .fault-order k (omega arith))
+    (λ k l. v .fault-part k (omega arith))
     in
     simp (some, few, gates-few, gates, outputs-some, outputs-few, outputs, v .tight, faults-few, faults)

@@ -1,7 +1,7 @@
 -- That one size fits another. These facts are so because of the limits' values (specs/Layout.antt), and are computed here; laws elsewhere name the
 -- limits, and take from here what they need to know of them. With other limits this file is computed anew.
 --
---   all-lines, all-inputs, all-gates, all-faults   the fields hold each line and each count
+--   all-lines, all-inputs, all-gates, all-faults, all-parts   the fields hold each line, each count and each part
 --   counts-of-outputs   the counts of outputs are the numbers of their field, and one more
 --   eight-kinds, four-kinds   the kinds are the numbers of their fields
 --   counts-of-faults    a count of faults that its field holds is within the limit
@@ -13,7 +13,7 @@ use native.Mathlib.Nat.{le-trans}
 use mathlib.Core.Path.{_≡_, refl}
 use lib.Dec.{lit<, lit≤}
 use Rattle.bits.proofs.TableSizes.{fifteen-few}
-use Rattle.job.specs.Layout.{maxInputs, maxGates, maxOutputs, maxFaults, inputCountBits, gateCountBits, gateKindBits, lineBits, outputCountBits, faultCountBits, faultKindBits}
+use Rattle.job.specs.Layout.{maxInputs, maxGates, maxOutputs, maxFaults, maxPart, inputCountBits, gateCountBits, gateKindBits, lineBits, outputCountBits, faultCountBits, faultKindBits, partBits}
 
 pub all-lines : maxInputs + maxGates ≤ 2 ^ lineBits
 unfolding maxInputs maxGates lineBits
@@ -30,6 +30,10 @@ all-gates = lit< tt
 pub all-faults : maxFaults < 2 ^ faultCountBits
 unfolding maxFaults faultCountBits
 all-faults = lit< tt
+
+pub all-parts : maxPart < 2 ^ partBits
+unfolding maxPart partBits
+all-parts = lit< tt
 
 pub counts-of-outputs : 2 ^ outputCountBits ≡ maxOutputs
 unfolding outputCountBits maxOutputs

@@ -13,10 +13,10 @@ use Rattle.bits.specs.Answer.{unless}
 use Rattle.bits.specs.Answer.Answer.{gives}
 use Rattle.bits.proofs.Answers.{unless-gives, onward-gives}
 use Rattle.bits.proofs.Tests.{and-l, and-r}
-use Rattle.job.specs.Check.{Valid, checked, inputsOk, gateCountOk, inTurn, gateOk, gatesChecked, outputCountOk, outputOk, outputsChecked, faultCountOk, faultLineOk, faultOrderOk, faultsChecked}
+use Rattle.job.specs.Check.{Valid, checked, inputsOk, gateCountOk, inTurn, gateOk, gatesChecked, outputCountOk, outputOk, outputsChecked, faultCountOk, faultLineOk, faultOrderOk, partOk, faultsChecked}
 use Rattle.job.specs.Dependence.{noLoose}
 use Rattle.job.specs.Layout.{maxInputs, maxGates, maxOutputs, maxFaults}
-use Rattle.job.specs.Record.{gateAt, outputAt, faultAt, lines}
+use Rattle.job.specs.Record.{gateAt, outputAt, faultAt, partAt, lines}
 use Rattle.job.specs.declared.Job.{Job}
 
 turn-passed : (ok : ℕ → Bool) (number left i : ℕ) → inTurn ok number left i ≡ gives tt → (k : ℕ) → i ≤ k → k < i + left → ok k ≡ true
@@ -28,13 +28,14 @@ turn-passed ok number (suc left) i e k l h =
 
 module _ (j : Job) where
   faults-passed : (left i : ℕ) → faultsChecked j left i ≡ gives tt → (k : ℕ) → i ≤ k → k < i + left
-      → (faultLineOk (j .inputs) (lines j) (faultAt j k) ≡ true) × (faultOrderOk (faultAt j k) ≡ true)
+      → (faultLineOk (j .inputs) (lines j) (faultAt j k) ≡ true) × (faultOrderOk (faultAt j k) ≡ true) × (partOk (partAt j k) ≡ true)
   unfolding faultsChecked
   faults-passed zero i e k l h = absurd (omega arith)
   faults-passed (suc left) i e k l h =
-      let u = unless-gives (faultLineOk (j .inputs) (lines j) (faultAt j i)) 7 (unless (faultOrderOk (faultAt j i)) 8 (faultsChecked j left (suc i))) e in
-      let o = unless-gives (faultOrderOk (faultAt j i)) 8 (faultsChecked j left (suc i)) (u .1) in
-      ⊎-elim (λ s. rw (← s) (u .0, o .0)) (λ m. faults-passed left (suc i) (o .1) k m (omega arith)) (eq-or-lt-of-le l)
+      let u = unless-gives (faultLineOk (j .inputs) (lines j) (faultAt j i)) 7 _ e in
+      let o = unless-gives (faultOrderOk (faultAt j i)) 8 _ (u .1) in
+      let p = unless-gives (partOk (partAt j i)) 21 (faultsChecked j left (suc i)) (o .1) in
+      ⊎-elim (λ s. rw (← s) (u .0, o .0, p .0)) (λ m. faults-passed left (suc i) (p .1) k m (omega arith)) (eq-or-lt-of-le l)
 
 pub valid : (j : Job) → checked j ≡ gives tt → Valid j
 unfolding checked
@@ -60,4 +61,5 @@ valid j e =
       faults-few = leb-true (j .«fault_count») maxFaults (f .0);
       fault-line = λ i h. faults-passed j (j .«fault_count») 0 (f .1) i (omega arith) (omega arith) .0;
       fault-order = λ i h. faults-passed j (j .«fault_count») 0 (f .1) i (omega arith) (omega arith) .1;
+      fault-part = λ i h. faults-passed j (j .«fault_count») 0 (f .1) i (omega arith) (omega arith) .2;
     }

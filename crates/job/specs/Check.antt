@@ -1,7 +1,7 @@
 -- Believed: the tests that document 01, "Refusal by operation", and document 02 make of a circuit and its faults, each with its number. Reading and
 -- writing share them. Test 19 is in Dependence.antt.
 --
---   inputsOk, .., faultOrderOk        the tests 2, 3, 4, 20, 6, 18, 7, 8
+--   inputsOk, .., partOk              the tests 2, 3, 4, 20, 6, 18, 7, 8, 21
 --   inTurn                            one test of each of so many entries
 --   checked                           the first refusal of a record, in the order of writing
 --   Valid                             what holds of a record that is not refused
@@ -12,8 +12,8 @@ use lib.Dec.{leb, ltb}
 use Rattle.bits.specs.Answer.{Answer, unless, onward}
 use Rattle.bits.specs.Answer.Answer.{gives}
 use Rattle.job.specs.Dependence.{noLoose}
-use Rattle.job.specs.Layout.{maxInputs, maxGates, maxOutputs, maxFaults}
-use Rattle.job.specs.Record.{gateA, gateB, gateAt, outputAt, faultAt, lines}
+use Rattle.job.specs.Layout.{maxInputs, maxGates, maxOutputs, maxFaults, maxPart}
+use Rattle.job.specs.Record.{gateA, gateB, gateAt, outputAt, faultAt, partAt, lines}
 use Rattle.job.specs.declared.Gate.{Gate}
 use Rattle.job.specs.declared.Fault.{Fault}
 use Rattle.job.specs.declared.Fault.the-variants.{Stuck, Bridge}
@@ -53,6 +53,10 @@ abbrev pub faultOrderOk : Fault → Bool
 faultOrderOk (Stuck l level) = true
 faultOrderOk (Bridge a b is-and) = ltb a b
 
+-- "21: a part not 1 to 63"
+abbrev pub partOk : ℕ → Bool
+partOk part = leb 1 part && leb part maxPart
+
 -- a test of each entry, with its number: so many entries from entry i on
 unfoldable pub inTurn : (ℕ → Bool) → ℕ → ℕ → ℕ → Answer (Unit {0})
 inTurn ok k zero i = gives tt
@@ -66,12 +70,13 @@ gatesChecked j = inTurn (λ q. gateOk (j .inputs + q) (gateAt j q)) 4
 abbrev pub outputsChecked : Job → ℕ → ℕ → Answer (Unit {0})
 outputsChecked j = inTurn (λ o. outputOk (lines j) (outputAt j o)) 6
 
--- "7 and 8 per fault in turn": so many faults from fault i on
+-- "7 and 8 per fault in turn"; 21 "checked after 8": so many faults from fault i on
 unfoldable pub faultsChecked : Job → ℕ → ℕ → Answer (Unit {0})
 faultsChecked j zero i = gives tt
 faultsChecked j (suc left) i =
     unless (faultLineOk (j .inputs) (lines j) (faultAt j i)) 7
-    (unless (faultOrderOk (faultAt j i)) 8 (faultsChecked j left (suc i)))
+    (unless (faultOrderOk (faultAt j i)) 8
+    (unless (partOk (partAt j i)) 21 (faultsChecked j left (suc i))))
 
 -- "Writing a record checks 2, 3, 4 per gate in turn, 6, then 18 .., then 7 and 8 per fault in turn"; 20 "in writing .. before 6"; 19 "checked after 6,
 -- before the fault count; writing has it at the same place"
@@ -98,3 +103,4 @@ pub record Valid (j : Job) : Type 0 where
   pub faults-few : j .«fault_count» ≤ maxFaults
   pub fault-line : (i : ℕ) → i < j .«fault_count» → faultLineOk (j .inputs) (lines j) (faultAt j i) ≡ true
   pub fault-order : (i : ℕ) → i < j .«fault_count» → faultOrderOk (faultAt j i) ≡ true
+  pub fault-part : (i : ℕ) → i < j .«fault_count» → partOk (partAt j i) ≡ true

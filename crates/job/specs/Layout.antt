@@ -1,4 +1,5 @@
--- Believed: the sizes that the documents fix: the ranges of document 01's first paragraph and the widths of "Job layout", with the outputs of document 02, CR 2.
+-- Believed: the sizes that the documents fix: the ranges of document 01's first paragraph and the widths of "Job layout", with the outputs and the parts of
+-- document 02, CR 2 and 3.
 use Prim.Native.Nat.{ℕ}
 
 -- "1 to 8 inputs, 0 to 64 gates, .. and 0 to 63 single faults"
@@ -14,6 +15,10 @@ maxOutputs = 4
 
 unfoldable pub maxFaults : ℕ
 maxFaults = 63
+
+-- "a part number, 1 to 63"
+unfoldable pub maxPart : ℕ
+maxPart = 63
 
 -- "In order: input count n (4 bits); gate count g (7);
 unfoldable pub inputCountBits : ℕ
@@ -39,3 +44,7 @@ faultCountBits = 6
 
 unfoldable pub faultKindBits : ℕ
 faultKindBits = 2
+
+-- (document 02: "Each fault gains a part number, 1 to 63, in 6 bits after line b")
+unfoldable pub partBits : ℕ
+partBits = 6

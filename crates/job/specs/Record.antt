@@ -1,8 +1,9 @@
--- Believed: the record of a job, and the numbers that stand for its gates and faults (document 01, "Job layout").
+-- Believed: the record of a job, and the numbers that stand for its gates and faults (document 01, "Job layout"; document 02, CR 2 and 3).
 --
 --   gateKind, gateA, gateB      a gate's kind and lines as numbers; gateOf is the way back
 --   faultKind, faultA, faultB   a fault's kind and lines as numbers; faultOf is the way back
 --   gateAt, outputAt, faultAt   gate q, output o's line and fault i of a record, each counted from 0
+--   partAt                      the part of fault i, counted from 0
 --   lines                       the number of lines
 --   emptyJob                    the record with every entry unused
 --   reset                       the record with its unused entries as reading leaves them
@@ -85,12 +86,12 @@ faultsByKind a b = Stuck a false ∷ Stuck a true ∷ Bridge a b true ∷ []
 abbrev pub faultOf : ℕ → ℕ → ℕ → Fault
 faultOf k a b = getD (faultsByKind a b) k (Bridge a b false)
 
--- "unused gate entries are BUF of line 0, unused fault entries stuck-at-0 on line 0"
+-- "unused gate entries are BUF of line 0, unused fault entries stuck-at-0 on line 0"; document 02: "Unused entries have part 0."
 abbrev pub unusedGate : GateEntry
 unusedGate = record { gate = Unary Buf 0 }
 
 abbrev pub unusedFault : FaultEntry
-unusedFault = record { fault = Stuck 0 false }
+unusedFault = record { fault = Stuck 0 false; part = 0 }
 
 abbrev pub gateAt : Job → ℕ → Gate
 gateAt j q = getD (j .gates) q unusedGate .gate
@@ -101,6 +102,9 @@ outputAt j o = getD (j .outputs) o 0
 
 abbrev pub faultAt : Job → ℕ → Fault
 faultAt j i = getD (j .faults) i unusedFault .fault
+
+abbrev pub partAt : Job → ℕ → ℕ
+partAt j i = getD (j .faults) i unusedFault .part
 
 abbrev pub lines : Job → ℕ
 lines j = j .inputs + j .«gate_count»

@@ -4,7 +4,7 @@
 // one-line gate has one line, and a stuck fault too. The first case of each enum is the unused entry's, which is the
 // value that a list gives past its end.
 ghost use mathlib.Core.Path.{_≡_};
-ghost use Rattle.job.specs.Check.{faultLineOk};
+ghost use Rattle.job.specs.Check.{faultLineOk, partOk};
 ghost use Rattle.job.specs.Dependence.{noLoose};
 ghost use Rattle.job.specs.Marks.{OutputsMarked};
 ghost use Rattle.job.specs.Record.{gateKind, gateA, gateB, gateOf, faultKind, faultA, faultB, faultOf, emptyJob};
@@ -18,9 +18,12 @@ pub const MAX_OUTPUTS: usize = 4;
 
 pub const MAX_FAULTS: usize = 63;
 
+// "a part number, 1 to 63"
+pub const MAX_PART: usize = 63;
+
 // "In order: input count n (4 bits); gate count g (7); per gate a kind (3), line a (7), line b (7)"; document 02: "After the
 // gates comes a field of 2 bits, the number of outputs less 1, then each output line in 7 bits"; "fault count f (6); per
-// fault a kind (2), line a (7), line b (7)"
+// fault a kind (2), line a (7), line b (7)"; document 02: "a part number .. in 6 bits after line b"
 pub const INPUT_COUNT_BITS: usize = 4;
 
 pub const GATE_COUNT_BITS: usize = 7;
@@ -35,11 +38,13 @@ pub const FAULT_COUNT_BITS: usize = 6;
 
 pub const FAULT_KIND_BITS: usize = 2;
 
+pub const PART_BITS: usize = 6;
+
 const COUNT_BITS: usize = INPUT_COUNT_BITS + GATE_COUNT_BITS + OUTPUT_COUNT_BITS + FAULT_COUNT_BITS;
 
 const GATE_BITS: usize = GATE_KIND_BITS + 2 * LINE_BITS;
 
-const FAULT_BITS: usize = FAULT_KIND_BITS + 2 * LINE_BITS;
+const FAULT_BITS: usize = FAULT_KIND_BITS + 2 * LINE_BITS + PART_BITS;
 
 // The bytes of the longest job: counts, gates, output lines and faults.
 pub const MAX_JOB_BYTES: usize = (COUNT_BITS
@@ -197,12 +202,24 @@ pub fn fault_line_ok(fault: Fault, inputs: usize, lines: usize) -> bool
     }
 }
 
+// Refusal 21: a part is 1 to 63.
+pub fn part_ok(part: usize) -> bool
+    ensures { λ r. ⌜ r ≡ partOk part ⌝ }
+{
+    if part < 1 {
+        return false;
+    }
+    part <= MAX_PART
+}
+
 pub struct GateEntry {
     pub gate: Gate,
 }
 
+// A fault, and the part that is mended for it.
 pub struct FaultEntry {
     pub fault: Fault,
+    pub part: u8,
 }
 
 // Entries past a count are unused.
@@ -216,7 +233,7 @@ pub struct Job {
     pub faults: [FaultEntry; MAX_FAULTS],
 }
 
-// The record with every entry unused: BUF of line 0, output line 0, stuck-at-0 on line 0.
+// The record with every entry unused: BUF of line 0, output line 0, stuck-at-0 on line 0 with part 0.
 pub fn empty_job() -> Job
     ensures { λ r. ⌜ r ≡ emptyJob ⌝ }
 {
@@ -231,6 +248,7 @@ pub fn empty_job() -> Job
         fault_count: 0,
         faults: [FaultEntry {
             fault: Fault::Stuck(0, false),
+            part: 0,
         }; MAX_FAULTS],
     }
 }

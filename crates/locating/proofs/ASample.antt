@@ -12,7 +12,7 @@ use Rattle.locating.specs.Locating.{preparedBy}
 
 -- of one input and one output
 abbrev single : Family
-single = record { inputs = 1; circuits = 1; outputs = 1; entry = λ c o m. 0 }
+single = record { inputs = 1; circuits = 1; outputs = 1; part = λ c. 0; entry = λ c o m. 0 }
 
 -- index 0 of output 1, then index 2 of output 0
 pub sixteen-first : preparedBy false single Mrm 0 (0 ∷ 2 ∷ []) (1 ∷ 0 ∷ []) 2 ≡ refused 16

@@ -58,7 +58,7 @@ module _ (counts : Counts) (s : List ℕ) (kind : Kind) (k : ℕ) (indices outpu
   sought = fromTables counts s (λ F. locatedFrom F kind k indices outputs readings (length work))
 
   found : Fills (Unit {0}) → Answer (Fills Location)
-  found w = gives (record { value = location (agreeing kind k F list readings); filled = w .filled })
+  found w = gives (record { value = location (F .part) (agreeing kind k F list readings); filled = w .filled })
 
   after-prepared : onward prepared found ≡ sought
   unfolding found
@@ -116,13 +116,13 @@ module _ (counts : Counts) (s : List ℕ) (kind : Kind) (k : ℕ) (indices outpu
         numbers-same list (λ e. getD after (c * (counts .outputs * 2 ^ (counts .inputs)) + codeOf (2 ^ (counts .inputs)) e) 0) (coefOf kind k F c)
         (number-at c h)
 
-    pub sought-done : (t : Answer Location) → t ≡ gives (location (passing (workAgrees after counts list readings) (counts .faults + 1)))
+    pub sought-done : (t : Answer Location) → t ≡ gives (location (F .part) (passing (workAgrees after counts list readings) (counts .faults + 1)))
         → record { answer = t; memory = after } ≡ leaves sought work
     unfolding found
     sought-done t h =
         ap₂ (λ (x : Answer Location) (m : List ℕ). record { answer = x; memory = m })
         (h
-        ∙ ap (λ (l : List ℕ). gives (location l))
+        ∙ ap (λ (l : List ℕ). gives (location (F .part) l))
         (passing-same (workAgrees after counts list readings) (λ c. sameNumbers (readingsOf kind k F list c) readings) (counts .faults + 1)
         (λ c l. ap (λ (x : List ℕ). sameNumbers x readings) (numbers-readings c l))))
         (w .stands)

@@ -1,14 +1,15 @@
--- Locating sees no more of a family than its entries, and so goes over to a job's family (specs/Locating.antt).
+-- Locating sees no more of a family than its parts and entries, and so goes over to a job's family (specs/Locating.antt).
 --
---   prepared-respects, located-respects   families whose entries are the same prepare and locate the same
+--   location-same                         equal parts give the same location
+--   prepared-respects, located-respects   families whose parts and entries are the same prepare and locate the same
 --   located-unread                        reading's refusals
 --   located-delivered                     past reading, locating among the delivered tables is locating the job
 use Prim.Native.Nat.{ℕ, _*_, _^_, _<_}
-use mathlib.Core.Path.{_≡_, refl, sym, ap, _∙_}
-use mathlib.Core.Bool.{Bool, true, false}
-use mathlib.Core.List.{List, List·Memᴰ}
+use mathlib.Core.Path.{_≡_, refl, sym, ap, ap₂, _∙_}
+use mathlib.Core.Bool.{Bool, true, false, _&&_, cond}
+use mathlib.Core.List.{List, [], _∷_, List·Memᴰ}
 use borrow.Author.Tests.{ltb-true}
-use lib.Dec.{leb}
+use lib.Dec.{eqb, leb}
 use lib.ListN.{length, take}
 use Rattle.bits.specs.Answer.{Answer, Fills, leaves, unless, onward}
 use Rattle.bits.specs.Answer.Answer.{gives, refused}
@@ -27,9 +28,21 @@ use Rattle.spectra.specs.Spectrum.{coefficient}
 use Rattle.spectra.specs.declared.Kind.{Kind}
 use Rattle.spectra.proofs.Bounds.{coefficient-ext}
 use Rattle.spectra.proofs.Families.{spectra-same, Respects, delivered-family}
-use Rattle.locating.specs.Locating.{Location, location, agreeing, lengthsOk, preparedBy, locatedFrom, locatedOf}
+use Rattle.locating.specs.Locating.{Location, eachOf, location, agreeing, lengthsOk, preparedBy, locatedFrom, locatedOf}
+use Rattle.locating.specs.Locating.Location.{parted, several}
 use Rattle.locating.proofs.Answers.{passing-same}
 use Rattle.locating.proofs.Indices.{numbers-same, entries-below}
+
+each-same : (f g : ℕ → ℕ) → ((c : ℕ) → f c ≡ g c) → (p : ℕ) (l : List ℕ) → eachOf f p l ≡ eachOf g p l
+unfolding eachOf
+each-same f g same p [] = refl
+each-same f g same p (c ∷ l) = ap₂ (λ (x : ℕ) (t : Bool). eqb x p && t) (same c) (each-same f g same p l)
+
+pub location-same : (f g : ℕ → ℕ) → ((c : ℕ) → f c ≡ g c) → (l : List ℕ) → location f l ≡ location g l
+location-same f g same [] = refl
+location-same f g same (c ∷ l) =
+    ap₂ (λ (t : Bool) (x : ℕ). cond t (parted x c) (several c (length (c ∷ l))))
+    (ap (λ (x : ℕ). eachOf f x l) (same c) ∙ each-same f g same (g c) l) (same c)
 
 module _ (kind : Kind) (k : ℕ) (indices outputs : List ℕ) (room : ℕ) where
   abbrev list : List Entry
@@ -75,7 +88,7 @@ module _ (kind : Kind) (k : ℕ) (indices outputs : List ℕ) (room : ℕ) where
     prepared F = preparedBy (lengthsOk indices outputs readings) F kind k indices outputs room
 
     abbrev found : Family → Fills (Unit {0}) → Answer (Fills Location)
-    found F w = gives (record { value = location (agreeing kind k F list readings); filled = w .filled })
+    found F w = gives (record { value = location (F .part) (agreeing kind k F list readings); filled = w .filled })
 
     -- where the preparation refuses, the circuits do not count
     found-same : (F G : Family) → SameFamily F G → (a : Answer (Fills (Unit {0}))) → prepared F ≡ a → onward a (found F) ≡ onward a (found G)
@@ -85,9 +98,10 @@ module _ (kind : Kind) (k : ℕ) (indices outputs : List ℕ) (room : ℕ) where
         let first = unless-gives (polarityOk (F .inputs) k) 13 _ e in
         let second = unless-gives (allBelow (2 ^ (F .inputs)) indices) 16 _ (first .1) in
         let third = unless-gives (allBelow (F .outputs) outputs) 20 _ (second .1) in
-        ap (λ (l : List ℕ). gives (record { value = location l; filled = w .filled }))
-        (agreeing-same F G same (ltb-true k (2 ^ (F .inputs)) (first .0))
-        (λ x m. entries-below (2 ^ (F .inputs)) (F .outputs) indices outputs (second .0) (third .0) x m .1) readings)
+        ap (λ (x : Location). gives (record { value = x; filled = w .filled }))
+        (location-same (F .part) (G .part) (same .part) (agreeing kind k F list readings)
+        ∙ ap (location (G .part)) (agreeing-same F G same (ltb-true k (2 ^ (F .inputs)) (first .0))
+        (λ x m. entries-below (2 ^ (F .inputs)) (F .outputs) indices outputs (second .0) (third .0) x m .1) readings))
 
     pub located-respects : Respects go
     located-respects =

@@ -1,15 +1,18 @@
 -- Kept by the code: what locating does once the work is filled.
 --
+--   seenOf         the lowest of agreeing circuits, their number, and whether they have one part
+--   joinedTo       the same with one circuit more behind them
+--   locationBy     the result that these give
 --   numbersAt      the numbers of the work at a list of entries, from a place on
 --   workNumbers    a circuit's numbers at these entries, its row of the work
 --   workAgrees     they agree with readings
---   locationOf     the result that the lowest agreeing circuit and their number give
 --   Readable       a number of the work for each entry, and as many readings
 --   RowsIn         the rows of the counted circuits lie within the work, and the entries within a row
-use Prim.Native.Nat.{ℕ, zero, suc, _+_, _*_, _^_, _≤_, _<_}
+use Prim.Native.Nat.{ℕ, _+_, _*_, _^_, _≤_, _<_}
 use mathlib.Core.Path.{_≡_}
-use mathlib.Core.Bool.{Bool, true}
-use mathlib.Core.List.{List, map}
+use mathlib.Core.Bool.{Bool, true, cond, _&&_}
+use mathlib.Core.List.{List, [], _∷_, map}
+use lib.Dec.{eqb}
 use lib.ListN.{length, getD}
 use Rattle.bits.specs.Bounds.{allBelow}
 use Rattle.job.specs.Layout.{maxInputs, maxFaults}
@@ -17,8 +20,23 @@ use Rattle.tables.specs.declared.Counts.{Counts}
 use Rattle.spectra.specs.Codes.{codeOf}
 use Rattle.spectra.specs.Listed.{Entry}
 use Rattle.spectra.specs.Operations.{sameNumbers}
-use Rattle.locating.specs.Locating.{Location}
-use Rattle.locating.specs.Locating.Location.{alone, several, nowhere}
+use Rattle.locating.specs.Locating.{Location, eachOf}
+use Rattle.locating.specs.Locating.Location.{parted, several, nowhere}
+use Rattle.locating.specs.declared.Agreeing.{Agreeing}
+
+abbrev pub seenOf : (ℕ → ℕ) → List ℕ → Agreeing
+seenOf part [] = record { lowest = 0; count = 0; «one_part» = true }
+seenOf part (c ∷ more) = record { lowest = c; count = length (c ∷ more); «one_part» = eachOf part (part c) more }
+
+abbrev pub joinedTo : (ℕ → ℕ) → Agreeing → ℕ → Agreeing
+joinedTo part seen c =
+    cond (eqb (seen .count) 0) (record { lowest = c; count = 1; «one_part» = true })
+    (record { lowest = seen .lowest; count = seen .count + 1; «one_part» = seen .«one_part» && eqb (part c) (part (seen .lowest)) })
+
+abbrev pub locationBy : (ℕ → ℕ) → Agreeing → Location
+locationBy part seen =
+    cond (eqb (seen .count) 0) nowhere
+    (cond (seen .«one_part») (parted (part (seen .lowest)) (seen .lowest)) (several (seen .lowest) (seen .count)))
 
 abbrev pub numbersAt : List ℕ → ℕ → ℕ → List Entry → List ℕ
 numbersAt work start size list = map (λ e. getD work (start + codeOf size e) 0) list
@@ -28,11 +46,6 @@ workNumbers work counts list c = numbersAt work (c * (counts .outputs * 2 ^ (cou
 
 abbrev pub workAgrees : List ℕ → Counts → List Entry → List ℕ → ℕ → Bool
 workAgrees work counts list readings c = sameNumbers (workNumbers work counts list c) readings
-
-abbrev pub locationOf : ℕ → ℕ → Location
-locationOf lowest zero = nowhere
-locationOf lowest (suc zero) = alone lowest
-locationOf lowest (suc (suc more)) = several lowest (suc (suc more))
 
 pub record Readable (size : ℕ) (indices outputs readings : List ℕ) (start room : ℕ) : Type 0 where
   pub indexed : length indices ≡ length readings

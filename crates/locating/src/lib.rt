@@ -1,32 +1,39 @@
-// A unit located from its readings (document 01, "Locating").
+// A unit located from its readings (document 01, "Locating"; document 02, CR 3).
 //
 // The list is lent as its indices and its outputs. `prepare` has the checks and fills the work: 13, 16, 20 and 17 come
 // before 10, so they are judged before the spectra are made; 16 over all indices, then 20 over all outputs, then 17.
 // Then each circuit's coefficients at the entries are compared with the readings.
-ghost use Prim.Native.Nat.{_+_, _^_, _<_};
+ghost use Prim.Native.Nat.{_+_, _≤_, _<_};
 ghost use mathlib.Core.Path.{_≡_};
-ghost use mathlib.Core.Bool.{cond, _&&_};
-ghost use lib.Dec.{eqb};
 ghost use lib.ListN.{length};
 ghost use Rattle.bits.specs.Answer.{outcome, leaves};
 ghost use Rattle.bits.specs.Answer.Answer.{gives};
 ghost use Rattle.bits.specs.Passing.{passing};
+ghost use Rattle.tables.specs.Operations.{partIn};
 ghost use Rattle.spectra.specs.Listed.{entriesAt};
 ghost use Rattle.spectra.specs.Operations.{sameNumbers, fromTables};
 ghost use Rattle.locating.specs.Locating.{preparedBy, lengthsOk, locatedFrom, locatedOf, locatedTold, location};
-ghost use Rattle.locating.specs.Scanning.{numbersAt, workAgrees, locationOf, Readable, RowsIn};
+ghost use Rattle.locating.specs.Scanning.{joinedTo, locationBy, numbersAt, workAgrees, Readable, RowsIn};
 use bits::Outcome;
 use bits::Refusal;
 use spectra::Kind;
 use tables::ALL_TABLES_BYTES;
 use tables::Counts;
 
-// The one agreeing circuit; the lowest agreeing circuit and how many agree; none; or the refusal.
+// The part of all agreeing circuits and the lowest of them; the lowest agreeing circuit and how many agree, where they
+// have several parts; none agrees; or the refusal.
 pub enum Located {
-    Alone(usize),
+    Part(usize, usize),
     Several(usize, usize),
     Nowhere,
     Refused(Refusal),
+}
+
+// Agreeing circuits: the lowest, 0 where there is none; how many; and whether all of them have its part.
+struct Agreeing {
+    lowest: usize,
+    count: usize,
+    one_part: bool,
 }
 
 // Whether the numbers of the work at the entries, from the place `start` on, are the readings.
@@ -52,61 +59,67 @@ fn agrees(
     true
 }
 
-// One more for a circuit that agrees.
-fn counted(count: usize, agreed: bool) -> usize
-    requires { ⌜ count + 1 < 2 ^ 64 ⌝ }
-    ensures { λ r. ⌜ r ≡ count + cond agreed 1 0 ⌝ }
+// The agreeing circuits so far, with circuit c behind them.
+fn joined(seen: Agreeing, c: usize, parts: &[u8]) -> Agreeing
+    requires { ⌜ (c < length (now parts)) × (seen .lowest < length (now parts)) × (seen .count ≤ c) ⌝ }
+    ensures { λ r. ⌜ r ≡ joinedTo (partIn (now (parts .entry))) seen c ⌝ }
 {
-    if agreed {
-        return count + 1;
+    if seen.count == 0 {
+        return Agreeing {
+            lowest: c,
+            count: 1,
+            one_part: true,
+        };
     }
-    count
+    let lowest = seen.lowest;
+    Agreeing {
+        lowest,
+        count: seen.count + 1,
+        one_part: if parts[c] == parts[lowest] {
+            seen.one_part
+        } else {
+            false
+        },
+    }
 }
 
-// The lowest agreeing circuit: circuit c where it is the first.
-fn lowest_of(lowest: usize, count: usize, c: usize, agreed: bool) -> usize
-    ensures { λ r. ⌜ r ≡ cond (agreed && eqb count 0) c lowest ⌝ }
+// What the agreeing circuits tell.
+fn told(seen: Agreeing, parts: &[u8]) -> Located
+    requires { ⌜ seen .lowest < length (now parts) ⌝ }
+    ensures { λ r. ⌜ locatedTold r ≡ gives (locationBy (partIn (now (parts .entry))) seen) ⌝ }
 {
-    if !agreed {
-        return lowest;
-    }
-    if count == 0 {
-        return c;
-    }
-    lowest
-}
-
-// What so many agreeing circuits tell.
-fn told(lowest: usize, count: usize) -> Located
-    ensures { λ r. ⌜ locatedTold r ≡ gives (locationOf lowest count) ⌝ }
-{
-    if count == 0 {
+    if seen.count == 0 {
         return Located::Nowhere;
     }
-    if count == 1 {
-        return Located::Alone(lowest);
+    let lowest = seen.lowest;
+    if seen.one_part {
+        return Located::Part(parts[lowest] as usize, lowest);
     }
-    Located::Several(lowest, count)
+    Located::Several(lowest, seen.count)
 }
 
 // Which of the counted circuits, whose rows of the work have N numbers an output, agree with the readings.
 fn scan(work: &[u16], counts: Counts, indices: &[u16], outputs: &[u16], readings: &[u16]) -> Located
     requires { ⌜ RowsIn counts (now indices) (now outputs) (now readings) (length (now work)) ⌝ }
-    ensures { λ r. ⌜ locatedTold r ≡ gives (location (passing (workAgrees (now (work .entry)) counts (entriesAt (now (indices .entry)) (now (outputs .entry))) (now (readings .entry))) (counts .faults + 1))) ⌝ }
+    ensures { λ r. ⌜ locatedTold r ≡ gives (location (partIn (counts .parts)) (passing (workAgrees (now (work .entry)) counts (entriesAt (now (indices .entry)) (now (outputs .entry))) (now (readings .entry))) (counts .faults + 1))) ⌝ }
 {
     let size = bits::table_size(counts.inputs);
     let width = counts.outputs * size;
     let circuits = counts.faults + 1;
-    let mut lowest = 0;
-    let mut count = 0;
+    let parts = counts.parts;
+    let mut seen = Agreeing {
+        lowest: 0,
+        count: 0,
+        one_part: true,
+    };
     let mut c = 0;
     while c < circuits {
-        let agreed = agrees(work, indices, outputs, readings, size, c * width);
-        lowest = lowest_of(lowest, count, c, agreed);
-        count = counted(count, agreed);
+        if agrees(work, indices, outputs, readings, size, c * width) {
+            seen = joined(seen, c, &parts);
+        }
         c += 1;
     }
-    told(lowest, count)
+    told(seen, &parts)
 }
 
 // The checks of locating, 17 by a test of the caller's, and then the spectra of the counted circuits, from their tables, one after the other:

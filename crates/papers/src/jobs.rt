@@ -162,7 +162,7 @@ fn list_located(line: &[u8], job: &[u8], indices: &[u16], outputs: &[u16], readi
         &mut work,
     );
     match located {
-        Located::Alone(c) => listing::number(b"circuit", c),
+        Located::Part(part, c) => listing::pair(b"part", part, c),
         Located::Several(c, count) => listing::pair(b"several", c, count),
         Located::Nowhere => listing::name(b"none"),
         Located::Refused(cause) => listing::refusal(cause),

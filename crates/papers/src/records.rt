@@ -10,10 +10,10 @@ use writing::Written;
 const ROOM: usize = 16;
 
 // A line has so many numbers at most; those that it lacks are 0.
-const MAX_NUMBERS: usize = 15;
+const MAX_NUMBERS: usize = 16;
 
 // The line gives the number of bytes lent, and the record: inputs, gates, outputs, the four output lines, faults; then the first gate and the first
-// fault, each as its kind, line a and line b. The other entries are unused.
+// fault, each as its kind, line a and line b, the fault with its part. The other entries are unused.
 pub fn list_written(line: &[u8]) {
     let mut numbers = [0u8; MAX_NUMBERS];
     words::bytes(line, 1, &mut numbers);
@@ -24,7 +24,7 @@ pub fn list_written(line: &[u8]) {
     job.outputs = [numbers[4], numbers[5], numbers[6], numbers[7]];
     job.fault_count = numbers[8];
     job.gates[0] = gate_entry(numbers[9], numbers[10], numbers[11]);
-    job.faults[0] = fault_entry(numbers[12], numbers[13], numbers[14]);
+    job.faults[0] = fault_entry(numbers[12], numbers[13], numbers[14], numbers[15]);
     write(job, numbers[0]);
 }
 
@@ -34,9 +34,10 @@ fn gate_entry(kind: u8, a: u8, b: u8) -> GateEntry {
     }
 }
 
-fn fault_entry(kind: u8, a: u8, b: u8) -> FaultEntry {
+fn fault_entry(kind: u8, a: u8, b: u8, part: u8) -> FaultEntry {
     FaultEntry {
         fault: job::fault_of(kind as usize, a, b),
+        part,
     }
 }
 

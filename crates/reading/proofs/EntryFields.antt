@@ -1,4 +1,4 @@
--- The fields of a gate or a fault, read one after the other (specs/Reading.antt).
+-- The three fields that a gate and a fault begin with, read one after the other (specs/Reading.antt).
 --
 --   entry-first, entry-second, entry-third   the first, the second or the third field is cut: 1
 --   entry-read, entry-end                    all three are there, and the place behind them is near

@@ -25,9 +25,9 @@ use Rattle.bits.specs.Field.{spareOnly}
 use Rattle.bits.specs.Parser.{Parser, Parsed, parsed}
 use Rattle.bits.proofs.Answers.{gives-same, never-gives, unless-gives, andThen-gives, check-then, Taken, field-then}
 use Rattle.bits.proofs.Bits.{AllBits, bits-stringOf}
-use Rattle.job.specs.Check.{inputsOk, gateCountOk, outputOk, faultLineOk}
+use Rattle.job.specs.Check.{inputsOk, gateCountOk, outputOk, faultLineOk, partOk}
 use Rattle.job.specs.Dependence.{noneLoose, noLoose}
-use Rattle.job.specs.Layout.{inputCountBits, gateCountBits, gateKindBits, lineBits, outputCountBits, faultCountBits, faultKindBits}
+use Rattle.job.specs.Layout.{inputCountBits, gateCountBits, gateKindBits, lineBits, outputCountBits, faultCountBits, faultKindBits, partBits}
 use Rattle.job.specs.Record.{gateOf, faultOf, lines, emptyJob, noGates, noOutputs, noFaults}
 use Rattle.job.specs.declared.FaultEntry.{FaultEntry}
 use Rattle.job.specs.declared.GateEntry.{GateEntry}
@@ -87,25 +87,35 @@ outputLine-gives count bits q h e =
 
 pub record FaultTaken (n count : ℕ) (bits : List ℕ) (x : FaultEntry) (rest : List ℕ) : Type 0 where
   pub entry : Entry
-  pub same : x ≡ record { fault = faultOf (entry .kind) (entry .a) (entry .b) }
+  pub behind : List ℕ
+  pub same : x .fault ≡ faultOf (entry .kind) (entry .a) (entry .b)
   pub below : faultLineOk n count (faultOf (entry .kind) (entry .a) (entry .b)) ≡ true
   pub lines-ok : faultLinesOk (entry .kind) (entry .a) (entry .b) ≡ true
-  pub taken : EntryTaken faultKindBits bits entry rest
+  pub part-ok : partOk (x .part) ≡ true
+  pub taken : EntryTaken faultKindBits bits entry behind
+  pub part-taken : Taken partBits behind (x .part) rest
 
 pub fault-gives : (n count : ℕ) (bits : List ℕ) (q : Parsed FaultEntry) → AllBits bits → fault n count bits ≡ gives q → FaultTaken n count bits (q .value) (q .rest)
 unfolding fault
 fault-gives n count bits q h e =
     let t = andThen-gives (entryFields faultKindBits bits) _ e in
     let x = t .0 .value in
-    check-then (faultLineOk n count (faultOf (x .kind) (x .a) (x .b))) 7 (t .0 .rest) _ (t .2) λ below e.
-    check-then (faultLinesOk (x .kind) (x .a) (x .b)) 8 (t .0 .rest) _ e λ lines-ok e.
-    record {
+    let taken = entryFields-gives faultKindBits bits (t .0) h (t .1) in
+    field-then partBits (t .0 .rest) _ (taken .bits-left) (t .2) λ part r part-taken e.
+    check-then (faultLineOk n count (faultOf (x .kind) (x .a) (x .b))) 7 r _ e λ below e.
+    check-then (faultLinesOk (x .kind) (x .a) (x .b)) 8 r _ e λ lines-ok e.
+    check-then (partOk part) 21 r _ e λ part-ok e.
+    subst (λ (p : Parsed FaultEntry). FaultTaken n count bits (p .value) (p .rest)) (gives-same e)
+    (record {
       entry = x;
-      same = sym (ap (λ (p : Parsed FaultEntry). p .value) (gives-same e));
+      behind = t .0 .rest;
+      same = refl;
       below = below;
       lines-ok = lines-ok;
-      taken = subst (λ (l : List ℕ). EntryTaken faultKindBits bits x l) (ap (λ (p : Parsed FaultEntry). p .rest) (gives-same e)) (entryFields-gives faultKindBits bits (t .0) h (t .1));
-    }
+      part-ok = part-ok;
+      taken = taken;
+      part-taken = part-taken;
+    })
 
 abbrev pub Chain : {A : Type 0} → (ℕ → List ℕ → A → List ℕ → Type 0) → ℕ → List ℕ → List A → List ℕ → Type 0
 Chain R i bits [] rest = bits ≡ rest
@@ -194,7 +204,7 @@ faults-give : (n lines count : ℕ) (entries : List FaultEntry) (bits : List ℕ
     → entriesFrom (λ _. fault n lines) count 0 entries bits ≡ gives q → EntriesTaken (λ _. FaultTaken n lines) count 0 entries bits (q .value) (q .rest)
 faults-give n lines count =
     entries-gives (λ _. fault n lines) (λ _. FaultTaken n lines)
-    (λ k bits q h e. let t = fault-gives n lines bits q h e in (t, t .taken .bits-left)) count 0
+    (λ k bits q h e. let t = fault-gives n lines bits q h e in (t, t .part-taken .bits-left)) count 0
 
 fromEnd-gives : (j : Job) (bits : List ℕ) (q : Parsed Job) → fromEnd j bits ≡ gives q → (spareOnly bits ≡ true) × (j ≡ q .value)
 unfolding fromEnd spare

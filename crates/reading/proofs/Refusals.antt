@@ -1,6 +1,6 @@
 -- Which numbers reading refuses with (specs/Reading.antt).
 --
---   reading-refused   1 to 9 and 19
+--   reading-refused   1 to 9, 19 and 21
 --   refused-digits    so each has one or two digits, and is not 0
 use Prim.Native.Nat.{ℕ, zero, suc, _+_, _≤_, _<_}
 use native.Mathlib.Omega.{arith}
@@ -17,15 +17,15 @@ use Rattle.bits.specs.Bits.{stringOf, valueOf}
 use Rattle.bits.specs.Field.{spareOnly}
 use Rattle.bits.specs.Parser.{Parser, Parsed, parsed, field, check, andThen}
 use Rattle.bits.proofs.Tests.{and-l, and-r, or-cases}
-use Rattle.job.specs.Check.{inputsOk, gateCountOk, outputOk, faultLineOk}
+use Rattle.job.specs.Check.{inputsOk, gateCountOk, outputOk, faultLineOk, partOk}
 use Rattle.job.specs.Dependence.{noLoose}
-use Rattle.job.specs.Layout.{inputCountBits, gateCountBits, gateKindBits, lineBits, outputCountBits, faultCountBits, faultKindBits}
+use Rattle.job.specs.Layout.{inputCountBits, gateCountBits, gateKindBits, lineBits, outputCountBits, faultCountBits, faultKindBits, partBits}
 use Rattle.job.specs.Record.{faultOf, lines, emptyJob}
 use Rattle.job.specs.declared.Job.{Job}
 use Rattle.reading.specs.Reading.{entryFields, unaryLinesOk, gate, outputLine, faultLinesOk, fault, entriesFrom, spare, withCounts, withGates, withOutputCount, withOutputs, withFaultCount, withFaults, fromEnd, fromFaults, fromFaultCount, fromOutputs, fromOutputCount, fromGates, wholeJob, valueRead, reading}
 
 abbrev isReadings : ℕ → Bool
-isReadings i = (leb 1 i && leb i 9) || eqb i 19
+isReadings i = (leb 1 i && leb i 9) || (eqb i 19 || eqb i 21)
 
 abbrev Number : ℕ → Type 0
 Number i = isReadings i ≡ true
@@ -69,8 +69,10 @@ fault-known : (n count : ℕ) (bits : List ℕ) → Known (fault n count bits)
 unfolding fault
 fault-known n count bits =
     known-then (entryFields faultKindBits bits) _ (entryFields-known faultKindBits bits) λ e r₁.
-    check-then (faultLineOk n count (faultOf (e .kind) (e .a) (e .b))) 7 r₁ _ refl λ r₂.
-    check-then (faultLinesOk (e .kind) (e .a) (e .b)) 8 r₂ _ refl λ r₃. tt
+    field-then partBits r₁ _ λ part r₂.
+    check-then (faultLineOk n count (faultOf (e .kind) (e .a) (e .b))) 7 r₂ _ refl λ r₃.
+    check-then (faultLinesOk (e .kind) (e .a) (e .b)) 8 r₃ _ refl λ r₄.
+    check-then (partOk part) 21 r₄ _ refl λ r₅. tt
 
 entries-known : {A : Type 0} (p : ℕ → Parser A) → ((i : ℕ) (bits : List ℕ) → Known (p i bits)) → (left i : ℕ) (entries : List A) (bits : List ℕ)
     → Known (entriesFrom p left i entries bits)
@@ -125,11 +127,13 @@ reading-known : (s : List ℕ) → Known (reading s)
 unfolding reading
 reading-known s = value-known (wholeJob (stringOf s)) (wholeJob-known (stringOf s))
 
-pub reading-refused : (s : List ℕ) {i : ℕ} → reading s ≡ refused i → ((1 ≤ i) × (i ≤ 9)) ⊎ (i ≡ 19)
+pub reading-refused : (s : List ℕ) {i : ℕ} → reading s ≡ refused i → ((1 ≤ i) × (i ≤ 9)) ⊎ ((i ≡ 19) ⊎ (i ≡ 21))
 reading-refused s {i} e =
-    ⊎-elim (λ h. inl (leb-true 1 i (and-l (leb 1 i) (leb i 9) h), leb-true i 9 (and-r (leb 1 i) (leb i 9) h))) (λ h. inr (eqb-true i 19 h))
-    (or-cases (leb 1 i && leb i 9) (eqb i 19) (subst (λ (a : Answer Job). Known a) e (reading-known s)))
+    ⊎-elim (λ h. inl (leb-true 1 i (and-l (leb 1 i) (leb i 9) h), leb-true i 9 (and-r (leb 1 i) (leb i 9) h)))
+    (λ h. inr (⊎-elim (λ t. inl (eqb-true i 19 t)) (λ t. inr (eqb-true i 21 t)) (or-cases (eqb i 19) (eqb i 21) h)))
+    (or-cases (leb 1 i && leb i 9) (eqb i 19 || eqb i 21) (subst (λ (a : Answer Job). Known a) e (reading-known s)))
 
 pub refused-digits : (s : List ℕ) {i : ℕ} → reading s ≡ refused i → (1 ≤ i) × (i < 100)
 refused-digits s {i} e =
-    ⊎-elim (λ h. let some = h .0 in let few = h .1 in (omega arith, omega arith)) (λ h. (omega arith, omega arith)) (reading-refused s e)
+    ⊎-elim (λ h. let some = h .0 in let few = h .1 in (omega arith, omega arith))
+    (⊎-elim (λ h. (omega arith, omega arith)) (λ h. (omega arith, omega arith))) (reading-refused s e)

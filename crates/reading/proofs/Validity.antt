@@ -17,7 +17,7 @@ use lib.Seq.{length-sets}
 use Rattle.bits.specs.Answer.Answer.{gives}
 use Rattle.bits.specs.Bits.{stringOf}
 use Rattle.bits.proofs.Tests.{and-l, and-r}
-use Rattle.job.specs.Check.{Valid, checked, gateOk, outputOk, faultLineOk, faultOrderOk}
+use Rattle.job.specs.Check.{Valid, checked, gateOk, outputOk, faultLineOk, faultOrderOk, partOk}
 use Rattle.job.specs.Dependence.{noLoose}
 use Rattle.job.specs.Layout.{maxInputs, maxGates, maxOutputs, maxFaults}
 use Rattle.job.specs.Record.{faultOf, outputAt, lines, unusedGate, unusedFault, noGates, noOutputs, noFaults}
@@ -55,10 +55,11 @@ fault-order (suc (suc (suc k))) a b e =
     sym (ap (λ (t : Bool). cond t (eqb b a) (ltb a b)) late) ∙ e
 
 fault-good : (n count : ℕ) (i : ℕ) (bits : List ℕ) (e : FaultEntry) (rest : List ℕ) → FaultTaken n count bits e rest
-    → (faultLineOk n count (e .fault) ≡ true) × (faultOrderOk (e .fault) ≡ true)
+    → (faultLineOk n count (e .fault) ≡ true) × (faultOrderOk (e .fault) ≡ true) × (partOk (e .part) ≡ true)
 fault-good n count i bits e rest t = (
-  ap (λ (x : FaultEntry). faultLineOk n count (x .fault)) (t .same) ∙ t .below,
-  ap (λ (x : FaultEntry). faultOrderOk (x .fault)) (t .same) ∙ fault-order (t .entry .kind) (t .entry .a) (t .entry .b) (t .lines-ok),
+  ap (faultLineOk n count) (t .same) ∙ t .below,
+  ap faultOrderOk (t .same) ∙ fault-order (t .entry .kind) (t .entry .a) (t .entry .b) (t .lines-ok),
+  t .part-ok,
 )
 
 parts-valid : (bits : List ℕ) (j : Job) → Parts bits j → Valid j
@@ -67,7 +68,7 @@ parts-valid bits j p =
     let outputs-few : j .«output_count» ≤ maxOutputs = let h = p .output-count-fits in let e = counts-of-outputs in omega arith in
     let faults-few : j .«fault_count» ≤ maxFaults = let h = p .fault-count-fits in let l = counts-of-faults in omega arith in
     let fault =
-    entry-left (λ _. FaultTaken (j .inputs) (lines j)) (λ i x. (faultLineOk (j .inputs) (lines j) (x .fault) ≡ true) × (faultOrderOk (x .fault) ≡ true))
+    entry-left (λ _. FaultTaken (j .inputs) (lines j)) (λ i x. (faultLineOk (j .inputs) (lines j) (x .fault) ≡ true) × (faultOrderOk (x .fault) ≡ true) × (partOk (x .part) ≡ true))
     (fault-good (j .inputs) (lines j)) (j .«fault_count») noFaults (p .before-faults) (j .faults) (p .spare-bits) (p .faults)
     (rw length-noFaults faults-few) unusedFault
     in
@@ -90,6 +91,7 @@ parts-valid bits j p =
       faults-few = faults-few;
       fault-line = λ i h. fault i h .0;
       fault-order = λ i h. fault i h .1;
+      fault-part = λ i h. fault i h .2;
     }
 
 pub reading-valid : (s : List ℕ) (j : Job) → reading s ≡ gives j → Valid j

@@ -1,6 +1,6 @@
--- Believed: reading a job (document 01, "Job layout" and "Refusal by operation"; document 02, CR 1 and 2). Each line of a `do` block takes a field, or checks what was taken.
+-- Believed: reading a job (document 01, "Job layout" and "Refusal by operation"; document 02, CR 1 to 3). Each line of a `do` block takes a field, or checks what was taken.
 --
---   entryFields             the three fields of a gate or a fault
+--   entryFields             the three fields that a gate and a fault begin with
 --   gate, outputLine, fault   one gate, one output, one fault
 --   entriesFrom             so many gates, outputs or faults, each into its entry of the record
 --   fromGates, fromOutputCount, fromOutputs, fromFaultCount, fromFaults, fromEnd   the rest of a job from there on, given the record so far
@@ -15,15 +15,15 @@ use Rattle.bits.specs.Answer.Answer.{gives, refused}
 use Rattle.bits.specs.Bits.{stringOf}
 use Rattle.bits.specs.Field.{spareOnly}
 use Rattle.bits.specs.Parser.{Parser, Parsed, parsed, field, check, give, _>>=_, _>>_}
-use Rattle.job.specs.Check.{inputsOk, gateCountOk, outputOk, faultLineOk}
+use Rattle.job.specs.Check.{inputsOk, gateCountOk, outputOk, faultLineOk, partOk}
 use Rattle.job.specs.Dependence.{noLoose}
-use Rattle.job.specs.Layout.{inputCountBits, gateCountBits, gateKindBits, lineBits, outputCountBits, faultCountBits, faultKindBits}
+use Rattle.job.specs.Layout.{inputCountBits, gateCountBits, gateKindBits, lineBits, outputCountBits, faultCountBits, faultKindBits, partBits}
 use Rattle.job.specs.Record.{gateOf, faultOf, lines, emptyJob}
 use Rattle.job.specs.declared.FaultEntry.{FaultEntry}
 use Rattle.job.specs.declared.GateEntry.{GateEntry}
 use Rattle.job.specs.declared.Job.{Job}
 
--- "a kind .., line a (7), line b (7)": the fields of a gate or a fault
+-- "a kind .., line a (7), line b (7)": the fields of a gate, and the first three of a fault
 pub record Entry : Type 0 where
   pub kind : ℕ
   pub a : ℕ
@@ -59,13 +59,16 @@ outputLine count = do
 abbrev pub faultLinesOk : ℕ → ℕ → ℕ → Bool
 faultLinesOk kind a b = cond (ltb kind 2) (eqb b a) (ltb a b)
 
--- "per fault, after its three fields, 7, a stuck line not below n+g or a bridge line not below n; 8, .."
+-- "per fault .. 7, a stuck line not below n+g or a bridge line not below n; 8, .."; document 02: "a part number .. in 6 bits after line b"; "21: a part not
+-- 1 to 63; checked after 8, with all four fields read before 7"
 unfoldable pub fault : ℕ → ℕ → Parser FaultEntry
 fault n count = do
   e ← entryFields faultKindBits
+  part ← field partBits
   check (faultLineOk n count (faultOf (e .kind) (e .a) (e .b))) 7
   check (faultLinesOk (e .kind) (e .a) (e .b)) 8
-  give (record { fault = faultOf (e .kind) (e .a) (e .b) })
+  check (partOk part) 21
+  give (record { fault = faultOf (e .kind) (e .a) (e .b); part = part })
 
 -- so many entries from entry i on, each into its place
 unfoldable pub entriesFrom : {A : Type 0} → (ℕ → Parser A) → ℕ → ℕ → List A → Parser (List A)
@@ -156,7 +159,7 @@ fromEnd j = do
   spare
   give j
 
--- "per fault a kind (2), line a (7), line b (7)"
+-- "per fault a kind (2), line a (7), line b (7)", and its part (6)
 unfoldable pub fromFaults : Job → Parser Job
 fromFaults j = do
   faults ← entriesFrom (λ i. fault (j .inputs) (lines j)) (j .«fault_count») 0 (j .faults)

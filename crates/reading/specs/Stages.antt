@@ -28,8 +28,8 @@ outputTold s (output-read.Found line c) = parsed line (from s c)
 outputTold s (output-read.Refused e) = refused (number e)
 
 abbrev pub faultTold : List ℕ → FaultRead → Answer (Parsed FaultEntry)
-faultTold s (fault-read.Found x c) = parsed (record { fault = x }) (from s c)
-faultTold s (fault-read.Refused e) = refused (number e)
+faultTold s (fault-read.Found e c) = parsed e (from s c)
+faultTold s (fault-read.Refused k) = refused (number k)
 
 -- the place behind a gate, an output line or a fault, 0 with a refusal
 abbrev pub gateEnd : GateRead → ℕ

@@ -2,15 +2,15 @@
 //
 // The definition takes fields off the front of a string of bits; the code keeps a place in the bytes instead. A
 // function a stage: each reads its fields one by one, value with cursor or refusal, judges them, and hands the record
-// so far to the next. A job ends before bit 2200, so a stage may ask for a place that is near (`Near`), for a slice of
-// any length. A gate and a fault each read their three fields themselves, so that each is compiled for its widths.
+// so far to the next. A job ends before bit 2600, so a stage may ask for a place that is near (`Near`), for a slice of
+// any length. A gate and a fault each read their fields themselves, so that each is compiled for its widths.
 ghost use mathlib.Core.Path.{_≡_};
 ghost use Prim.Native.Nat.{_+_, _*_, _≤_};
 ghost use Rattle.bits.specs.Answer.{number};
 ghost use Rattle.bits.specs.Answer.Answer.{refused};
 ghost use Rattle.bits.specs.Field.{from, maxWidth};
 ghost use Rattle.job.specs.Layout.{maxGates, maxOutputs, maxFaults};
-ghost use Rattle.reading.specs.Reading.{reading, valueRead, unaryLinesOk, gate, fault, outputLine, fromGates, fromOutputCount, fromOutputs, fromFaultCount, fromFaults, fromEnd};
+ghost use Rattle.reading.specs.Reading.{reading, valueRead, unaryLinesOk, faultLinesOk, gate, fault, outputLine, fromGates, fromOutputCount, fromOutputs, fromFaultCount, fromFaults, fromEnd};
 ghost use Rattle.reading.specs.Told.{told, due};
 ghost use Rattle.reading.specs.Stages.{gateTold, outputTold, faultTold, gateEnd, outputEnd, faultEnd, Near};
 use bits::Cursor;
@@ -19,7 +19,6 @@ use bits::Outcome;
 use bits::Refusal;
 use job::FAULT_COUNT_BITS;
 use job::FAULT_KIND_BITS;
-use job::Fault;
 use job::FaultEntry;
 use job::GATE_COUNT_BITS;
 use job::GATE_KIND_BITS;
@@ -31,6 +30,7 @@ use job::LINE_BITS;
 use job::MAX_GATES;
 use job::MAX_INPUTS;
 use job::OUTPUT_COUNT_BITS;
+use job::PART_BITS;
 
 // The outcome, and the record: the empty one with a refusal.
 pub struct Reading {
@@ -47,7 +47,7 @@ fn refused(cause: Refusal) -> Reading
     }
 }
 
-// The record that the bytes give, or the first refusal among 1 to 9 and 19.
+// The record that the bytes give, or the first refusal among 1 to 9, 19 and 21.
 pub fn read(s: &[u8]) -> Reading
     ensures { λ r. ⌜ told r ≡ due (reading (now (s .entry))) ⌝ }
 {
@@ -213,14 +213,21 @@ fn read_fault_count(s: &[u8], at: Cursor, before: Job) -> Reading
 
 // What stands where a fault is due.
 enum FaultRead {
-    Found(Fault, Cursor),
+    Found(FaultEntry, Cursor),
     Refused(Refusal),
 }
 
-// A fault of a circuit with so many inputs and lines: kinds 0 and 1 are stuck lines, 2 and 3 bridges.
+// Refusal 8: a stuck fault, kind 0 or 1, repeats line a as b; a bridge has a below b.
+fn fault_lines_ok(kind: usize, a: usize, b: usize) -> bool
+    ensures { λ r. ⌜ r ≡ faultLinesOk kind a b ⌝ }
+{
+    if kind < 2 { b == a } else { a < b }
+}
+
+// A fault of a circuit with so many inputs and lines, and its part. All four fields are read before one is judged.
 fn read_fault(s: &[u8], at: Cursor, inputs: usize, lines: usize) -> FaultRead
     requires { ⌜ Near 24 at ⌝ }
-    ensures { λ r. ⌜ (faultTold (now (s .entry)) r ≡ fault inputs lines (from (now (s .entry)) at)) × (faultEnd r ≤ at .bit + 3 * maxWidth) ⌝ }
+    ensures { λ r. ⌜ (faultTold (now (s .entry)) r ≡ fault inputs lines (from (now (s .entry)) at)) × (faultEnd r ≤ at .bit + 4 * maxWidth) ⌝ }
 {
     let Field::Value(kind, c) = bits::read_field(s, at, FAULT_KIND_BITS) else {
         return FaultRead::Refused(Refusal::BytesEnd);
@@ -231,25 +238,24 @@ fn read_fault(s: &[u8], at: Cursor, inputs: usize, lines: usize) -> FaultRead
     let Field::Value(b, e) = bits::read_field(s, d, LINE_BITS) else {
         return FaultRead::Refused(Refusal::BytesEnd);
     };
-    if kind < 2 {
-        if lines <= a {
-            return FaultRead::Refused(Refusal::FaultLine);
-        }
-        if b != a {
-            return FaultRead::Refused(Refusal::FaultPair);
-        }
-        return FaultRead::Found(job::fault_of(kind, a as u8, b as u8), e);
-    }
-    if inputs <= a {
+    let Field::Value(part, end) = bits::read_field(s, e, PART_BITS) else {
+        return FaultRead::Refused(Refusal::BytesEnd);
+    };
+    let fault = job::fault_of(kind, a as u8, b as u8);
+    if !job::fault_line_ok(fault, inputs, lines) {
         return FaultRead::Refused(Refusal::FaultLine);
     }
-    if inputs <= b {
-        return FaultRead::Refused(Refusal::FaultLine);
-    }
-    if b <= a {
+    if !fault_lines_ok(kind, a, b) {
         return FaultRead::Refused(Refusal::FaultPair);
     }
-    FaultRead::Found(job::fault_of(kind, a as u8, b as u8), e)
+    if !job::part_ok(part) {
+        return FaultRead::Refused(Refusal::Part);
+    }
+    let entry = FaultEntry {
+        fault,
+        part: part as u8,
+    };
+    FaultRead::Found(entry, end)
 }
 
 // The rest of a job from its faults on.
@@ -265,8 +271,8 @@ fn read_faults(s: &[u8], at: Cursor, before: Job) -> Reading
     let mut i = 0;
     while i < f {
         match read_fault(s, c, n, lines) {
-            FaultRead::Found(fault, next) => {
-                job.faults[i] = FaultEntry { fault };
+            FaultRead::Found(entry, next) => {
+                job.faults[i] = entry;
                 c = next;
             }
             FaultRead::Refused(cause) => {

@@ -90,7 +90,7 @@ module _ (j : Job) (v : Valid j) where
 
   pub alike-short : (a b : ℕ) → alikePair Isolating F ≡ pair a b → length (alikeLine a b) ≤ maxText
   alike-short a b e =
-      let found = firstPair-pair (j .«fault_count» + 1) (λ a b. needed Isolating a b && sameTables F a b) a b e in
+      let found = firstPair-pair (j .«fault_count» + 1) (λ a b. needed Isolating (F .part) a b && sameTables F a b) a b e in
       let wide = alike-width a b (omega (arith, found .0, found .1, v .faults-few, faults-digits)) (omega (arith, found .1, v .faults-few, faults-digits)) in
       let most = line-short in
       omega arith

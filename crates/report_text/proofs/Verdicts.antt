@@ -91,6 +91,7 @@ number-some refusals.Readings = omega arith
 number-some refusals.Faults = omega arith
 number-some refusals.LooseGate = omega arith
 number-some refusals.OutputNumber = omega arith
+number-some refusals.Part = omega arith
 
 pub verdict-printed : (v : Verdict) (counts : Counts) (signature : Signature) (memory : List ℕ)
     → verdictText v counts signature memory

@@ -42,6 +42,7 @@ use Rattle.tables.specs.Operations.{tablesTo, countsOf}
 use Rattle.tables.specs.declared.Counts.{Counts}
 use Rattle.tables.specs.declared.Delivery.{Delivery}
 use Rattle.tables.proofs.Families.{ValidFamily, SameFamily, entry-bit, Delivers}
+use Rattle.tables.proofs.Parts.{part-listed}
 use Rattle.tables.proofs.WrittenTables.{length-table, length-tablesTo}
 use Rattle.spectra.specs.Codes.{codeOf}
 use Rattle.spectra.specs.Listed.{Entry, coefOf, familySpectra, places}
@@ -254,6 +255,7 @@ module _ (j : Job) (v : Valid j) where
         circuits = refl;
         outputs = refl;
         one = v .outputs-some;
+        part = part-listed j;
         entry = λ c o m h i l.
             ap (λ (t : List ℕ). entry t m) (row-at (c * outputs + o) (digits-lt h i) ∙ row-table c o i)
             ∙ entry-packed (2 ^ (j .inputs)) (circuitEntry j c o) (λ m _. entry-bit j c o m v i) m l;

@@ -21,6 +21,7 @@ use Rattle.job.specs.Check.{inputsOk}
 use Rattle.job.specs.Layout.{maxOutputs, maxFaults}
 use Rattle.bits.specs.Sizes.{tableBytes}
 use Rattle.tables.specs.Family.{Family}
+use Rattle.tables.specs.Operations.{partIn}
 use Rattle.tables.specs.declared.Counts.{Counts}
 use Rattle.spectra.specs.Listed.{familySpectra, places}
 use Rattle.spectra.specs.Spectrum.{spectrum, recovered}
@@ -78,6 +79,7 @@ tableFamily counts s =
       inputs = counts .inputs;
       circuits = counts .faults + 1;
       outputs = counts .outputs;
+      part = partIn (counts .parts);
       entry = λ c o m. entry (tableRow (counts .inputs) s (c * counts .outputs + o)) m;
     }
 

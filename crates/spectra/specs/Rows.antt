@@ -12,6 +12,7 @@ use Rattle.bits.specs.Blocks.{block}
 use Rattle.bits.specs.Packed.{entry}
 use Rattle.bits.specs.Answer.{Answer, Fills}
 use Rattle.job.specs.Layout.{maxOutputs, maxFaults}
+use Rattle.tables.specs.Operations.{noCounts}
 use Rattle.tables.specs.declared.Counts.{Counts}
 use Rattle.spectra.specs.Operations.{tableRow, fromTables, filledFrom}
 use Rattle.spectra.specs.Spectrum.{spectrum}
@@ -28,7 +29,7 @@ rowsOf counts s kind k room = fromTables counts s (λ F. filledFrom F kind k roo
 
 -- one table is that of the good circuit at one output
 abbrev pub oneTable : ℕ → Counts
-oneTable n = record { inputs = n; gates = 0; outputs = 1; faults = 0 }
+oneTable n = record { inputs = n; gates = 0; outputs = 1; faults = 0; parts = noCounts .parts }
 
 abbrev pub maxRows : ℕ
 maxRows = (maxFaults + 1) * maxOutputs

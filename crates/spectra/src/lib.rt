@@ -126,12 +126,10 @@ pub fn fill(counts: Counts, tables: &[u8], kind: Kind, polarity: usize, work: &m
 fn one_table(n: usize) -> Counts
     ensures { λ r. ⌜ r ≡ oneTable n ⌝ }
 {
-    Counts {
-        inputs: n,
-        gates: 0,
-        outputs: 1,
-        faults: 0,
-    }
+    let mut counts = tables::no_counts();
+    counts.inputs = n;
+    counts.outputs = 1;
+    counts
 }
 
 // The spectrum of one packed table, as that of one circuit: 2; 12; 13; 10.

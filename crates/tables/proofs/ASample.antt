@@ -31,7 +31,7 @@ sample =
       «output_count» = 2;
       outputs = 0 ∷ 1 ∷ [];
       «fault_count» = 2;
-      faults = record { fault = Stuck 1 false } ∷ record { fault = Stuck 0 true } ∷ [];
+      faults = record { fault = Stuck 1 false; part = 1 } ∷ record { fault = Stuck 0 true; part = 2 } ∷ [];
     }
 
 pub all-listed : tablesTo sample 3 ≡ 64 ∷ 128 ∷ 64 ∷ 0 ∷ 192 ∷ 0 ∷ []
@@ -43,7 +43,7 @@ all-bytes = refl
 
 -- at output 0 two circuits have no 1, at output 1 each has one
 abbrev crossed : Family
-crossed = record { inputs = 1; circuits = 2; outputs = 2; entry = λ c o m. o * ((c + m) % 2) }
+crossed = record { inputs = 1; circuits = 2; outputs = 2; part = λ c. c; entry = λ c o m. o * ((c + m) % 2) }
 
 pub unlike : sameTables crossed 0 1 ≡ false
 unfolding passing

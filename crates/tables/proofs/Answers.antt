@@ -83,14 +83,15 @@ module _ (s out : List ℕ) where
         let short : tablesOf s (length out) ≡ refused 10 = simp (e, lt-leb (tablesBytes j) (length out) l) in
         refuses (short ∙ ap (λ (x : Refusal). refused (number x)) (sym m))
 
-  pub tables-done : (j : Job) → reading s ≡ gives j → {bytes : ℕ} (after : List ℕ) → bytes ≡ tablesBytes j
+  pub tables-done : (j : Job) → reading s ≡ gives j → {counts : Counts} {bytes : ℕ} (after : List ℕ) → counts ≡ countsOf j → bytes ≡ tablesBytes j
       → bytes ≤ length out → after ≡ splice out 0 (tablesTo j (j .«fault_count» + 1))
-      → record { answer = gives tt; counts = countsOf j; bytes = bytes; memory = after } ≡ delivered (tablesOf s (length out)) out
+      → record { answer = gives tt; counts = counts; bytes = bytes; memory = after } ≡ delivered (tablesOf s (length out)) out
   unfolding tablesOf
-  tables-done j e {bytes} after size l p =
+  tables-done j e {counts} {bytes} after counted size l p =
       let room : tablesBytes j ≤ length out = subst (λ (k : ℕ). k ≤ length out) size l in
       let gave : tablesOf s (length out) ≡ gives (record { value = countsOf j; filled = tablesTo j (j .«fault_count» + 1) }) =
       simp (e, le-leb (tablesBytes j) (length out) room) in
-      ap₂ (λ (n : ℕ) (m : List ℕ). record { answer = gives tt; counts = countsOf j; bytes = n; memory = m })
+      ap (λ (x : Counts). record { answer = gives tt; counts = x; bytes = bytes; memory = after }) counted
+      ∙ ap₂ (λ (n : ℕ) (m : List ℕ). record { answer = gives tt; counts = countsOf j; bytes = n; memory = m })
       (size ∙ sym (length-tablesTo j (j .«fault_count» + 1))) (p ∙ splice-start out (tablesTo j (j .«fault_count» + 1)))
       ∙ ap (λ (x : Answer (Fills Counts)). delivered x out) (sym gave)

@@ -3,7 +3,7 @@
 --   tables-entries       circuits with equal tables have equal entries
 --   entries-tables       and conversely
 --   ValidFamily          what the laws of spectra and signatures ask of a family
---   SameFamily           families with an output whose entries are the same
+--   SameFamily           families with an output whose parts and entries are the same
 --   entry-bit            an entry of a circuit's table is 0 or 1
 --   family-valid         the family of a valid job is valid
 --   Delivers             the bytes give a job with these counts, and its tables stand at the start
@@ -73,6 +73,7 @@ pub record SameFamily (F G : Family) : Type 0 where
   pub circuits : F .circuits ≡ G .circuits
   pub outputs : F .outputs ≡ G .outputs
   pub one : 1 ≤ F .outputs
+  pub part : (c : ℕ) → F .part c ≡ G .part c
   pub entry : (c o m : ℕ) → c < F .circuits → o < F .outputs → m < 2 ^ (F .inputs) → F .entry c o m ≡ G .entry c o m
 
 fixing-bit : (j : Job) (c m l v : ℕ) → v < 2 → fixingOf j c m l v < 2

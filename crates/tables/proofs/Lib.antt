@@ -4,13 +4,14 @@ pub mod Batches
 pub mod Blocks
 pub mod Columns
 pub mod Copies
-pub mod WrittenTables
 pub mod Families
 pub mod Faults
 pub mod FixedColumns
 pub mod LineTables
+pub mod Parts
 pub mod Polynomials
 pub mod ShapedRows
 pub mod Sizes
 pub mod Space
 pub mod Values
+pub mod WrittenTables

@@ -1,4 +1,4 @@
-// The packed truth tables of a job's circuits (document 01, "Tables"): of one circuit at one output, and of all. The job
+// The packed truth tables of a job's circuits (document 01, "Tables"): of one circuit at one output, and of all, with their counts and parts. The job
 // is read, its circuits are worked out in batches (evaluator.rt), and the rows of the output lines are copied to the lent
 // bytes, circuit after circuit, output after output.
 ghost use mathlib.Core.Path.{_≡_};
@@ -9,7 +9,7 @@ ghost use Rattle.bits.specs.Sizes.{tableBytes};
 ghost use Rattle.bits.specs.Blocks.{block};
 ghost use Rattle.bits.specs.Slices.{splice};
 ghost use Rattle.bits.specs.declared.Outcome.the-variants.{Refused};
-ghost use Rattle.tables.specs.Operations.{tableOf, tablesOf, noCounts, delivered};
+ghost use Rattle.tables.specs.Operations.{tableOf, tablesOf, countsOf, noCounts, delivered};
 ghost use Rattle.tables.specs.Sizes.{Formed};
 ghost use Rattle.tables.specs.Work.{blockBytes, Wide, Sound, Good, Asked, tablesAt, tablesFrom, rowsAt, RowsThere};
 use bits::Outcome;
@@ -29,8 +29,11 @@ mod rows;
 // The bytes of the largest table, "(N+7) div 8".
 pub const MAX_TABLE_BYTES: usize = ((1 << MAX_INPUTS) + 7) / 8;
 
-// The tables of the most circuits at the most outputs: the good circuit's and each fault's.
-pub const ALL_TABLES_BYTES: usize = (MAX_FAULTS + 1) * MAX_OUTPUTS * MAX_TABLE_BYTES;
+// The most circuits: the good one, and one for each fault.
+pub const MAX_CIRCUITS: usize = MAX_FAULTS + 1;
+
+// The tables of the most circuits at the most outputs.
+pub const ALL_TABLES_BYTES: usize = MAX_CIRCUITS * MAX_OUTPUTS * MAX_TABLE_BYTES;
 
 // A row for each line of the good circuit, and one for each of a faulty one.
 const ROW_BYTES: usize = 2 * MAX_LINES * MAX_TABLE_BYTES;
@@ -42,12 +45,13 @@ const BLOCK_BYTES: usize = 512;
 // A row for each line of the good circuit, and a block for each of a batch.
 const ALL_ROW_BYTES: usize = MAX_LINES * (MAX_TABLE_BYTES + BLOCK_BYTES);
 
-// How many inputs, gates, outputs and faults a job has.
+// How many inputs, gates, outputs and faults a job has, and the part of each circuit.
 pub struct Counts {
     pub inputs: usize,
     pub gates: usize,
     pub outputs: usize,
     pub faults: usize,
+    pub parts: [u8; MAX_CIRCUITS],
 }
 
 // Whether the tables of a job are written, its counts, and how many bytes the tables have; these are 0 beside a refusal.
@@ -84,18 +88,46 @@ pub fn table(bytes: &[u8], circuit: usize, output: usize, out: &mut [u8]) -> Out
     Outcome::Done
 }
 
+// The counts and parts of a job: the good circuit's part is 0.
+fn counts_of(job: Job) -> Counts
+    ensures { λ r. ⌜ r ≡ countsOf job ⌝ }
+{
+    let mut parts = [0u8; MAX_CIRCUITS];
+    let mut i = 0;
+    while i < MAX_FAULTS {
+        let entry = job.faults[i];
+        parts[1 + i] = entry.part;
+        i += 1;
+    }
+    Counts {
+        inputs: job.inputs as usize,
+        gates: job.gate_count as usize,
+        outputs: job.output_count as usize,
+        faults: job.fault_count as usize,
+        parts,
+    }
+}
+
+// What counts and parts are beside a refusal.
+pub fn no_counts() -> Counts
+    ensures { λ r. ⌜ r ≡ noCounts ⌝ }
+{
+    Counts {
+        inputs: 0,
+        gates: 0,
+        outputs: 0,
+        faults: 0,
+        parts: [0u8; MAX_CIRCUITS],
+    }
+}
+
 // What stands beside a refusal.
 fn undelivered(cause: Refusal) -> Delivery
     ensures { λ r. ⌜ r ≡ record { outcome = Refused cause; counts = noCounts; bytes = 0 } ⌝ }
 {
     Delivery {
         outcome: Outcome::Refused(cause),
-        counts: Counts {
-            inputs: 0,
-            gates: 0,
-            outputs: 0,
-            faults: 0,
-        },
+        counts: no_counts(),
         bytes: 0,
     }
 }
@@ -122,12 +154,7 @@ pub fn tables(bytes: &[u8], out: &mut [u8]) -> Delivery
     put_tables(out, &mut rows, job, &lines[..outputs], shape);
     Delivery {
         outcome: Outcome::Done,
-        counts: Counts {
-            inputs: job.inputs as usize,
-            gates: job.gate_count as usize,
-            outputs,
-            faults,
-        },
+        counts: counts_of(job),
         bytes,
     }
 }

@@ -3,7 +3,8 @@
 --   turn-end, turn-stop, turn-next         what the checks from an entry on give: where none is left, where the next is refused, where it passes
 --   outputs-lent                           the checks of the outputs in use are those of the list of them
 --   gates-first, gates-second, gates-next  a gate whose first line is not below its own, whose second is not, and one that passes
---   faults-step, faults-next, faults-end   the checks from a fault on, which has two tests
+--   faults-line, faults-order, faults-part   a fault that test 7, 8 or 21 refuses
+--   faults-next, faults-end                one that passes, and the end of the faults
 --   checked-rest                           what is left to check once the gates have passed
 use Prim.Native.Nat.{ℕ, zero, suc, _+_, _-_, _≤_, _<_}
 use mathlib.Core.Path.{_≡_, refl, ap, ap₂, _∙_}
@@ -18,10 +19,10 @@ use Rattle.bits.specs.Answer.{Answer, unless, onward}
 use Rattle.bits.specs.Answer.Answer.{gives, refused}
 use Rattle.bits.proofs.Answers.{unless-true, unless-false}
 use Rattle.bits.proofs.Tests.{and-i}
-use Rattle.job.specs.Check.{inTurn, gateOk, outputCountOk, outputOk, faultCountOk, faultLineOk, faultOrderOk, gatesChecked, outputsChecked, faultsChecked, checked}
+use Rattle.job.specs.Check.{inTurn, gateOk, outputCountOk, outputOk, faultCountOk, faultLineOk, faultOrderOk, partOk, gatesChecked, outputsChecked, faultsChecked, checked}
 use Rattle.job.specs.Dependence.{outputLines, noLoose}
 use Rattle.job.specs.Layout.{maxInputs, maxGates}
-use Rattle.job.specs.Record.{gateA, gateB, gateAt, outputAt, faultAt, lines}
+use Rattle.job.specs.Record.{gateA, gateB, gateAt, outputAt, faultAt, partAt, lines}
 use Rattle.job.specs.declared.Job.{Job}
 
 -- so many checks from number i on: one, and then those from i + 1 on
@@ -82,15 +83,28 @@ module _ (j : Job) (count i : ℕ) where
   unfolding faultsChecked
   faults-end h = let e : count - i ≡ 0 = omega arith in ap (λ (k : ℕ). faultsChecked j k i) e
 
-  pub faults-step : i < count
+  faults-step : i < count
       → faultsChecked j (count - i) i
-      ≡ unless (faultLineOk (j .inputs) (lines j) (faultAt j i)) 7 (unless (faultOrderOk (faultAt j i)) 8 (faultsChecked j (count - (i + 1)) (i + 1)))
+      ≡ unless (faultLineOk (j .inputs) (lines j) (faultAt j i)) 7
+      (unless (faultOrderOk (faultAt j i)) 8
+      (unless (partOk (partAt j i)) 21 (faultsChecked j (count - (i + 1)) (i + 1))))
   unfolding faultsChecked
   faults-step h = turn (faultsChecked j) count i h ∙ simp add-one
 
-  pub faults-next : i < count → faultLineOk (j .inputs) (lines j) (faultAt j i) ≡ true → faultOrderOk (faultAt j i) ≡ true
+  pub faults-line : i < count → faultLineOk (j .inputs) (lines j) (faultAt j i) ≡ false → faultsChecked j (count - i) i ≡ refused 7
+  faults-line h line = faults-step h ∙ simp line
+
+  pub faults-order : i < count → faultLineOk (j .inputs) (lines j) (faultAt j i) ≡ true → faultOrderOk (faultAt j i) ≡ false
+      → faultsChecked j (count - i) i ≡ refused 8
+  faults-order h line order = faults-step h ∙ simp (line, order)
+
+  pub faults-part : i < count → faultLineOk (j .inputs) (lines j) (faultAt j i) ≡ true → faultOrderOk (faultAt j i) ≡ true → partOk (partAt j i) ≡ false
+      → faultsChecked j (count - i) i ≡ refused 21
+  faults-part h line order part = faults-step h ∙ simp (line, order, part)
+
+  pub faults-next : i < count → faultLineOk (j .inputs) (lines j) (faultAt j i) ≡ true → faultOrderOk (faultAt j i) ≡ true → partOk (partAt j i) ≡ true
       → faultsChecked j (count - i) i ≡ faultsChecked j (count - (i + 1)) (i + 1)
-  faults-next h line order = faults-step h ∙ simp (line, order)
+  faults-next h line order part = faults-step h ∙ simp (line, order, part)
 
 -- the checks past the gates, once those before them have passed
 pub checked-rest : (j : Job) → 1 ≤ j .inputs → j .inputs ≤ maxInputs → j .«gate_count» ≤ maxGates → gatesChecked j (j .«gate_count») 0 ≡ gives tt

@@ -1,7 +1,7 @@
 -- Laws of the bits of a job, entry by entry (specs/Writing.antt).
 --
 --   fromGateCount, fromGates, fromOutputCount, fromOutputs, fromFaultCount   the bits of a job from a place on
---   entry-same      equal kinds and lines have equal bits
+--   entry-same, fault-same   equal kinds and lines have equal bits, and so have those of a fault with its part
 --   entries-ready   where all entries have room, the next one has
 --   entries-none, entries-next, entries-done   no entry is put, one more is put, all are put
 --   whole-ready, whole-done   the same of a list that is put whole: its room, and the end
@@ -17,8 +17,9 @@ use lib.Seq.{take-suc, take-take, take-all, length-take-le}
 use Rattle.bits.specs.Bits.{bitsOf, bytesOf}
 use Rattle.bits.proofs.Bits.{length-bitsOf}
 use Rattle.bits.proofs.Bytes.{length-bytesOf}
-use Rattle.job.specs.Layout.{inputCountBits, gateCountBits, gateKindBits, lineBits, outputCountBits, faultCountBits, faultKindBits}
-use Rattle.job.specs.Record.{gateKind, gateA, gateB, faultKind, faultA, faultB}
+use Rattle.job.specs.Layout.{inputCountBits, gateCountBits, gateKindBits, lineBits, outputCountBits, faultCountBits, faultKindBits, partBits}
+use Rattle.job.specs.Record.{gateKind, gateA, gateB}
+use Rattle.job.specs.declared.FaultEntry.{FaultEntry}
 use Rattle.job.specs.declared.Job.{Job}
 use Rattle.writing.specs.Pen.{Ready, Puts}
 use Rattle.writing.specs.Writing.{entryBits, gateBits, faultBits, allBits, jobBits}
@@ -43,6 +44,10 @@ fromGateCount j = bitsOf gateCountBits (j .«gate_count») ++ fromGates j
 
 pub entry-same : (kindBits : ℕ) {k l a x b y : ℕ} → k ≡ l → a ≡ x → b ≡ y → entryBits kindBits k a b ≡ entryBits kindBits l x y
 entry-same kindBits p q r = simp (p, q, r)
+
+pub fault-same : (part : ℕ) {k l a x b y : ℕ} → k ≡ l → a ≡ x → b ≡ y
+    → entryBits faultKindBits k a b ++ bitsOf partBits part ≡ entryBits faultKindBits l x y ++ bitsOf partBits part
+fault-same part p q r = ap (λ (l : List ℕ). l ++ bitsOf partBits part) (entry-same faultKindBits p q r)
 
 module _ {A : Type 0} (bits : A → List ℕ) where
   allBits-append : (xs ys : List A) → allBits bits (xs ++ ys) ≡ allBits bits xs ++ allBits bits ys
@@ -108,9 +113,12 @@ length-entryBits : (kindBits kind a b : ℕ) → length (entryBits kindBits kind
 unfolding entryBits
 length-entryBits kindBits kind a b = simp (length-append, length-bitsOf) (omega arith)
 
+length-faultBits : (e : FaultEntry) → length (faultBits e) ≡ faultKindBits + 2 * lineBits + partBits
+length-faultBits e = simp (length-append, length-entryBits, length-bitsOf)
+
 pub bytes-jobBits : (j : Job) → j .«gate_count» ≤ length (j .gates) → j .«output_count» ≤ length (j .outputs) → j .«fault_count» ≤ length (j .faults)
     → (inputCountBits + gateCountBits + j .«gate_count» * (gateKindBits + 2 * lineBits) + outputCountBits + j .«output_count» * lineBits + faultCountBits
-    + j .«fault_count» * (faultKindBits + 2 * lineBits)
+    + j .«fault_count» * (faultKindBits + 2 * lineBits + partBits)
     + 7)
     / 8
     ≡ length (bytesOf (jobBits j))
@@ -122,15 +130,15 @@ bytes-jobBits j g o f =
     let outputs : length (allBits (bitsOf lineBits) (take (j .«output_count») (j .outputs))) ≡ j .«output_count» * lineBits =
     length-used (bitsOf lineBits) lineBits (length-bitsOf lineBits) (j .outputs) o
     in
-    let faults : length (allBits faultBits (take (j .«fault_count») (j .faults))) ≡ j .«fault_count» * (faultKindBits + 2 * lineBits) =
-    length-used faultBits (faultKindBits + 2 * lineBits) (λ e. length-entryBits faultKindBits (faultKind (e .fault)) (faultA (e .fault)) (faultB (e .fault))) (j .faults) f
+    let faults : length (allBits faultBits (take (j .«fault_count») (j .faults))) ≡ j .«fault_count» * (faultKindBits + 2 * lineBits + partBits) =
+    length-used faultBits (faultKindBits + 2 * lineBits + partBits) length-faultBits (j .faults) f
     in
     sym
     (length-bytesOf (jobBits j)
     ∙ ap (λ (n : ℕ). (n + 7) / 8)
     (simp (length-append, length-bitsOf, gates, outputs, faults)
     (regroup inputCountBits gateCountBits (j .«gate_count» * (gateKindBits + 2 * lineBits)) outputCountBits (j .«output_count» * lineBits) faultCountBits
-    (j .«fault_count» * (faultKindBits + 2 * lineBits)))))
+    (j .«fault_count» * (faultKindBits + 2 * lineBits + partBits)))))
   where
     regroup : (a b c d e f g : ℕ) → a + (b + (c + (d + (e + (f + g))))) ≡ a + b + c + d + e + f + g
     regroup a b c d e f g = omega arith

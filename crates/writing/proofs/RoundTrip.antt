@@ -26,9 +26,9 @@ use Rattle.bits.proofs.Bits.{AllBits, bits-append, bits-bitsOf}
 use Rattle.bits.proofs.Packed.{Bytes}
 use Rattle.bits.proofs.Tests.{and-l, and-r}
 use Rattle.bits.proofs.SpareBits.{spareCount, stringOf-bytesOf, zeros-spare, bytesOf-spare}
-use Rattle.job.specs.Check.{Valid, checked, gateOk, faultLineOk, faultOrderOk}
+use Rattle.job.specs.Check.{Valid, checked, gateOk, faultLineOk, faultOrderOk, partOk}
 use Rattle.job.specs.Dependence.{gatesOf, noneLoose, outputLines}
-use Rattle.job.specs.Layout.{maxInputs, maxGates, maxOutputs, maxFaults, inputCountBits, gateCountBits, gateKindBits, lineBits, outputCountBits, faultCountBits, faultKindBits}
+use Rattle.job.specs.Layout.{maxInputs, maxGates, maxOutputs, maxFaults, inputCountBits, gateCountBits, gateKindBits, lineBits, outputCountBits, faultCountBits, faultKindBits, partBits}
 use Rattle.job.specs.Record.{gateKind, gateA, gateB, faultKind, faultA, faultB, lines, emptyJob, reset, noGates, noOutputs, noFaults, unusedGate, unusedFault}
 use Rattle.job.specs.declared.BinaryKind.the-variants.{And, Or, Nand, Nor, Xor, Xnor}
 use Rattle.job.specs.declared.UnaryKind.the-variants.{Buf, Not}
@@ -47,7 +47,7 @@ use Rattle.reading.specs.Reading.{entryFields, unaryLinesOk, gate, outputLine, 
 use Rattle.reading.proofs.Inversion.{GateTaken, OutputTaken, FaultTaken, Chain, EntriesTaken, sets-taken, Parts, reading-parts}
 use Rattle.reading.proofs.Validity.{reading-checked, reading-lengths, reading-valid}
 use Rattle.writing.specs.Writing.{entryBits, gateBits, faultBits, allBits, jobBits, written}
-use Rattle.writing.proofs.Widths.{line-fits, inputs-fit, gates-fit, outputs-fit, faults-fit}
+use Rattle.writing.proofs.Widths.{line-fits, inputs-fit, gates-fit, outputs-fit, faults-fit, part-lt}
 
 -- ---- the string of a job
 
@@ -72,6 +72,11 @@ bits-entryBits w kind a b =
     bits-append (bitsOf w kind) (bitsOf lineBits a ++ bitsOf lineBits b) (bits-bitsOf w kind)
     (bits-append (bitsOf lineBits a) (bitsOf lineBits b) (bits-bitsOf lineBits a) (bits-bitsOf lineBits b))
 
+bits-faultBits : (e : FaultEntry) → AllBits (faultBits e)
+bits-faultBits e =
+    bits-append (entryBits faultKindBits (faultKind (e .fault)) (faultA (e .fault)) (faultB (e .fault))) _
+    (bits-entryBits faultKindBits (faultKind (e .fault)) (faultA (e .fault)) (faultB (e .fault))) (bits-bitsOf partBits _)
+
 bits-allBits : {A : Type 0} (print : A → List ℕ) → ((e : A) → AllBits (print e)) → (es : List A) → AllBits (allBits print es)
 unfolding allBits
 bits-allBits print h [] = tt
@@ -86,7 +91,7 @@ bits-jobBits j =
     (bits-append (bitsOf outputCountBits (j .«output_count» - 1)) _ (bits-bitsOf outputCountBits (j .«output_count» - 1))
     (bits-append (allBits (bitsOf lineBits) (take (j .«output_count») (j .outputs))) _ (bits-allBits (bitsOf lineBits) (bits-bitsOf lineBits) (take (j .«output_count») (j .outputs)))
     (bits-append (bitsOf faultCountBits (j .«fault_count»)) _ (bits-bitsOf faultCountBits (j .«fault_count»))
-    (bits-allBits faultBits (λ e. bits-entryBits faultKindBits (faultKind (e .fault)) (faultA (e .fault)) (faultB (e .fault))) (take (j .«fault_count») (j .faults))))))))
+    (bits-allBits faultBits bits-faultBits (take (j .«fault_count») (j .faults))))))))
 
 -- ---- from bytes to a record and back
 
@@ -125,11 +130,15 @@ fault-text : (n count : ℕ) (i : ℕ) (bits : List ℕ) (e : FaultEntry) (rest 
 fault-text n count i bits e rest t =
     let x = t .entry in
     let fits = t .taken .kind-fits in
+    let entry = entryBits faultKindBits (x .kind) (x .a) (x .b) in
+    let part = bitsOf partBits (e .part) in
     t .taken .text
+    ∙ sym (entryBits-append faultKindBits (x .kind) (x .a) (x .b) (t .behind))
+    ∙ ap (λ (l : List ℕ). entry ++ l) (t .part-taken .text)
     ∙ sym
-    (ap (λ (y : FaultEntry). faultBits y ++ rest) (t .same)
-    ∙ (λ i. entryBits faultKindBits (faultKind-of (x .a) (x .b) (x .kind) fits i) (faultA-of (x .a) (x .b) (x .kind) fits i) (faultB-of (x .a) (x .b) (x .kind) fits (t .lines-ok) i) ++ rest)
-    ∙ entryBits-append faultKindBits (x .kind) (x .a) (x .b) rest)
+    (ap (λ (f : Fault). (entryBits faultKindBits (faultKind f) (faultA f) (faultB f) ++ part) ++ rest) (t .same)
+    ∙ (λ i. (entryBits faultKindBits (faultKind-of (x .a) (x .b) (x .kind) fits i) (faultA-of (x .a) (x .b) (x .kind) fits i) (faultB-of (x .a) (x .b) (x .kind) fits (t .lines-ok) i) ++ part) ++ rest)
+    ∙ append-assoc entry part rest)
 
 parts-text : (bits : List ℕ) (j : Job) → Valid j → (p : Parts bits j) → bits ≡ jobBits j ++ p .spare-bits
 parts-text bits j v p =
@@ -202,13 +211,22 @@ fault-fits n count m (Stuck l level) ok hn hc = let h = le-trans (ltb-true l cou
 fault-fits n count m (Bridge a b is-and) ok hn hc =
     (le-trans (ltb-true a n (and-l (ltb a n) (ltb b n) ok)) hn, le-trans (ltb-true b n (and-r (ltb a n) (ltb b n) ok)) hn)
 
-fault-takes : (n count : ℕ) (e : FaultEntry) (rest : List ℕ) → faultLineOk n count (e .fault) ≡ true → faultOrderOk (e .fault) ≡ true
+fault-takes : (n count : ℕ) (e : FaultEntry) (rest : List ℕ) → faultLineOk n count (e .fault) ≡ true → faultOrderOk (e .fault) ≡ true → partOk (e .part) ≡ true
     → n ≤ 2 ^ lineBits → count ≤ 2 ^ lineBits → fault n count (faultBits e ++ rest) ≡ parsed e rest
 unfolding fault
-fault-takes n count e rest ok order hn hc =
+fault-takes n count e rest ok order part-ok hn hc =
     let x = e .fault in
     let h = fault-fits n count (2 ^ lineBits) x ok hn hc in
-    rw (entryFields-takes faultKindBits (faultKind x) (faultA x) (faultB x) rest (faultKind-lt x) (h .0) (h .1), faultOf-parts x, ok, fault-lines x order)
+    let part = bitsOf partBits (e .part) in
+    rw (
+      append-assoc (entryBits faultKindBits (faultKind x) (faultA x) (faultB x)) part rest,
+      entryFields-takes faultKindBits (faultKind x) (faultA x) (faultB x) (part ++ rest) (faultKind-lt x) (h .0) (h .1),
+      field-takes partBits (e .part) rest (part-lt (e .part) part-ok),
+      faultOf-parts x,
+      ok,
+      fault-lines x order,
+      part-ok,
+    )
 
 module _ {A : Type 0} (p : ℕ → Parser A) (print : A → List ℕ) (Good : ℕ → A → Type 0) (d : A)
     (step : (i : ℕ) (e : A) (rest : List ℕ) → Good i e → p i (print e ++ rest) ≡ parsed e rest) where
@@ -261,10 +279,10 @@ module _ (j : Job) (v : Valid j) (rest : List ℕ) where
       let gates-few = v .gates-few in
       let faults-few = v .faults-few in
       front-takes (λ _. fault (j .inputs) (lines j)) faultBits
-      (λ i e. (faultLineOk (j .inputs) (lines j) (e .fault) ≡ true) × (faultOrderOk (e .fault) ≡ true)) unusedFault
-      (λ i e rest h. fault-takes (j .inputs) (lines j) e rest (h .0) (h .1) (le-trans (omega arith) all-lines) (le-trans (omega arith) all-lines))
+      (λ i e. (faultLineOk (j .inputs) (lines j) (e .fault) ≡ true) × (faultOrderOk (e .fault) ≡ true) × (partOk (e .part) ≡ true)) unusedFault
+      (λ i e rest h. fault-takes (j .inputs) (lines j) e rest (h .0) (h .1) (h .2) (le-trans (omega arith) all-lines) (le-trans (omega arith) all-lines))
       (j .«fault_count») (j .faults) noFaults rest (omega arith)
-      (λ i h. (v .fault-line i h, v .fault-order i h))
+      (λ i h. (v .fault-line i h, v .fault-order i h, v .fault-part i h))
 
 -- the first entries that are left are those that were taken
 front-left : {A : Type 0} (count : ℕ) (es entries : List A) → count ≤ length es → count ≤ length entries → take count (sets entries 0 (take count es)) ≡ take count es

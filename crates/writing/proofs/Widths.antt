@@ -4,24 +4,25 @@
 --   inputs-fit, gates-fit, outputs-fit, faults-fit   the counts fit theirs, the outputs' less 1
 --   lines-fit                             the output lines fit theirs
 --   gate-fits, fault-fits                 a gate's and a fault's kind and lines fit theirs
+--   part-lt, part-fits                    a part that passes its test fits its field, and so does each fault's
 --   fits-same                             equal kinds and lines fit alike
 use Prim.Native.Nat.{ℕ, _+_, _-_, _^_, _≤_, _<_}
 use mathlib.Core.Path.{_≡_}
 use mathlib.Core.Bool.{true}
 use native.Mathlib.Omega.{arith}
-use borrow.Author.Tests.{ltb-true}
-use lib.Dec.{ltb}
+use borrow.Author.Tests.{leb-true, ltb-true}
+use lib.Dec.{leb, ltb}
 use lib.ListN.{length, take}
 use lib.Seq.{length-take-le, getD-take}
 use Rattle.bits.proofs.Tests.{and-l, and-r}
-use Rattle.job.specs.Check.{faultLineOk, Valid}
-use Rattle.job.specs.Layout.{inputCountBits, gateCountBits, gateKindBits, lineBits, outputCountBits, faultCountBits, faultKindBits}
-use Rattle.job.specs.Record.{gateKind, gateA, gateB, gateAt, faultKind, faultA, faultB, faultAt, lines}
+use Rattle.job.specs.Check.{faultLineOk, partOk, Valid}
+use Rattle.job.specs.Layout.{maxPart, inputCountBits, gateCountBits, gateKindBits, lineBits, outputCountBits, faultCountBits, faultKindBits, partBits}
+use Rattle.job.specs.Record.{gateKind, gateA, gateB, gateAt, faultKind, faultA, faultB, faultAt, partAt, lines}
 use Rattle.job.specs.declared.Fault.{Fault}
 use Rattle.job.specs.declared.Fault.the-variants.{Stuck, Bridge}
 use Rattle.job.specs.declared.Job.{Job}
 use Rattle.job.proofs.Numbers.{gateKind-lt, faultKind-lt}
-use Rattle.job.proofs.Sizes.{all-lines, all-inputs, all-gates, counts-of-outputs, all-faults}
+use Rattle.job.proofs.Sizes.{all-lines, all-inputs, all-gates, counts-of-outputs, all-faults, all-parts}
 use Rattle.writing.specs.Pen.{EntryFits, AllFit}
 
 fault-lines : (n count : ℕ) (x : Fault) → n ≤ count → faultLineOk n count x ≡ true → (faultA x < count) × (faultB x < count)
@@ -33,6 +34,12 @@ fault-lines n count (Bridge a b is-and) h e =
 
 pub fits-same : {kindBits k l a x b y : ℕ} → k ≡ l → a ≡ x → b ≡ y → EntryFits kindBits l x y → EntryFits kindBits k a b
 fits-same p q r f = record { kind-fits = rw p (f .kind-fits); a-fits = rw q (f .a-fits); b-fits = rw r (f .b-fits) }
+
+pub part-lt : (part : ℕ) → partOk part ≡ true → part < 2 ^ partBits
+part-lt part ok =
+    let few = leb-true part maxPart (and-r (leb 1 part) (leb part maxPart) ok) in
+    let e = all-parts in
+    omega arith
 
 module _ {j : Job} (v : Valid j) where
   pub line-fits : {l : ℕ} → l < lines j → l < 2 ^ lineBits
@@ -67,3 +74,6 @@ module _ {j : Job} (v : Valid j) where
   fault-fits i h =
       let in-range = fault-lines (j .inputs) (lines j) (faultAt j i) (omega arith) (v .fault-line i h) in
       record { kind-fits = faultKind-lt (faultAt j i); a-fits = line-fits (in-range .0); b-fits = line-fits (in-range .1) }
+
+  pub part-fits : (i : ℕ) → i < j .«fault_count» → partAt j i < 2 ^ partBits
+  part-fits i h = part-lt (partAt j i) (v .fault-part i h)

@@ -1,4 +1,4 @@
--- Believed: writing a job (document 01, "Job layout" and "Refusal by operation"; document 02, CR 2).
+-- Believed: writing a job (document 01, "Job layout" and "Refusal by operation"; document 02, CR 2 and 3).
 --
 --   gateBits, faultBits   the bits of one gate, of one fault
 --   jobBits               the string of bits of a job, without its spare bits
@@ -12,7 +12,7 @@ use Rattle.bits.specs.Answer.{Answer, Fills, number, unless, onward}
 use Rattle.bits.specs.Answer.Answer.{gives, refused}
 use Rattle.bits.specs.Bits.{bitsOf, bytesOf}
 use Rattle.job.specs.Check.{checked}
-use Rattle.job.specs.Layout.{inputCountBits, gateCountBits, gateKindBits, lineBits, outputCountBits, faultCountBits, faultKindBits}
+use Rattle.job.specs.Layout.{inputCountBits, gateCountBits, gateKindBits, lineBits, outputCountBits, faultCountBits, faultKindBits, partBits}
 use Rattle.job.specs.Record.{gateKind, gateA, gateB, faultKind, faultA, faultB}
 use Rattle.job.specs.declared.FaultEntry.{FaultEntry}
 use Rattle.job.specs.declared.GateEntry.{GateEntry}
@@ -27,8 +27,9 @@ entryBits kindBits kind a b = bitsOf kindBits kind ++ (bitsOf lineBits a ++ bits
 abbrev pub gateBits : GateEntry → List ℕ
 gateBits e = entryBits gateKindBits (gateKind (e .gate)) (gateA (e .gate)) (gateB (e .gate))
 
+-- "a part number .. in 6 bits after line b"
 abbrev pub faultBits : FaultEntry → List ℕ
-faultBits e = entryBits faultKindBits (faultKind (e .fault)) (faultA (e .fault)) (faultB (e .fault))
+faultBits e = entryBits faultKindBits (faultKind (e .fault)) (faultA (e .fault)) (faultB (e .fault)) ++ bitsOf partBits (e .part)
 
 unfoldable pub allBits : {A : Type 0} → (A → List ℕ) → List A → List ℕ
 allBits bits [] = []

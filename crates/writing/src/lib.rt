@@ -28,6 +28,7 @@ use job::MAX_GATES;
 use job::MAX_INPUTS;
 use job::MAX_OUTPUTS;
 use job::OUTPUT_COUNT_BITS;
+use job::PART_BITS;
 
 // The number of bytes written, or the refusal.
 pub enum Written {
@@ -62,7 +63,7 @@ fn job_bytes(job: Job) -> usize
     let outputs = job.output_count as usize;
     let f = job.fault_count as usize;
     let gate_bits = GATE_KIND_BITS + 2 * LINE_BITS;
-    let fault_bits = FAULT_KIND_BITS + 2 * LINE_BITS;
+    let fault_bits = FAULT_KIND_BITS + 2 * LINE_BITS + PART_BITS;
     (INPUT_COUNT_BITS
         + GATE_COUNT_BITS
         + g * gate_bits
@@ -74,7 +75,8 @@ fn job_bytes(job: Job) -> usize
         / 8
 }
 
-// The first refusal of a record: 2, 3, 4 gate by gate, 20, 6 output by output, 19, 18, then 7 and 8 fault by fault.
+// The first refusal of a record: 2, 3, 4 gate by gate, 20, 6 output by output, 19, 18, then 7, 8 and 21 fault by
+// fault.
 fn check(job: Job) -> Outcome
     ensures { λ r. ⌜ outcome r ≡ checked job ⌝ }
 {
@@ -128,7 +130,7 @@ fn check_outputs(outputs: &[u8], lines: usize) -> Outcome
     Outcome::Done
 }
 
-// Refusals 19, 18, then 7 and 8 fault by fault.
+// Refusals 19, 18, then 7, 8 and 21 fault by fault.
 fn check_rest(job: Job) -> Outcome
     ensures { λ r. ⌜ outcome r ≡ unless (noLoose job) 19 (unless (faultCountOk (job .«fault_count»)) 18 (faultsChecked job (job .«fault_count») 0)) ⌝ }
 {
@@ -163,7 +165,7 @@ fn check_gates(job: Job) -> Outcome
     Outcome::Done
 }
 
-// Refusals 7 and 8, fault by fault.
+// Refusals 7, 8 and 21, fault by fault.
 fn check_faults(job: Job) -> Outcome
     requires { ⌜ job .«fault_count» ≤ maxFaults ⌝ }
     ensures { λ r. ⌜ outcome r ≡ faultsChecked job (job .«fault_count») 0 ⌝ }
@@ -180,6 +182,9 @@ fn check_faults(job: Job) -> Outcome
         }
         if !order_ok(fault) {
             return Outcome::Refused(Refusal::FaultPair);
+        }
+        if !job::part_ok(entry.part as usize) {
+            return Outcome::Refused(Refusal::Part);
         }
         i += 1;
     }
@@ -223,7 +228,7 @@ fn put_field(out: &mut [u8], pen: Pen, width: usize, value: usize) -> Pen
     }
 }
 
-// Puts the three fields of a gate or a fault.
+// Puts the three fields that a gate and a fault begin with.
 fn put_entry(out: &mut [u8], pen: Pen, kind_bits: usize, kind: usize, a: usize, b: usize) -> Pen
     requires { ⌜ Ready (now out) pen (entryBits «kind_bits» kind a b) × («kind_bits» ≤ 8) × EntryFits «kind_bits» kind a b ⌝ }
     ensures { λ r. ⌜ Puts (now (out .entry)) pen (entryBits «kind_bits» kind a b) (now (out .exit)) r ⌝ }
@@ -290,6 +295,7 @@ fn put_faults(out: &mut [u8], start: Pen, job: Job) -> Pen
             fault.first(),
             fault.second(),
         );
+        pen = put_field(out, pen, PART_BITS, entry.part as usize);
         i += 1;
     }
     pen

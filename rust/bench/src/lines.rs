@@ -44,7 +44,7 @@ impl Memory {
 const KINDS: [reference::Kind; 2] = [reference::Kind::Rm, reference::Kind::Mrm];
 
 impl Case {
-    /// The calls of a job without alike circuits. The circuit that is located is the last, at the last output.
+    /// The calls of a job without equal circuits. The circuit that is located is the last, at the last output.
     pub fn new(bytes: Vec<u8>) -> Case {
         let job = reference::read(&bytes).expect("a job");
         let (inputs, circuit) = (usize::from(job.inputs), usize::from(job.fault_count));
@@ -116,6 +116,8 @@ pub const LINES: [Line; 12] = [
 
 /// From this line on the number of outputs counts.
 pub const FIRST_OF_OUTPUTS: usize = 4;
+/// From this line on the parts count.
+pub const FIRST_OF_PARTS: usize = 6;
 
 impl Kind {
     fn proved(self) -> horncurlew::Kind {

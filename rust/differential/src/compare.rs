@@ -34,19 +34,19 @@ impl Operation {
     /// The refusals that the documents give it, in order.
     pub fn refusals(self) -> &'static [usize] {
         match self {
-            Operation::Check => &[1, 2, 3, 4, 5, 6, 19, 7, 8, 9],
-            Operation::Rewrite => &[1, 2, 3, 4, 5, 6, 19, 7, 8, 9, 10],
-            Operation::Table => &[1, 2, 3, 4, 5, 6, 19, 7, 8, 9, 11, 20, 10],
+            Operation::Check => &[1, 2, 3, 4, 5, 6, 19, 7, 8, 21, 9],
+            Operation::Rewrite => &[1, 2, 3, 4, 5, 6, 19, 7, 8, 21, 9, 10],
+            Operation::Table => &[1, 2, 3, 4, 5, 6, 19, 7, 8, 21, 9, 11, 20, 10],
             Operation::Spectrum => &[2, 12, 13, 10],
             Operation::Undo => &[2, 13, 14, 10],
-            Operation::Choose => &[1, 2, 3, 4, 5, 6, 19, 7, 8, 9, 13, 10, 15],
-            Operation::Locate => &[1, 2, 3, 4, 5, 6, 19, 7, 8, 9, 13, 16, 20, 17, 10],
+            Operation::Choose => &[1, 2, 3, 4, 5, 6, 19, 7, 8, 21, 9, 13, 10, 15],
+            Operation::Locate => &[1, 2, 3, 4, 5, 6, 19, 7, 8, 21, 9, 13, 16, 20, 17, 10],
         }
     }
 }
 
 /// The numbers of refusals, and 0 for success.
-pub const NUMBERS: usize = 21;
+pub const NUMBERS: usize = 22;
 
 /// How often each operation answered each number.
 #[derive(Clone, Default)]
@@ -358,7 +358,7 @@ impl Comparison {
             horncurlew::locate_lists(input.get(), kind, polarity, own_indices, own_outputs, own_readings, numbers)
         };
         let ours = match ours {
-            Ok(Location::Alone(circuit)) => Ok(Located::Alone(circuit)),
+            Ok(Location::Part { part, lowest }) => Ok(Located::Part(part, lowest)),
             Ok(Location::Several { lowest, count }) => Ok(Located::Several(lowest, count)),
             Ok(Location::Nowhere) => Ok(Located::Nowhere),
             Err(cause) => Err(refused(cause)),

@@ -1,8 +1,8 @@
 //! Every exported operation but the report against the reference, on seeded calls.
 
 use differential::compare::{Comparison, Entry, Kind, List, Operation, Purpose, NUMBERS};
-use differential::jobs::{any_job, any_outputs, chained_job, encode, full_job, loose_job, sized_job, small_job};
-use differential::jobs::{Circuit, Field};
+use differential::jobs::{any_job, any_outputs, chained_job, encode, loose_job, parted_job, sized_job};
+use differential::jobs::{small_job, Circuit, Fault, Field, Parts};
 use differential::random::Random;
 use reference::Located;
 
@@ -143,7 +143,7 @@ fn every_call(to: &mut Comparison, bytes: &[u8]) {
         let lent = room(&mut to.random, counts.work());
         let signature = to.choose(bytes, purpose, kind, polarity, lent);
         if let (Some(signature), Purpose::Isolating) = (signature, purpose) {
-            name_alone(to, bytes, kind, polarity, &signature);
+            name_part(to, bytes, kind, polarity, &signature);
         }
     }
     let (kind, polarity) = (to.random.pick(&KINDS), around(&mut to.random, places));
@@ -153,14 +153,23 @@ fn every_call(to: &mut Comparison, bytes: &[u8]) {
     to.locate(bytes, kind, polarity, &list, lent);
 }
 
-/// The readings of a circuit for an isolating signature name it alone.
-fn name_alone(to: &mut Comparison, bytes: &[u8], kind: Kind, polarity: usize, signature: &[Entry]) {
+/// The part of each circuit of a job.
+fn parts_of(bytes: &[u8]) -> Vec<usize> {
+    let job = reference::read(bytes).expect("a valid job");
+    let faults = &job.faults[..job.fault_count.into()];
+    [0].into_iter().chain(faults.iter().map(|entry| usize::from(entry.part))).collect()
+}
+
+/// The readings of a circuit for an isolating signature name its part, and the lowest circuit that has them.
+fn name_part(to: &mut Comparison, bytes: &[u8], kind: Kind, polarity: usize, signature: &[Entry]) {
     let counts = Counts::new(&mut to.random, bytes);
     let work = spectra_of(counts, bytes, kind, polarity);
     let circuit = to.random.below(counts.faults + 1);
-    let list = List::new(signature, counts.readings(&work, circuit, signature));
+    let readings = counts.readings(&work, circuit, signature);
+    let lowest = (0..circuit).find(|lower| counts.readings(&work, *lower, signature) == readings).unwrap_or(circuit);
+    let list = List::new(signature, readings);
     let located = to.locate(bytes, kind, polarity, &list, work.len());
-    assert_eq!(located, Some(Located::Alone(circuit)));
+    assert_eq!(located, Some(Located::Part(parts_of(bytes)[circuit], lowest)));
 }
 
 /// Bytes that are no job any more, mostly.
@@ -169,7 +178,8 @@ fn damage(random: &mut Random, fields: &[Field]) -> Vec<u8> {
     if random.once_in(2) {
         for _ in 0..1 + random.below(2) {
             let place = random.below(fields.len());
-            fields[place].value = random.below(1 << fields[place].width) as u8;
+            let any = random.below(1 << fields[place].width) as u8;
+            fields[place].value = if random.once_in(3) { 0 } else { any };
         }
         return encode(&fields);
     }
@@ -271,7 +281,8 @@ fn loose_gates_in_turn() {
         let (inputs, gates, outputs) = (1 + to.random.below(8), 1 + to.random.below(64), any_outputs(&mut to.random));
         let tight = Circuit::any(&mut to.random, inputs, gates, outputs);
         let loose = tight.clone().loosened(&mut to.random);
-        let faults: Vec<_> = (0..to.random.below(4)).map(|_| tight.any_fault(&mut to.random)).collect();
+        let count = to.random.below(4);
+        let faults = tight.any_faults(&mut to.random, count);
         assert!(reference::read(&tight.bytes(&faults)).is_ok());
         refused_by_reading(&mut to, &loose.bytes(&faults), 19);
         outputs_on_inputs += usize::from(loose.outputs.iter().any(|line| usize::from(*line) < inputs));
@@ -309,7 +320,8 @@ fn outputs_in_turn() {
     for turn in 0..2000 {
         let (inputs, gates, outputs) = (1 + to.random.below(8), to.random.below(20), 1 + turn % 4);
         let mut circuit = Circuit::any(&mut to.random, inputs, gates, outputs);
-        let faults: Vec<_> = (0..to.random.below(4)).map(|_| circuit.any_fault(&mut to.random)).collect();
+        let count = to.random.below(4);
+        let faults = circuit.any_faults(&mut to.random, count);
         let place = to.random.below(outputs);
         // The bytes up to the end of an output, and without its last bit.
         let ends = |place: usize| (4 + 7 + 17 * gates + 2 + 7 * (place + 1)).div_ceil(8);
@@ -327,6 +339,182 @@ fn outputs_in_turn() {
     }
     println!("6 before 1, by output {cut_jobs:?}");
     assert!(cut_jobs[..3].iter().all(|count| *count > 0));
+}
+
+/// A fault of a circuit spoilt so that reading gives the number; its part is as given.
+fn spoilt(random: &mut Random, circuit: &Circuit, number: u8, part: u8) -> Fault {
+    let (inputs, lines) = (circuit.inputs, circuit.lines());
+    let (line, input) = (random.below(lines) as u8, random.below(inputs) as u8);
+    let mut beyond = |least: usize| (least + random.below(128 - least)) as u8;
+    let (no_line, no_input) = (beyond(lines), beyond(inputs));
+    let (stuck, bridge) = (random.below(2) as u8, 2 + random.below(2) as u8);
+    let choices = match number {
+        // A stuck fault is judged by line a, a bridge by both.
+        7 => [[stuck, no_line, no_line], [stuck, no_line, line], [bridge, input, no_input], [bridge, no_input, input]],
+        8 => [[stuck, line, no_line], [stuck, line, line ^ 1], [bridge, input, input], [bridge, input, 0]],
+        _ => [[stuck, line, line]; 4],
+    };
+    let [kind, a, b] = random.pick(&choices);
+    [kind, a, b, part]
+}
+
+/// Per fault 7, 8 and 21 in turn, once all four of its fields are there: a job that ends inside a part is cut, whatever
+/// stands before it.
+#[test]
+fn parts_in_turn() {
+    let mut to = Comparison::new(16);
+    let mut cut_inside = [0; 6];
+    for turn in 0..4000 {
+        let (inputs, gates, outputs) = (1 + to.random.below(8), to.random.below(8), any_outputs(&mut to.random));
+        let circuit = Circuit::any(&mut to.random, inputs, gates, outputs);
+        let count = 1 + to.random.below(6);
+        let mut faults = circuit.any_faults(&mut to.random, count);
+        let place = to.random.below(faults.len());
+        let number = [7, 8, 21, 0][turn % 4];
+        // Of the part's own refusal the part is 0; of the others it is 0 as often as not.
+        let part = if number == 21 || (number > 0 && turn % 8 < 4) { 0 } else { 1 + to.random.below(63) as u8 };
+        faults[place] = spoilt(&mut to.random, &circuit, number, part);
+        let bytes = circuit.bytes(&faults);
+        if number == 0 {
+            assert!(reference::read(&bytes).is_ok(), "{bytes:02x?}");
+            every_call(&mut to, &bytes);
+        } else {
+            refused_by_reading(&mut to, &bytes, number);
+            // What is wrong with a later fault doesn't matter.
+            for later in &mut faults[place + 1..] {
+                let number = to.random.pick(&[7, 8, 21]);
+                *later = spoilt(&mut to.random, &circuit, number, 0);
+            }
+            refused_by_reading(&mut to, &circuit.bytes(&faults), number);
+        }
+        // The bytes that end inside the part, or right before it.
+        let end = 4 + 7 + 17 * gates + 2 + 7 * outputs + 6 + 22 * (place + 1);
+        let length = (end - 1) / 8;
+        if 8 * length >= end - 6 {
+            refused_by_reading(&mut to, &bytes[..length], 1);
+            cut_inside[8 * length - (end - 6)] += 1;
+        }
+    }
+    println!("cut inside a part, by bits of it that are there: {cut_inside:?}");
+    assert!(cut_inside.iter().all(|count| *count > 100));
+}
+
+/// Lists whose faults share parts: equal ones, for which no signature is refused, and unequal ones.
+#[test]
+fn shared_parts() {
+    let mut to = Comparison::new(17);
+    let mut seen = Sorts::default();
+    for turn in 0..3000 {
+        let (inputs, gates, outputs) = (1 + to.random.below(6), to.random.below(24), any_outputs(&mut to.random));
+        let circuit = Circuit::any(&mut to.random, inputs, gates, outputs);
+        let most = to.random.below(if turn % 10 == 0 { 64 } else { 16 });
+        let one = 1 + to.random.below(63) as u8;
+        let parts = match turn % 6 {
+            0 => Parts::One(one),
+            1 => Parts::Falling,
+            2 => Parts::Fours,
+            3 => Parts::Among(2),
+            4 => Parts::Among(63),
+            _ => Parts::Own,
+        };
+        let faults = match turn % 7 {
+            0 => circuit.any_faults(&mut to.random, most),
+            1 => circuit.distinct_faults(&mut to.random, most, parts, None),
+            _ => circuit.distinct_faults(&mut to.random, most, parts, Some(1 + turn % 2)),
+        };
+        let bytes = circuit.bytes(&faults);
+        let counts = Counts::new(&mut to.random, &bytes);
+        for kind in KINDS {
+            let polarity = to.random.below(counts.places());
+            for purpose in PURPOSES {
+                let signature = to.choose(&bytes, purpose, kind, polarity, counts.work());
+                let Some(signature) = signature else { continue };
+                assert!(signature.len() <= faults.len());
+                if purpose == Purpose::Isolating {
+                    seen.count(&bytes, &spectra_of(counts, &bytes, kind, polarity));
+                }
+                locate_all(&mut to, counts, &bytes, kind, polarity, &signature, &mut seen);
+            }
+        }
+        seen.alike += usize::from(to.tally.of(Operation::Choose, 15) > seen.refused);
+        seen.refused = to.tally.of(Operation::Choose, 15);
+    }
+    println!("{seen:?}");
+    let counts = [seen.equal, seen.unequal, seen.one_part, seen.falling, seen.alike];
+    assert!(counts.iter().all(|count| *count > 100), "{seen:?}");
+    let located = [seen.located, seen.lower, seen.several, seen.several_faults, seen.nowhere];
+    assert!(located.iter().all(|count| *count > 100), "{seen:?}");
+}
+
+/// How many jobs and answers of each sort there were.
+#[derive(Debug, Default)]
+struct Sorts {
+    /// An isolating signature of a list with two equal faults.
+    equal: usize,
+    /// Of a list with unequal faults of one part.
+    unequal: usize,
+    /// Of a list of two faults or more, all of one part.
+    one_part: usize,
+    /// Of a list in which a part is below the one before it.
+    falling: usize,
+    /// Jobs refused as alike, and the calls so refused.
+    alike: usize,
+    refused: usize,
+    /// A part was located, and it was so with a lower circuit than the one that gave the readings.
+    located: usize,
+    lower: usize,
+    /// Circuits of several parts agreed, and they did without the good one.
+    several: usize,
+    several_faults: usize,
+    nowhere: usize,
+}
+
+impl Sorts {
+    /// A job that has an isolating signature, by the spectra of its circuits.
+    fn count(&mut self, bytes: &[u8], work: &[u16]) {
+        let parts = parts_of(bytes);
+        let rows: Vec<_> = work.chunks_exact(work.len() / parts.len()).collect();
+        let pairs = || (2..parts.len()).flat_map(|b| (1..b).map(move |a| (a, b)));
+        self.equal += usize::from(pairs().any(|(a, b)| rows[a] == rows[b]));
+        self.unequal += usize::from(pairs().any(|(a, b)| parts[a] == parts[b] && rows[a] != rows[b]));
+        self.one_part += usize::from(parts.len() > 2 && pairs().all(|(a, b)| parts[a] == parts[b]));
+        self.falling += usize::from(parts[1..].windows(2).any(|two| two[1] < two[0]));
+    }
+}
+
+/// The readings of every circuit at the first few entries of a signature, and with the last reading changed.
+fn locate_all(
+    to: &mut Comparison,
+    counts: Counts,
+    bytes: &[u8],
+    kind: Kind,
+    polarity: usize,
+    signature: &[Entry],
+    seen: &mut Sorts,
+) {
+    let work = spectra_of(counts, bytes, kind, polarity);
+    for (circuit, own_part) in parts_of(bytes).into_iter().enumerate() {
+        let entries = &signature[..to.random.below(signature.len() + 1)];
+        let mut list = List::new(entries, counts.readings(&work, circuit, entries));
+        match to.locate(bytes, kind, polarity, &list, work.len()) {
+            Some(Located::Part(part, lowest)) => {
+                assert_eq!(part, own_part);
+                seen.located += 1;
+                seen.lower += usize::from(lowest < circuit);
+            }
+            Some(Located::Several(lowest, count)) => {
+                assert!(lowest <= circuit && count > 1);
+                seen.several += 1;
+                seen.several_faults += usize::from(lowest > 0);
+            }
+            other => panic!("{other:?}"),
+        }
+        if let Some(last) = list.readings.last_mut() {
+            *last ^= 0x100;
+            assert_eq!(to.locate(bytes, kind, polarity, &list, work.len()), Some(Located::Nowhere));
+            seen.nowhere += 1;
+        }
+    }
 }
 
 /// The arguments of tables and of locating, of which several can be refused: the first number counts.
@@ -402,14 +590,15 @@ fn jobs_of_every_size() {
     assert!(by_outputs[1..].iter().chain([&repeats, &on_inputs]).all(|count| *count > 0));
 }
 
-/// The most inputs, gates and faults, no two circuits alike: all kinds and purposes, and every table.
+/// The most inputs, gates and faults, no two circuits equal: all kinds and purposes, and every table.
 #[test]
 fn full_jobs() {
     let mut to = Comparison::new(3);
     let mut entries_by_output = [0; 4];
     for turn in 0..100 {
         let (inputs, outputs) = ([8, 7, 6, 5][turn % 4], 1 + turn / 4 % 4);
-        let bytes = full_job(&mut to.random, inputs, 64, outputs, 63);
+        let parts = if turn % 2 == 0 { Parts::Own } else { Parts::any(&mut to.random) };
+        let bytes = parted_job(&mut to.random, [inputs, 64, outputs, 63], parts);
         for circuit in 0..64 {
             for output in 0..outputs {
                 to.table(&bytes, circuit, output, 32);
@@ -422,7 +611,7 @@ fn full_jobs() {
                 let signature = to.choose(&bytes, purpose, kind, polarity, work).expect("distinct circuits");
                 signature.iter().for_each(|entry| entries_by_output[usize::from(entry.output)] += 1);
                 if purpose == Purpose::Isolating {
-                    name_alone(&mut to, &bytes, kind, polarity, &signature);
+                    name_part(&mut to, &bytes, kind, polarity, &signature);
                 }
             }
         }
@@ -443,7 +632,7 @@ fn long_signatures() {
                 if purpose == Purpose::Isolating {
                     println!("{inputs} inputs, {kind:?}: {} entries", signature.len());
                     assert!(signature.len() >= 40);
-                    name_alone(&mut to, &bytes, kind, 0, &signature);
+                    name_part(&mut to, &bytes, kind, 0, &signature);
                 }
             }
         }

@@ -4,7 +4,7 @@ use differential::jobs::{encode, full_job, loose_job, small_job};
 use differential::random::Random;
 use horncurlew::MOST_WORK;
 use reference::{choose, locate, read, spectrum, table, undo, write, Chosen, Entry, Kind, Located, Purpose};
-use reference::{Fault, Gate, Job, MOST_FAULTS, MOST_GATES, MOST_OUTPUTS};
+use reference::{Fault, FaultEntry, Gate, Job, MOST_FAULTS, MOST_GATES, MOST_OUTPUTS};
 use std::array::from_fn;
 use std::fmt::{Display, Write as _};
 use std::io::Write as _;
@@ -73,7 +73,7 @@ struct Tasks {
     tasks: String,
     answers: String,
     /// The answers to records by number, 0 for one that is written.
-    records: [usize; 21],
+    records: [usize; 22],
     /// How many records with too many faults were refused for a loose gate.
     loose_before_faults: usize,
     /// How many records were written whose unused output lines are no lines.
@@ -130,7 +130,7 @@ impl Tasks {
         let readings: Vec<u16> = entries.iter().map(|entry| spectra.coefficient(circuit, *entry)).collect();
         let (indices, outputs): (Vec<u16>, Vec<u16>) = entries.iter().map(|e| (e.index, e.output)).unzip();
         let answer = match locate(bytes, kind, polarity, &indices, &outputs, &readings, &mut spectra.work) {
-            Located::Alone(circuit) => format!("circuit {circuit}"),
+            Located::Part(part, lowest) => format!("part {part} {lowest}"),
             Located::Several(lowest, count) => format!("several {lowest} {count}"),
             Located::Nowhere => "none".to_string(),
             Located::Refused(number) => format!("refused {number}"),
@@ -184,7 +184,7 @@ impl Tasks {
     }
 
     /// A record, among them such as no bytes give. All gates but the first are BUF of line 0, all faults but the first
-    /// stuck-at-0 on it.
+    /// stuck-at-0 on it, of part 0.
     fn record(&mut self, random: &mut Random) {
         let inputs = if random.once_in(12) { 9 * random.below(2) } else { 1 + random.below(4) };
         let gates = if random.once_in(12) { 62 + random.below(6) } else { random.below(3) };
@@ -205,9 +205,10 @@ impl Tasks {
             output_count: output_count as u8,
             outputs: outputs.map(|line| line as u8),
             fault_count: faults as u8,
-            faults: [Fault::Stuck(0, false); MOST_FAULTS],
+            faults: [FaultEntry::UNUSED; MOST_FAULTS],
         };
-        (job.gates[0], job.faults[0]) = (first_gate, first_fault);
+        let part = random.pick(&[0, 1, 2, 63, 64, 255]);
+        (job.gates[0], job.faults[0]) = (first_gate, FaultEntry { fault: first_fault, part });
         let room = random.below(17);
         let written = write(&job, &mut vec![0; room]);
         self.records[usize::from(written.err().unwrap_or(0))] += 1;
@@ -218,7 +219,7 @@ impl Tasks {
         let [first, second, third, fourth] = job.outputs;
         let counts = [room as u8, job.inputs, job.gate_count, job.output_count];
         let numbers = [first, second, third, fourth, job.fault_count];
-        let entries = [gate_kind, a, b, fault_kind, c, d];
+        let entries = [gate_kind, a, b, fault_kind, c, d, part];
         let answer = match written {
             Ok(size) => format!("bytes {size}"),
             Err(number) => format!("refused {number}"),
@@ -252,14 +253,13 @@ fn other_tasks() {
             all.record(&mut random);
         }
     }
-    let words =
-        ["signature ", "refused 15 ", "refused 1\n", "refused 14\n", "circuit ", "several ", "table ", "detects "];
+    let words = ["signature ", "refused 15 ", "refused 1\n", "refused 14\n", "part ", "several ", "table ", "detects "];
     for word in words.into_iter().chain(["refused 20\n", ":3"]) {
         assert!(all.answers.contains(word), "no task is answered with {word}");
     }
     let (loose, unused) = (all.loose_before_faults, all.unused_outputs);
     println!("records by answer {:?}, 19 before 18 {loose}, unused outputs {unused}", all.records);
-    for number in [0, 2, 3, 4, 20, 6, 19, 18, 7, 8, 10] {
+    for number in [0, 2, 3, 4, 20, 6, 19, 18, 7, 8, 21, 10] {
         assert!(all.records[number] > 0, "no record is answered with {number}");
     }
     assert!(loose > 0 && unused > 0);

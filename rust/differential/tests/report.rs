@@ -1,6 +1,6 @@
 //! The report's text against the reference's.
 
-use differential::jobs::{encode, full_job, loose_job, sized_job, small_job, Circuit};
+use differential::jobs::{encode, full_job, loose_job, numbered, sized_job, small_job, Circuit};
 use differential::random::Random;
 use horncurlew::{NoReport, LARGEST_REPORT, MOST_WORK};
 
@@ -91,9 +91,15 @@ fn texts_at_the_edge_of_the_work() {
         assert_eq!(text.as_bytes(), reference::report(&bytes));
         compare(&mut random, &bytes, PROGRAM_WORK, LARGEST_REPORT);
 
-        let alike = Circuit { inputs, gates: Vec::new(), outputs: vec![0; outputs] }.bytes(&vec![[1, 0, 0]; faults]);
+        let line = Circuit { inputs, gates: Vec::new(), outputs: vec![0; outputs] };
+        let alike = line.bytes(&numbered(vec![[1, 0, 0]; faults]));
         assert_eq!(program_text(&alike), if enough { "refused 15 1 2\n" } else { "refused 10\n" });
         compare(&mut random, &alike, PROGRAM_WORK, LARGEST_REPORT);
+        // The same faults of one part.
+        let one_part = line.bytes(&vec![[1, 0, 0, 7]; faults]);
+        let first_lines = format!("inputs {inputs} gates 0 faults {faults}\nsignature 0:0\n0 0\n1 1\n");
+        assert!(program_text(&one_part).starts_with(if enough { &first_lines } else { "refused 10\n" }));
+        compare(&mut random, &one_part, PROGRAM_WORK, LARGEST_REPORT);
     }
 }
 

@@ -1,8 +1,8 @@
 //! The built report program: every byte that it prints, and what it says where it can't read or print.
 
-use differential::jobs::{chained_job, full_job, Circuit};
+use differential::jobs::{chained_job, full_job, numbered, Circuit};
 use differential::random::Random;
-use reference::{Fault, Gate, Job, LONGEST_JOB, MOST_FAULTS, MOST_GATES};
+use reference::{Fault, FaultEntry, Gate, Job, LONGEST_JOB, MOST_FAULTS, MOST_GATES};
 use std::fs::{self, File};
 use std::io::{Read, Write};
 use std::path::{Path, PathBuf};
@@ -88,6 +88,7 @@ fn written(job: &Job) -> Vec<u8> {
     bytes[..length].to_vec()
 }
 
+/// The record of these gates and faults, fault c with part c.
 fn job(inputs: u8, gates: &[Gate], output: u8, faults: &[Fault]) -> Job {
     let mut job = Job {
         inputs,
@@ -96,10 +97,12 @@ fn job(inputs: u8, gates: &[Gate], output: u8, faults: &[Fault]) -> Job {
         output_count: 1,
         outputs: [output, 0, 0, 0],
         fault_count: faults.len() as u8,
-        faults: [Fault::Stuck(0, false); MOST_FAULTS],
+        faults: [FaultEntry::UNUSED; MOST_FAULTS],
     };
     job.gates[..gates.len()].copy_from_slice(gates);
-    job.faults[..faults.len()].copy_from_slice(faults);
+    for ((place, fault), part) in job.faults.iter_mut().zip(faults).zip(1..) {
+        *place = FaultEntry { fault: *fault, part };
+    }
     job
 }
 
@@ -127,7 +130,7 @@ fn example_files() {
             count += 1;
         }
     }
-    assert!(count >= 7, "only {count} examples in {}", folder.display());
+    assert!(count >= 8, "only {count} examples in {}", folder.display());
 }
 
 #[test]
@@ -135,9 +138,11 @@ fn document_examples() {
     expect(&[], b"refused 1\n", "P1");
     expect(&[0x10, 0, 0, 0], b"inputs 1 gates 0 faults 0\nsignature\n0\n", "P2");
     expect(&[0x10, 0, 0, 0, 0], b"refused 9\n", "P3");
-    // P3's bytes before there were several outputs are P2's now, and P2's end inside the fault count
-    expect(&[0x10, 0, 0], b"refused 1\n", "P2 in the earlier layout");
-    expect(&[0x20, 0x20, 0x00, 0x10, 0x10, 0x30, 0x00, 0x20], b"refused 15 0 1\n", "P10");
+    // P3's bytes before there were several outputs are P2's now, and P2's end inside the fault count.
+    expect(&[0x10, 0, 0], b"refused 1\n", "P2 in the layout of one output");
+    expect(&[0x20, 0x20, 0x00, 0x10, 0x10, 0x30, 0x00, 0x20, 0x80], b"refused 15 0 1\n", "P10");
+    // Its bytes before there were parts end inside the part.
+    expect(&[0x20, 0x20, 0x00, 0x10, 0x10, 0x30, 0x00, 0x20], b"refused 1\n", "P10 in the layout without parts");
 }
 
 /// A pipe may give fewer bytes at a time than the program asks for.
@@ -145,7 +150,7 @@ fn document_examples() {
 fn input_in_pieces() {
     let bytes = longest_job();
     let text = reference::report(&bytes);
-    for (piece, milliseconds) in [(1, 1), (2, 0), (7, 2), (100, 50), (267, 50)] {
+    for (piece, milliseconds) in [(1, 1), (2, 0), (7, 2), (100, 50), (315, 50)] {
         let output = run_in_pieces(&bytes, piece, Duration::from_millis(milliseconds));
         assert_eq!(output, Output::new(&text, ""), "pieces of {piece} bytes");
     }
@@ -240,9 +245,12 @@ fn edge_of_the_work() {
         let text = reference::report(&bytes);
         assert_eq!(text == b"refused 10\n", !enough, "{inputs} inputs, {faults} faults");
         expect(&bytes, &text, "distinct circuits at the edge of the work");
-        let alike = Circuit { inputs, gates: Vec::new(), outputs: vec![0; 4] }.bytes(&vec![[1, 0, 0]; faults]);
+        let line = Circuit { inputs, gates: Vec::new(), outputs: vec![0; 4] };
+        let alike = line.bytes(&numbered(vec![[1, 0, 0]; faults]));
         let text = if enough { "refused 15 1 2\n" } else { "refused 10\n" };
         expect(&alike, text.as_bytes(), "alike circuits at the edge of the work");
+        let one_part = line.bytes(&vec![[1, 0, 0, 7]; faults]);
+        expect(&one_part, &reference::report(&one_part), "equal faults of one part at the edge of the work");
     }
 }
 
@@ -295,7 +303,7 @@ fn triples(text: &str) -> Vec<[u8; 3]> {
 #[test]
 fn longest_report() {
     let circuit = Circuit { inputs: 8, gates: triples(SEARCHED_GATES), outputs: vec![71] };
-    let bytes = rewritten(&circuit.bytes(&triples(SEARCHED_FAULTS)));
+    let bytes = rewritten(&circuit.bytes(&numbered(triples(SEARCHED_FAULTS))));
     let text = reference::report(&bytes);
     assert_eq!(text.len(), 10_102);
     expect(&bytes, &text, "the longest report");

@@ -12,7 +12,7 @@ use crate::OtherVersion;
 use std::sync::OnceLock;
 
 /// The version of the library that this module was written for: HORNCURLEW_VERSION of the header.
-pub(crate) const VERSION: usize = 3;
+pub(crate) const VERSION: usize = 4;
 
 /// The most entries that a signature can have: one less than there are circuits.
 pub(crate) const MOST_ENTRIES: usize = 63;
@@ -49,8 +49,10 @@ pub(crate) struct ChoiceAnswer {
 #[repr(C)]
 pub(crate) struct LocationAnswer {
     pub(crate) number: usize,
-    pub(crate) agreeing: usize,
+    pub(crate) found: usize,
+    pub(crate) part: usize,
     pub(crate) circuit: usize,
+    pub(crate) agreeing: usize,
 }
 
 #[repr(C)]
@@ -225,7 +227,7 @@ mod tests {
     use super::*;
     use crate::{NoChoice, NoReport, Refusal};
 
-    const JOB_A: [u8; 12] = [0x20, 0x20, 0x00, 0x10, 0x10, 0x60, 0x00, 0x08, 0x00, 0x08, 0x10, 0x20];
+    const JOB_A: [u8; 14] = [0x20, 0x20, 0x00, 0x10, 0x10, 0x60, 0x00, 0x00, 0xa0, 0x00, 0x04, 0x81, 0x02, 0x18];
 
     fn compared() -> Library {
         library().expect("the version that this module was written for")
@@ -239,7 +241,7 @@ mod tests {
         for version in [0, VERSION - 1, VERSION + 1, VERSION + 256, usize::MAX] {
             let other = compare(version).expect_err("another version");
             let words = format!(
-                "the linked library horncurlew has version {version}, and this crate is for version 3: \
+                "the linked library horncurlew has version {version}, and this crate is for version 4: \
                  build both from one source"
             );
             assert_eq!(other.to_string(), words);
@@ -272,7 +274,8 @@ mod tests {
             let mut table = [0; 1];
             assert_eq!(compared().undo(3, &out, other, 5, &mut table), 0);
             assert_eq!(table, [0x5d]);
-            assert_eq!(compared().locate(&JOB_A, other, 0, &[3], &[0], &[2], &mut [0; 16]).agreeing, 2);
+            let several = compared().locate(&JOB_A, other, 0, &[3], &[0], &[2], &mut [0; 16]);
+            assert_eq!((several.found, several.agreeing), (2, 2));
         }
     }
 
@@ -286,20 +289,25 @@ mod tests {
         let refused = compared().check(&[0x20, 0x20, 0x00]);
         assert_eq!((refused.number, refused.inputs, refused.gates), (1, 0, 0));
         assert_eq!((refused.outputs, refused.faults), (0, 0));
-        let refused = compared().rewrite(&JOB_A, &mut [0; 11]);
+        let refused = compared().rewrite(&JOB_A, &mut [0; 13]);
         assert_eq!((refused.number, refused.length), (10, 0));
         for (polarity, number) in [(0, 0), (4, 13)] {
             let answer = compared().choose(&JOB_A, 0, 1, polarity, &mut [0; 16]);
             assert_eq!((answer.number, answer.first, answer.second), (number, 0, 0));
             assert!(unused(&answer));
         }
-        let alike = compared().choose(&[0x20, 0x20, 0x00, 0x10, 0x10, 0x30, 0x00, 0x20], 0, 1, 0, &mut [0; 8]);
+        let job_p10 = [0x20, 0x20, 0x00, 0x10, 0x10, 0x30, 0x00, 0x20, 0x80];
+        let alike = compared().choose(&job_p10, 0, 1, 0, &mut [0; 8]);
         assert_eq!((alike.number, alike.first, alike.second, alike.count), (15, 0, 1, 0));
         assert_eq!((alike.inputs, alike.gates, alike.outputs, alike.faults), (0, 0, 0, 0));
         assert!(unused(&alike));
-        let nowhere = compared().locate(&JOB_A, 1, 0, &[3], &[0], &[3], &mut [0; 16]);
-        assert_eq!((nowhere.number, nowhere.agreeing, nowhere.circuit), (0, 0, 0));
-        let refused = compared().locate(&JOB_A, 1, 0, &[4], &[0], &[3], &mut [0; 16]);
-        assert_eq!((refused.number, refused.agreeing, refused.circuit), (16, 0, 0));
+        let located = |indices: &[u16], readings: &[u16]| {
+            let answer = compared().locate(&JOB_A, 1, 0, indices, &vec![0; indices.len()], readings, &mut [0; 16]);
+            [answer.number, answer.found, answer.part, answer.circuit, answer.agreeing]
+        };
+        assert_eq!(located(&[3], &[3]), [0, 0, 0, 0, 0]);
+        assert_eq!(located(&[1, 3], &[1, 2]), [0, 1, 3, 3, 0]);
+        assert_eq!(located(&[3], &[2]), [0, 2, 0, 2, 2]);
+        assert_eq!(located(&[4], &[3]), [16, 0, 0, 0, 0]);
     }
 }

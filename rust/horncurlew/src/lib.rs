@@ -1,10 +1,11 @@
 //! Reed-Muller signatures of a small logic circuit: the proved library, in Rust's own terms.
 //!
-//! A job holds a circuit of 1 to 8 inputs, up to 64 gates and 1 to 4 outputs, and a list of up to 63 single faults.
-//! From its bytes come the packed tables of the good circuit and of the faulty ones at each output, their spectra, a
-//! signature of few coefficients that tells the circuits apart, and the circuit that gives some readings. N is 2 to the
-//! power of the number of inputs. Circuit 0 is the good one, circuit c the one with fault c. Outputs number from 0 in
-//! the order of the job's fields.
+//! A job holds a circuit of 1 to 8 inputs, up to 64 gates and 1 to 4 outputs, and a list of up to 63 single faults,
+//! each with the number, 1 to 63, of the part that is mended for it; several faults may have one part. From its bytes
+//! come the packed tables of the good circuit and of the faulty ones at each output, their spectra, a signature of few
+//! coefficients that tells circuits of different parts apart, and the part whose circuits give some readings. N is 2 to
+//! the power of the number of inputs. Circuit 0 is the good one and has part 0, circuit c is the one with fault c and
+//! has its part. Outputs number from 0 in the order of the job's fields.
 //!
 //! The library allocates nothing: the caller lends the memory for results. A refused call writes nothing, but for
 //! circuits that are alike, which leaves the spectra in the lent work. A call that succeeds writes the places that it
@@ -13,13 +14,14 @@
 //! ```
 //! use horncurlew::{choose, locate, Entry, Kind, Location, Purpose};
 //!
-//! // An AND of two inputs; its line 0 stuck at 0, line 0 at 1, line 1 at 1.
-//! let job = [0x20, 0x20, 0x00, 0x10, 0x10, 0x60, 0x00, 0x08, 0x00, 0x08, 0x10, 0x20];
+//! // An AND of two inputs; its line 0 stuck at 0, line 0 at 1, line 1 at 1, each a part of its own: 1, 2, 3.
+//! let job = [0x20, 0x20, 0x00, 0x10, 0x10, 0x60, 0x00, 0x00, 0xa0, 0x00, 0x04, 0x81, 0x02, 0x18];
 //! let mut work = [0; 16];
 //! let choice = choose(&job, Purpose::Isolating, Kind::Mrm, 0, &mut work).unwrap();
 //! let entries = choice.signature.entries();
 //! assert_eq!(entries, [Entry { index: 1, output: 0 }, Entry { index: 3, output: 0 }]);
-//! assert_eq!(locate(&job, Kind::Mrm, 0, entries, &[0, 2], &mut work), Ok(Location::Alone(2)));
+//! let location = locate(&job, Kind::Mrm, 0, entries, &[0, 2], &mut work);
+//! assert_eq!(location, Ok(Location::Part { part: 2, lowest: 2 }));
 //! ```
 
 #![deny(unsafe_code)]
@@ -41,7 +43,7 @@ pub const STACK: usize = 65536;
 /// The most bytes of stack that a call other than [`choose`], [`locate`], [`locate_lists`] and [`report`] needs.
 pub const SMALL_STACK: usize = 16384;
 /// The most bytes that a job can have.
-pub const LONGEST_JOB: usize = 268;
+pub const LONGEST_JOB: usize = 316;
 /// The most outputs that a job can have.
 pub const MOST_OUTPUTS: usize = 4;
 /// The most work that choosing and locating need: 64 circuits of 4 outputs of 256 coefficients.
@@ -67,7 +69,7 @@ pub enum Kind {
 #[derive(Clone, Copy, Debug, PartialEq, Eq, Hash)]
 #[repr(u8)]
 pub enum Purpose {
-    /// Every two circuits.
+    /// Every two circuits whose parts differ. Faults of one part need no telling apart, equal or not.
     Isolating = 0,
     /// The good circuit and each faulty one.
     Detecting = 1,
@@ -177,9 +179,14 @@ impl Error for NoChoice {}
 /// The circuits that agree with readings.
 #[derive(Clone, Copy, Debug, PartialEq, Eq)]
 pub enum Location {
-    /// The one circuit that does.
-    Alone(usize),
-    /// Two or more do.
+    /// One or more do, and all of them have one part.
+    Part {
+        /// Their part, 0 if it is the good circuit's.
+        part: usize,
+        /// The lowest circuit that does.
+        lowest: usize,
+    },
+    /// Two or more do, and they have different parts.
     Several {
         /// The lowest circuit that does.
         lowest: usize,
@@ -251,7 +258,8 @@ fn done(number: usize) -> Result<(), Refusal> {
 /// Whether the bytes are a job, and its counts.
 ///
 /// Refusals, as the fields come: at each field 1 if the bytes end in it; 2; 3; for each gate 4, 5; for each output 6,
-/// before the next is read; 19, before the fault count is read; for each fault 7, 8; after the last field 9.
+/// before the next is read; 19, before the fault count is read; for each fault, once its four fields are read, 7, 8,
+/// 21; after the last field 9.
 pub fn check(bytes: &[u8]) -> Result<Counts, Refusal> {
     let answer = ffi::library()?.check(bytes);
     done(answer.number)?;
@@ -323,8 +331,9 @@ pub fn choose(
     }
 }
 
-/// Finds the circuits whose coefficients at the entries are the readings, in order. Entries may come in any order and
-/// more than once. `work` then holds the spectra as in [`choose`], and needs the same room.
+/// Finds the circuits whose coefficients at the entries are the readings, in order, and their part where all of them
+/// have one. Entries may come in any order and more than once. `work` then holds the spectra as in [`choose`], and
+/// needs the same room.
 ///
 /// The library takes indices and outputs apart: this call makes the two lists of the entries, on the heap, and
 /// [`locate_lists`] takes them as they are.
@@ -355,10 +364,10 @@ pub fn locate_lists(
 ) -> Result<Location, Refusal> {
     let answer = ffi::library()?.locate(bytes, kind as u8, polarity, indices, outputs, readings, work);
     done(answer.number)?;
-    Ok(match answer.agreeing {
+    Ok(match answer.found {
         0 => Location::Nowhere,
-        1 => Location::Alone(answer.circuit),
-        count => Location::Several { lowest: answer.circuit, count },
+        1 => Location::Part { part: answer.part, lowest: answer.circuit },
+        _ => Location::Several { lowest: answer.circuit, count: answer.agreeing },
     })
 }
 

@@ -48,6 +48,8 @@ pub enum Refusal {
     LooseGate,
     /// An output number that is too high, or a record whose outputs aren't 1 to 4. No call here takes a record.
     OutputNumber,
+    /// A fault's part isn't 1 to 63.
+    Part,
     /// A number that this crate doesn't know.
     Unknown(usize),
     /// The library wasn't called: its version isn't the one that this crate was written for.
@@ -55,8 +57,8 @@ pub enum Refusal {
 }
 
 impl Refusal {
-    /// The documents' refusals, 1 to 20.
-    pub const ALL: [Refusal; 20] = [
+    /// The documents' refusals, 1 to 21.
+    pub const ALL: [Refusal; 21] = [
         Refusal::BytesEnd,
         Refusal::Inputs,
         Refusal::Gates,
@@ -77,6 +79,7 @@ impl Refusal {
         Refusal::Faults,
         Refusal::LooseGate,
         Refusal::OutputNumber,
+        Refusal::Part,
     ];
 
     /// The refusal of a number that isn't 0.
@@ -126,6 +129,7 @@ impl fmt::Display for Refusal {
             Refusal::Faults => "there are more than 63 faults",
             Refusal::LooseGate => "a gate is loose: its line is no output, and no output depends on it",
             Refusal::OutputNumber => "an output number is too high",
+            Refusal::Part => "a fault's part isn't 1 to 63",
             Refusal::Unknown(_) => "a number that this crate doesn't know",
             Refusal::Version(other) => return other.fmt(f),
         };
@@ -151,7 +155,7 @@ mod tests {
 
     #[test]
     fn unknown_numbers() {
-        for number in [0, 21, 22, 255, 256, 256 + 9, usize::MAX] {
+        for number in [0, 22, 23, 255, 256, 256 + 9, usize::MAX] {
             let refusal = Refusal::of(number);
             assert_eq!(refusal, Refusal::Unknown(number));
             assert_eq!(refusal.number(), Some(number));

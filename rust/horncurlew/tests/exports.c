@@ -10,19 +10,22 @@
 #define COUNT(array) (sizeof(array) / sizeof *(array))
 #define TOLD(...) told(COUNT(((size_t[]){__VA_ARGS__})), (size_t[]){__VA_ARGS__})
 
-enum { JOB = 27, WORK = 112 };
+enum { JOB = 32, WORK = 112 };
 
 /* Two jobs of 3 inputs, 5 gates, 2 outputs and 6 faults, no two circuits alike; and the first with its fault 2 as
- * fault 6 too. */
-static const uint8_t first_job[JOB] = {0x30, 0xa8, 0x08, 0x02, 0x04, 0x00, 0x02, 0x0c, 0x82,
-                                       0x01, 0x03, 0x04, 0x42, 0x87, 0x18, 0x0e, 0x1f, 0x00,
-                                       0x04, 0x00, 0x01, 0x0c, 0x1b, 0x02, 0x08, 0x06, 0x0c};
-static const uint8_t second_job[JOB] = {0x30, 0xb0, 0x08, 0x24, 0x04, 0x1c, 0x06, 0x11, 0x85,
-                                        0x00, 0x41, 0x01, 0x43, 0x07, 0x18, 0x04, 0x0b, 0x00,
-                                        0x04, 0x08, 0x10, 0x0c, 0x1a, 0x00, 0x04, 0x00, 0x00};
-static const uint8_t alike_job[JOB] = {0x30, 0xa8, 0x08, 0x02, 0x04, 0x00, 0x02, 0x0c, 0x82,
-                                       0x01, 0x03, 0x04, 0x42, 0x87, 0x18, 0x0e, 0x1f, 0x00,
-                                       0x04, 0x00, 0x01, 0x0c, 0x1b, 0x02, 0x0b, 0x00, 0x04};
+ * fault 6 too. Fault c has part 40 - 5c. */
+static const uint8_t first_job[JOB] = {0x30, 0xa8, 0x08, 0x02, 0x04, 0x00, 0x02, 0x0c,
+                                       0x82, 0x01, 0x03, 0x04, 0x42, 0x87, 0x18, 0x0e,
+                                       0x1e, 0x3c, 0x00, 0x17, 0x80, 0x00, 0x19, 0x43,
+                                       0x06, 0x53, 0x02, 0x08, 0xf0, 0x18, 0x32, 0x80};
+static const uint8_t second_job[JOB] = {0x30, 0xb0, 0x08, 0x24, 0x04, 0x1c, 0x06, 0x11,
+                                        0x85, 0x00, 0x41, 0x01, 0x43, 0x07, 0x18, 0x04,
+                                        0x0a, 0x3c, 0x00, 0x17, 0x80, 0x81, 0x19, 0x03,
+                                        0x06, 0x52, 0x00, 0x04, 0xf0, 0x00, 0x02, 0x80};
+static const uint8_t alike_job[JOB] = {0x30, 0xa8, 0x08, 0x02, 0x04, 0x00, 0x02, 0x0c,
+                                       0x82, 0x01, 0x03, 0x04, 0x42, 0x87, 0x18, 0x0e,
+                                       0x1e, 0x3c, 0x00, 0x17, 0x80, 0x00, 0x19, 0x43,
+                                       0x06, 0x53, 0x02, 0x08, 0xfc, 0x00, 0x12, 0x80};
 /* The text of the first job's spectra by MRM at polarity 2, a circuit a line, but for the last circuit. */
 #define FIRST_SPECTRA " | 1 1 1 1 2 2 2 2 1 1 1 1 1 1 2 2" \
                       " 1 1 1 1 2 2 2 2 0 0 0 0 0 0 0 0" \
@@ -95,7 +98,7 @@ static char *rewrite(const uint8_t *bytes, const uint8_t *before, size_t room) {
 }
 
 static void test_rewrite(void) {
-    same("rewrite", rewrite(first_job, second_job, JOB), "0 27 | 30 a8 08 02");
+    same("rewrite", rewrite(first_job, second_job, JOB), "0 32 | 30 a8 08 02");
     same("rewrite refused", rewrite(first_job, second_job, JOB - 1), "10 0 | 30 b0 08 24");
     other("bytes and out", rewrite(first_job, second_job, JOB), rewrite(second_job, first_job, JOB));
 }
@@ -173,41 +176,42 @@ static char *locate(uint8_t kind, size_t polarity, uint16_t index, uint16_t outp
     uint16_t work[WORK] = {7};
     horncurlew_location_answer answer =
         horncurlew_locate(first_job, JOB, kind, polarity, &index, 1, &output, 1, &reading, 1, work, WORK);
-    char *text = TOLD(answer.number, answer.agreeing, answer.circuit);
+    char *text = TOLD(answer.number, answer.found, answer.part, answer.circuit, answer.agreeing);
     return answer.number == 0 ? numbers_too(text, work, WORK) : numbers_too(text, work, 4);
 }
 
 static void test_locate(void) {
     same("locate", locate(0, 2, 2, 1, 0),
-         "0 3 1 | 1 1 1 1 0 0 0 0 1 1 1 1 1 1 0 0 1 1 1 1 0 0 0 0 0 0 0 0 0 0 0 0 0 0 0 0 0 0 0 0 0 0 0 0 0 0 1 1"
+         "0 2 0 1 3 | 1 1 1 1 0 0 0 0 1 1 1 1 1 1 0 0 1 1 1 1 0 0 0 0 0 0 0 0 0 0 0 0 0 0 0 0 0 0 0 0 0 0 0 0 0 0 1 1"
          " 1 0 1 0 0 0 0 0 1 0 1 0 1 0 0 0 1 1 1 1 0 0 0 0 0 0 1 1 0 0 0 0 1 1 1 1 0 0 1 1 0 0 0 0 0 0 0 0"
          " 0 0 0 0 0 0 0 0 1 1 1 1 1 1 0 0");
-    same("locate alone", locate(1, 2, 7, 1, 4), "0 1 3" SPECTRA);
-    same("locate at no index", locate(1, 2, 8, 2, 4), "16 0 0 | 7 0 0 0");
-    same("locate at no output", locate(1, 2, 7, 2, 4), "20 0 0 | 7 0 0 0");
+    same("locate a part", locate(1, 2, 7, 1, 4), "0 1 25 3 0" SPECTRA);
+    same("locate nothing", locate(1, 2, 7, 1, 5), "0 0 0 0 0" SPECTRA);
+    same("locate at no index", locate(1, 2, 8, 2, 4), "16 0 0 0 0 | 7 0 0 0");
+    same("locate at no output", locate(1, 2, 7, 2, 4), "20 0 0 0 0 | 7 0 0 0");
     other("kind and polarity", locate(1, 2, 7, 1, 4), locate(2, 1, 7, 1, 4));
     other("indices and outputs", locate(1, 2, 0, 1, 1), locate(1, 2, 1, 0, 1));
     other("indices and readings", locate(1, 2, 7, 1, 4), locate(1, 2, 4, 1, 7));
     other("outputs and readings", locate(1, 2, 7, 1, 0), locate(1, 2, 7, 0, 1));
 }
 
-/* The number and the agreeing circuits by the first so many entries of each list. The lists and the work are of one
+/* The number and what was found by the first so many entries of each list. The lists and the work are of one
  * type, and each is known by its length. */
 static char *locate_lengths(size_t indices_length, size_t outputs_length, size_t readings_length, size_t work_length) {
     static const uint16_t indices[3] = {6, 1, 0}, outputs[3] = {0, 1, 0}, readings[3] = {2, 2, 0};
     uint16_t work[WORK];
     horncurlew_location_answer answer = horncurlew_locate(first_job, JOB, 1, 2, indices, indices_length, outputs,
                                                           outputs_length, readings, readings_length, work, work_length);
-    char *text = TOLD(answer.number, answer.agreeing, answer.circuit);
+    char *text = TOLD(answer.number, answer.found, answer.part, answer.circuit, answer.agreeing);
     return answer.number == 0 ? numbers_too(text, work, WORK) : text;
 }
 
 static void test_locate_lengths(void) {
-    same("locate by two", locate_lengths(2, 2, 2, WORK), "0 1 3" SPECTRA);
-    same("locate with an index more", locate_lengths(3, 2, 2, WORK), "17 0 0");
-    same("locate with an output more", locate_lengths(2, 3, 2, WORK), "17 0 0");
-    same("locate with a reading more", locate_lengths(2, 2, 3, WORK), "17 0 0");
-    same("locate with less work", locate_lengths(2, 2, 2, WORK - 1), "10 0 0");
+    same("locate by two", locate_lengths(2, 2, 2, WORK), "0 1 25 3 0" SPECTRA);
+    same("locate with an index more", locate_lengths(3, 2, 2, WORK), "17 0 0 0 0");
+    same("locate with an output more", locate_lengths(2, 3, 2, WORK), "17 0 0 0 0");
+    same("locate with a reading more", locate_lengths(2, 2, 3, WORK), "17 0 0 0 0");
+    same("locate with less work", locate_lengths(2, 2, 2, WORK - 1), "10 0 0 0 0");
 }
 
 static char *report(const uint8_t *bytes, const uint8_t *before, size_t work_length, size_t room) {
@@ -229,8 +233,8 @@ static void test_report(void) {
 }
 
 int main(void) {
-    same("version", TOLD(horncurlew_version()), "3");
-    same("the header's version", TOLD(HORNCURLEW_VERSION), "3");
+    same("version", TOLD(horncurlew_version()), "4");
+    same("the header's version", TOLD(HORNCURLEW_VERSION), "4");
     test_check();
     test_rewrite();
     test_table();

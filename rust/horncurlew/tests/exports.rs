@@ -6,19 +6,19 @@
 use horncurlew::{check, choose, locate, locate_lists, report, rewrite, spectrum, table, undo};
 use horncurlew::{Choice, Counts, Entry, Kind, Location, NoChoice, NoReport, Purpose, Refusal, LARGEST_REPORT};
 
-/// Two jobs of 3 inputs, 5 gates, 2 outputs and 6 faults, no two circuits alike.
-const FIRST: [u8; 27] = [
-    0x30, 0xa8, 0x08, 0x02, 0x04, 0x00, 0x02, 0x0c, 0x82, 0x01, 0x03, 0x04, 0x42, 0x87, //
-    0x18, 0x0e, 0x1f, 0x00, 0x04, 0x00, 0x01, 0x0c, 0x1b, 0x02, 0x08, 0x06, 0x0c,
+/// Two jobs of 3 inputs, 5 gates, 2 outputs and 6 faults, no two circuits alike. Fault c has part 40 - 5c.
+const FIRST: [u8; 32] = [
+    0x30, 0xa8, 0x08, 0x02, 0x04, 0x00, 0x02, 0x0c, 0x82, 0x01, 0x03, 0x04, 0x42, 0x87, 0x18, 0x0e, //
+    0x1e, 0x3c, 0x00, 0x17, 0x80, 0x00, 0x19, 0x43, 0x06, 0x53, 0x02, 0x08, 0xf0, 0x18, 0x32, 0x80,
 ];
-const SECOND: [u8; 27] = [
-    0x30, 0xb0, 0x08, 0x24, 0x04, 0x1c, 0x06, 0x11, 0x85, 0x00, 0x41, 0x01, 0x43, 0x07, //
-    0x18, 0x04, 0x0b, 0x00, 0x04, 0x08, 0x10, 0x0c, 0x1a, 0x00, 0x04, 0x00, 0x00,
+const SECOND: [u8; 32] = [
+    0x30, 0xb0, 0x08, 0x24, 0x04, 0x1c, 0x06, 0x11, 0x85, 0x00, 0x41, 0x01, 0x43, 0x07, 0x18, 0x04, //
+    0x0a, 0x3c, 0x00, 0x17, 0x80, 0x81, 0x19, 0x03, 0x06, 0x52, 0x00, 0x04, 0xf0, 0x00, 0x02, 0x80,
 ];
 /// The first with its fault 2 as fault 6 too.
-const ALIKE: [u8; 27] = [
-    0x30, 0xa8, 0x08, 0x02, 0x04, 0x00, 0x02, 0x0c, 0x82, 0x01, 0x03, 0x04, 0x42, 0x87, //
-    0x18, 0x0e, 0x1f, 0x00, 0x04, 0x00, 0x01, 0x0c, 0x1b, 0x02, 0x0b, 0x00, 0x04,
+const ALIKE: [u8; 32] = [
+    0x30, 0xa8, 0x08, 0x02, 0x04, 0x00, 0x02, 0x0c, 0x82, 0x01, 0x03, 0x04, 0x42, 0x87, 0x18, 0x0e, //
+    0x1e, 0x3c, 0x00, 0x17, 0x80, 0x00, 0x19, 0x43, 0x06, 0x53, 0x02, 0x08, 0xfc, 0x00, 0x12, 0x80,
 ];
 /// The first job's spectra by MRM at polarity 2, a circuit a line.
 #[rustfmt::skip]
@@ -48,25 +48,25 @@ fn checking() {
 
 #[test]
 fn rewriting() {
-    let call = |bytes: &[u8], mut out: [u8; 27], room| (rewrite(bytes, &mut out[..room]), out);
-    assert_eq!(call(&FIRST, SECOND, 27), (Ok(27), FIRST));
-    assert_eq!(call(&FIRST, SECOND, 26), (Err(Refusal::Memory), SECOND));
-    assert_ne!(call(&FIRST, SECOND, 27), call(&SECOND, FIRST, 27), "bytes and out");
+    let call = |bytes: &[u8], mut out: [u8; 32], room| (rewrite(bytes, &mut out[..room]), out);
+    assert_eq!(call(&FIRST, SECOND, 32), (Ok(32), FIRST));
+    assert_eq!(call(&FIRST, SECOND, 31), (Err(Refusal::Memory), SECOND));
+    assert_ne!(call(&FIRST, SECOND, 32), call(&SECOND, FIRST, 32), "bytes and out");
 }
 
 #[test]
 fn tables() {
-    let call = |bytes: &[u8], circuit, output, mut out: [u8; 27], room| {
+    let call = |bytes: &[u8], circuit, output, mut out: [u8; 32], room| {
         let answer = table(bytes, circuit, output, &mut out[..room]);
         (answer, out)
     };
     let mut after = SECOND;
     after[0] = 0x3c;
-    assert_eq!(call(&FIRST, 3, 1, SECOND, 27), (Ok(()), after));
-    assert_eq!(call(&FIRST, 7, 2, SECOND, 27), (Err(Refusal::Circuit), SECOND));
+    assert_eq!(call(&FIRST, 3, 1, SECOND, 32), (Ok(()), after));
+    assert_eq!(call(&FIRST, 7, 2, SECOND, 32), (Err(Refusal::Circuit), SECOND));
     assert_eq!(call(&FIRST, 6, 2, SECOND, 0), (Err(Refusal::OutputNumber), SECOND));
-    assert_ne!(call(&FIRST, 3, 1, SECOND, 27), call(&SECOND, 3, 1, FIRST, 27), "bytes and out");
-    assert_ne!(call(&FIRST, 1, 0, SECOND, 27), call(&FIRST, 0, 1, SECOND, 27), "circuit and output");
+    assert_ne!(call(&FIRST, 3, 1, SECOND, 32), call(&SECOND, 3, 1, FIRST, 32), "bytes and out");
+    assert_ne!(call(&FIRST, 1, 0, SECOND, 32), call(&FIRST, 0, 1, SECOND, 32), "circuit and output");
     assert_ne!(call(&FIRST, 3, 0, SECOND, 1), call(&FIRST, 1, 0, SECOND, 3), "circuit and out's length");
     assert_ne!(call(&FIRST, 3, 0, SECOND, 1), call(&FIRST, 3, 1, SECOND, 0), "output and out's length");
 }
@@ -125,8 +125,8 @@ fn locating() {
         (locate_lists(&FIRST, kind(number), polarity, indices, outputs, readings, &mut work), work)
     };
     assert_eq!(call(0, 2, &[2], &[1], &[0]).0, Ok(Location::Several { lowest: 1, count: 3 }));
-    assert_eq!(call(1, 2, &[7], &[1], &[4]), (Ok(Location::Alone(3)), SPECTRA));
-    assert_eq!(call(1, 2, &[6, 1], &[0, 1], &[2, 2]), (Ok(Location::Alone(3)), SPECTRA));
+    assert_eq!(call(1, 2, &[7], &[1], &[4]), (Ok(Location::Part { part: 25, lowest: 3 }), SPECTRA));
+    assert_eq!(call(1, 2, &[6, 1], &[0, 1], &[2, 2]), (Ok(Location::Part { part: 25, lowest: 3 }), SPECTRA));
     assert_eq!(call(1, 2, &[8], &[2], &[4]), (Err(Refusal::Index), [7; 112]));
     assert_eq!(call(1, 2, &[7], &[2], &[4]), (Err(Refusal::OutputNumber), [7; 112]));
     assert_eq!(call(1, 2, &[6, 1, 0], &[0, 1], &[2, 2]), (Err(Refusal::Readings), [7; 112]));
@@ -147,7 +147,7 @@ fn locating_by_entries() {
         let mut work = [7; 112];
         (locate(&FIRST, Kind::Mrm, 2, &entries, readings, &mut work), work)
     };
-    assert_eq!(call(&[(6, 0), (1, 1)], &[2, 2]), (Ok(Location::Alone(3)), SPECTRA));
+    assert_eq!(call(&[(6, 0), (1, 1)], &[2, 2]), (Ok(Location::Part { part: 25, lowest: 3 }), SPECTRA));
     assert_eq!(call(&[(6, 0), (1, 1)], &[2, 2, 0]), (Err(Refusal::Readings), [7; 112]));
     assert_eq!(call(&[(6, 0), (1, 2)], &[2]), (Err(Refusal::OutputNumber), [7; 112]));
     assert_eq!(call(&[(6, 2), (8, 0)], &[2]), (Err(Refusal::Index), [7; 112]));
@@ -156,11 +156,11 @@ fn locating_by_entries() {
 
 #[test]
 fn reporting() {
-    let call = |bytes: &[u8], before: [u8; 27], places: usize, room| {
+    let call = |bytes: &[u8], before: [u8; 32], places: usize, room| {
         let (mut work, mut out) = ([7; 112], [0; LARGEST_REPORT]);
-        out[..27].copy_from_slice(&before);
+        out[..32].copy_from_slice(&before);
         let length = report(bytes, &mut work[..places], &mut out[..room]);
-        (length, work[..4].to_vec(), String::from_utf8_lossy(&out[..length.unwrap_or(27)]).into_owned())
+        (length, work[..4].to_vec(), String::from_utf8_lossy(&out[..length.unwrap_or(32)]).into_owned())
     };
     let text = "inputs 3 gates 5 faults 6\nsignature 0:1 2:1 4:0 3:0\n\
                 0 0 1 0 1\n1 0 0 0 1\n2 0 0 0 0\n3 0 1 0 2\n4 1 1 0 1\n5 0 0 1 1\n6 0 1 0 0\n";

@@ -14,13 +14,14 @@ static void expect(int holds, const char *what) {
 }
 
 int main(void) {
-    /* An AND of two inputs; line 0 stuck at 0, line 0 at 1, line 1 at 1. */
-    static const uint8_t job[12] = {0x20, 0x20, 0x00, 0x10, 0x10, 0x60, 0x00, 0x08, 0x00, 0x08, 0x10, 0x20};
-    static const uint8_t alike[8] = {0x20, 0x20, 0x00, 0x10, 0x10, 0x30, 0x00, 0x20};
+    /* An AND of two inputs; line 0 stuck at 0, line 0 at 1, line 1 at 1; fault c has part c. */
+    static const uint8_t job[14] = {0x20, 0x20, 0x00, 0x10, 0x10, 0x60, 0x00,
+                                    0x00, 0xa0, 0x00, 0x04, 0x81, 0x02, 0x18};
+    static const uint8_t alike[9] = {0x20, 0x20, 0x00, 0x10, 0x10, 0x30, 0x00, 0x20, 0x80};
     /* With an OR of its inputs that nobody reads, up to the output line; and with that as a second output. */
     static const uint8_t loose[7] = {0x20, 0x40, 0x00, 0x12, 0x00, 0x08, 0x08};
-    static const uint8_t two[15] = {0x20, 0x40, 0x00, 0x12, 0x00, 0x0a, 0x08, 0x18,
-                                    0x60, 0x00, 0x08, 0x00, 0x08, 0x10, 0x20};
+    static const uint8_t two[17] = {0x20, 0x40, 0x00, 0x12, 0x00, 0x0a, 0x08, 0x18, 0x60,
+                                    0x00, 0x00, 0xa0, 0x00, 0x04, 0x81, 0x02, 0x18};
     uint16_t work[32], numbers[8];
     uint8_t out[HORNCURLEW_LONGEST_JOB];
 
@@ -35,7 +36,7 @@ int main(void) {
     expect(counts.number == HORNCURLEW_LOOSE_GATE && counts.inputs == 0, "check of a loose gate");
 
     horncurlew_length_answer length = horncurlew_rewrite(job, sizeof job, out, sizeof out);
-    expect(length.number == 0 && length.length == 12 && memcmp(job, out, 12) == 0, "rewrite");
+    expect(length.number == 0 && length.length == 14 && memcmp(job, out, 14) == 0, "rewrite");
     length = horncurlew_rewrite(job, sizeof job, NULL, 0);
     expect(length.number == HORNCURLEW_MEMORY && length.length == 0, "rewrite without room");
 
@@ -67,12 +68,17 @@ int main(void) {
     static const uint16_t indices[2] = {1, 3}, outputs[2] = {0, 0}, second[2] = {1, 1}, readings[2] = {0, 2};
     horncurlew_location_answer location =
         horncurlew_locate(job, sizeof job, HORNCURLEW_MRM, 0, indices, 2, outputs, 2, readings, 2, work, 16);
-    expect(location.number == 0 && location.agreeing == 1 && location.circuit == 2, "locate");
+    expect(location.number == 0 && location.found == HORNCURLEW_PARTED, "locate");
+    expect(location.part == 2 && location.circuit == 2 && location.agreeing == 0, "the part located");
     location = horncurlew_locate(two, sizeof two, HORNCURLEW_MRM, 0, indices, 2, second, 2, readings, 2, work, 32);
-    expect(location.number == 0 && location.agreeing == 1 && location.circuit == 1, "locate at the second output");
+    expect(location.number == 0 && location.part == 1 && location.circuit == 1, "locate at the second output");
     location = horncurlew_locate(job, sizeof job, HORNCURLEW_MRM, 0, indices, 2, second, 2, readings, 2, work, 16);
-    expect(location.number == HORNCURLEW_OUTPUT_NUMBER && location.agreeing == 0, "locate at no output");
+    expect(location.number == HORNCURLEW_OUTPUT_NUMBER && location.found == 0, "locate at no output");
     location = horncurlew_locate(job, sizeof job, HORNCURLEW_MRM, 0, NULL, 0, NULL, 0, NULL, 0, work, 16);
-    expect(location.number == 0 && location.agreeing == 4 && location.circuit == 0, "locate by nothing");
+    expect(location.number == 0 && location.found == HORNCURLEW_SEVERAL, "locate by nothing");
+    expect(location.agreeing == 4 && location.circuit == 0 && location.part == 0, "circuits that agree with nothing");
+    static const uint16_t no_readings[2] = {0, 4};
+    location = horncurlew_locate(job, sizeof job, HORNCURLEW_MRM, 0, indices, 2, outputs, 2, no_readings, 2, work, 16);
+    expect(location.number == 0 && location.found == HORNCURLEW_NOWHERE, "locate readings that no circuit has");
     return failed;
 }

@@ -2,7 +2,7 @@
 
 use horncurlew::{report, NoReport, LARGEST_REPORT, MOST_WORK};
 
-const JOB_A: [u8; 12] = [0x20, 0x20, 0x00, 0x10, 0x10, 0x60, 0x00, 0x08, 0x00, 0x08, 0x10, 0x20];
+const JOB_A: [u8; 14] = [0x20, 0x20, 0x00, 0x10, 0x10, 0x60, 0x00, 0x00, 0xa0, 0x00, 0x04, 0x81, 0x02, 0x18];
 
 fn text(bytes: &[u8], work: usize) -> String {
     let mut out = [0; LARGEST_REPORT];
@@ -16,7 +16,7 @@ fn texts() {
     assert_eq!(text(&[0x10, 0, 0, 0], MOST_WORK), "inputs 1 gates 0 faults 0\nsignature\n0\n");
     assert_eq!(text(&[], MOST_WORK), "refused 1\n");
     assert_eq!(text(&[0x10, 0, 0, 0, 0], MOST_WORK), "refused 9\n");
-    assert_eq!(text(&[0x20, 0x20, 0x00, 0x10, 0x10, 0x30, 0x00, 0x20], MOST_WORK), "refused 15 0 1\n");
+    assert_eq!(text(&[0x20, 0x20, 0x00, 0x10, 0x10, 0x30, 0x00, 0x20, 0x80], MOST_WORK), "refused 15 0 1\n");
     assert_eq!(text(&JOB_A, 15), "refused 10\n");
 }
 

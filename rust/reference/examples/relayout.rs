@@ -1,5 +1,5 @@
-//! Writes jobs of the earlier layout, which had one output line and no field for the number of outputs, in the layout
-//! of several outputs.
+//! Writes jobs of the earlier layout, whose faults had no parts, in the layout of faults with parts: fault c gets part
+//! c.
 //!
 //! `relayout < OLD.job > NEW.job` takes the bytes of a job, `relayout --text < OLD > NEW` a text, in which it writes
 //! the lines `job HH HH ..` and `job NAME HHHH..` anew and leaves all others as they are.
@@ -55,8 +55,8 @@ fn bytes(hex: &str) -> Option<Vec<u8>> {
     (0..hex.len()).step_by(2).map(byte).collect()
 }
 
-/// The job in the new layout: two zero bits, one output, between the gates and the output line. Bytes that followed the
-/// job's end follow it still, and no bytes stay none. Nothing for a job that is cut short or has a spare bit 1.
+/// The job in the new layout: behind line b of fault c the number c in six bits. Bytes that followed the job's end
+/// follow it still, and no bytes stay none. Nothing for a job that is cut short or has a spare bit 1.
 fn job(old: &[u8]) -> Option<Vec<u8>> {
     if old.is_empty() {
         return Some(Vec::new());
@@ -66,12 +66,18 @@ fn job(old: &[u8]) -> Option<Vec<u8>> {
         bits.get(from..from + width).map(|bits| bits.iter().fold(0, |value, bit| 2 * value + usize::from(*bit)))
     };
     let outputs = 4 + 7 + 17 * field(4, 7)?;
-    let end = outputs + 7 + 6 + 16 * field(outputs + 7, 6)?;
+    let fault_count = outputs + 2 + 7 * (field(outputs, 2)? + 1);
+    let faults = fault_count + 6;
+    let end = faults + 16 * field(fault_count, 6)?;
     let whole = end.next_multiple_of(8);
     if bits.get(end..whole)?.contains(&1) {
         return None;
     }
-    let new = [&bits[..outputs], &[0, 0], &bits[outputs..end]].concat();
+    let mut new = bits[..faults].to_vec();
+    for (fault, part) in bits[faults..end].chunks(16).zip(1u8..) {
+        new.extend_from_slice(fault);
+        new.extend((0..6).rev().map(|bit| part >> bit & 1));
+    }
     let byte = |bits: &[u8]| bits.iter().enumerate().fold(0, |byte, (place, bit)| byte | bit << (7 - place));
     Some(new.chunks(8).map(byte).chain(old[whole / 8..].iter().copied()).collect())
 }
@@ -82,11 +88,11 @@ mod tests {
 
     /// Document 01's examples, by their bytes in both layouts.
     const EXAMPLES: [(&str, &str); 5] = [
-        ("20 20 00 10 41 80 00 20 00 20 40 80", "20 20 00 10 10 60 00 08 00 08 10 20"), // job A
-        ("", ""),                                                                       // P1
-        ("10 00 00", "10 00 00 00"),                                                    // P2
-        ("10 00 00 00", "10 00 00 00 00"),                                              // P3
-        ("20 20 00 10 40 c0 00 80", "20 20 00 10 10 30 00 20"),                         // P10
+        ("20 20 00 10 10 60 00 08 00 08 10 20", "20 20 00 10 10 60 00 00 a0 00 04 81 02 18"), // job A
+        ("", ""),                                                                             // P1
+        ("10 00 00 00", "10 00 00 00"),                                                       // P2
+        ("10 00 00 00 00", "10 00 00 00 00"),                                                 // P3
+        ("20 20 00 10 10 30 00 20", "20 20 00 10 10 30 00 20 80"),                            // P10
     ];
 
     #[test]
@@ -99,13 +105,15 @@ mod tests {
     #[test]
     fn texts() {
         let text = |input: &str| String::from_utf8(text(input.as_bytes()).unwrap()).unwrap();
-        assert_eq!(text("# job A\njob 10 00 00\ntables\n"), "# job A\njob 10 00 00 00\ntables\n");
-        assert_eq!(text("job P10 2020001040c00080\nrecord 10 00 00"), "job P10 2020001010300020\nrecord 10 00 00");
+        let (old, new) = EXAMPLES[0];
+        assert_eq!(text(&format!("# job A\njob {old}\ntables\n")), format!("# job A\njob {new}\ntables\n"));
+        assert_eq!(text("job P10 2020001010300020\nrecord 10 00 00"), "job P10 202000101030002080\nrecord 10 00 00");
     }
 
     #[test]
     fn no_jobs() {
-        for old in [&[0x10, 0][..], &[0x20, 0x20, 0x00, 0x10, 0x41], &[0x20, 0x20, 0x00, 0x10, 0x40, 0x01]] {
+        // Cut in the fault count, in an output line, in a fault; and with a spare bit.
+        for old in [&[0x10, 0, 0][..], &[0x10, 0x18, 0], &[0x10, 0, 0, 0x40, 0], &[0x10, 0, 0, 0x01]] {
             assert_eq!(job(old), None, "{old:02x?}");
         }
         assert!(text(b"job 10 00\n").is_err());

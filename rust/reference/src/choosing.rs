@@ -1,11 +1,13 @@
 //! Choosing a signature.
 //!
-//! Isolating keeps the circuits in classes: two are in one class while no coefficient taken tells them apart. An entry
-//! is taken when it splits a class. One is dropped when those before it and those kept after it leave no two circuits
-//! in one class. Detecting keeps, per entry taken, the set of faults that it tells from the good circuit.
+//! Isolating needs the pairs of circuits whose parts differ. It keeps the circuits in classes: two are in one class
+//! while no coefficient taken tells them apart. A class of one part is done with. An entry is taken when it splits a
+//! class of several parts: such a class has two circuits that differ both in this coefficient and in their parts. One
+//! is dropped when those before it and those kept after it leave no two circuits of different parts in one class.
+//! Detecting keeps, per entry taken, the set of faults that it tells from the good circuit.
 
 use crate::differences::MOST_CIRCUITS;
-use crate::job::{read, Job, MOST_FAULTS};
+use crate::job::{read, Job, MOST_FAULTS, MOST_PART};
 use crate::refusal::{self, Refusal};
 use crate::spectra::{fill, size, width, Kind};
 use crate::words::Table;
@@ -13,7 +15,7 @@ use crate::words::Table;
 /// Which pairs of circuits a signature must tell apart.
 #[derive(Clone, Copy, Debug, PartialEq, Eq)]
 pub enum Purpose {
-    /// Every two circuits.
+    /// Every two circuits whose parts differ.
     Isolating,
     /// The good circuit and each faulty one.
     Detecting,
@@ -39,7 +41,7 @@ pub enum Chosen {
         count: usize,
         entries: [Entry; MOST_FAULTS],
     },
-    /// Refusal 15 with the first pair of circuits that have equal tables.
+    /// Refusal 15 with the first pair of circuits, of those to be told apart, that have equal tables.
     Alike(usize, usize),
     /// Any other refusal.
     Refused(Refusal),
@@ -104,7 +106,7 @@ fn fill_and_compare<const O: usize>(
     let tables = fill::<O>(job, kind, polarity, work);
     let tables = &tables[..=job.fault_count.into()];
     match purpose {
-        Purpose::Isolating => first_alike(tables),
+        Purpose::Isolating => first_alike(tables, &Parts::new(job)),
         Purpose::Detecting => (1..tables.len()).find(|c| tables[*c] == tables[0]).map(|c| (0, c)),
     }
 }
@@ -116,14 +118,41 @@ fn signature(job: &Job, purpose: Purpose, work: &[u16]) -> Chosen {
     let spectra = Spectra { inputs, outputs, circuits: faults + 1, width: width(job), work };
     let mut entries = [Entry::default(); MOST_FAULTS];
     let count = match purpose {
-        Purpose::Isolating => isolate(&spectra, &mut entries),
+        Purpose::Isolating => isolate(&spectra, &Parts::new(job), &mut entries),
         Purpose::Detecting => detect(&spectra, &mut entries),
     };
     Chosen::Signature { inputs, gates, outputs, faults, count, entries }
 }
 
-/// The first pair of circuits with equal tables, by the lower number, then by the higher.
-fn first_alike<const O: usize>(tables: &[[Table; O]]) -> Option<(usize, usize)> {
+/// The parts of the circuits.
+struct Parts {
+    /// Per circuit those that have its part, itself among them, a bit each.
+    mates: [u64; MOST_CIRCUITS],
+}
+
+impl Parts {
+    fn new(job: &Job) -> Parts {
+        let mut circuits_of = [0u64; MOST_PART as usize + 1];
+        for (circuit, part) in job.parts().enumerate() {
+            circuits_of[usize::from(part)] |= 1 << circuit;
+        }
+        let mut mates = [0; MOST_CIRCUITS];
+        for (place, part) in mates.iter_mut().zip(job.parts()) {
+            *place = circuits_of[usize::from(part)];
+        }
+        Parts { mates }
+    }
+
+    /// Whether one of the circuits has another part than this one.
+    #[inline]
+    fn differ(&self, circuit: usize, circuits: u64) -> bool {
+        circuits & !self.mates[circuit] != 0
+    }
+}
+
+/// The first pair of circuits of different parts with equal tables, by the lower number, then by the higher. Of
+/// circuits with equal tables and not one part the lowest is in such a pair.
+fn first_alike<const O: usize>(tables: &[[Table; O]], parts: &Parts) -> Option<(usize, usize)> {
     // Twice as many slots as circuits at least, so a free one is always found.
     const SLOTS: usize = 2 * MOST_CIRCUITS;
     const FREE: u8 = u8::MAX;
@@ -141,7 +170,7 @@ fn first_alike<const O: usize>(tables: &[[Table; O]]) -> Option<(usize, usize)> 
             continue;
         }
         let lower = usize::from(slots[slot]);
-        if first.is_none_or(|pair| lower < pair.0) {
+        if parts.differ(lower, 1 << circuit) && first.is_none_or(|pair| lower < pair.0) {
             first = Some((lower, circuit));
         }
     }
@@ -182,62 +211,51 @@ type Column = [u16; MOST_CIRCUITS];
 /// The circuits in classes.
 #[derive(Clone, Copy)]
 struct Classes {
-    /// Per circuit the lowest of its class.
-    label: [u8; MOST_CIRCUITS],
-    /// The circuits whose class has another one, a bit each.
-    shared: u64,
+    /// Those whose class has several parts, a bit each.
+    mixed: u64,
+    /// Per circuit of these those of its class, itself among them.
+    class: [u64; MOST_CIRCUITS],
 }
 
 impl Classes {
     /// All circuits in one class.
-    fn one(circuits: usize) -> Classes {
-        let shared = if circuits > 1 { u64::MAX >> (MOST_CIRCUITS - circuits) } else { 0 };
-        Classes { label: [0; MOST_CIRCUITS], shared }
+    fn one(circuits: usize, parts: &Parts) -> Classes {
+        let all = u64::MAX >> (MOST_CIRCUITS - circuits);
+        Classes { mixed: if parts.differ(0, all) { all } else { 0 }, class: [all; MOST_CIRCUITS] }
     }
 
-    /// Writes an entry's coefficients of the circuits that share a class, and tells whether a class has different ones.
+    /// Writes an entry's coefficients of the circuits in classes of several parts, and tells whether such a class has
+    /// different ones.
     #[inline]
     fn differ(&self, spectra: &Spectra, place: usize, column: &mut Column) -> bool {
         let mut differ = false;
-        for circuit in ones(self.shared) {
+        for circuit in ones(self.mixed) {
             column[circuit] = spectra.coefficient(circuit, place);
-            differ |= column[circuit] != column[usize::from(self.label[circuit])];
+            differ |= column[circuit] != column[self.class[circuit].trailing_zeros() as usize];
         }
         differ
     }
 
-    /// Splits the classes by coefficient. A step of the inner loop parts two circuits for good, so over all splits
-    /// there are no more steps than pairs of circuits.
-    fn split(&mut self, column: &Column) {
-        const LAST: u8 = u8::MAX;
-        // The classes that come of one are chained by their labels.
-        let mut next = [LAST; MOST_CIRCUITS];
-        let mut shared = 0;
-        for circuit in ones(self.shared) {
-            let mut label = usize::from(self.label[circuit]);
-            while column[label] != column[circuit] {
-                if next[label] == LAST {
-                    next[label] = circuit as u8;
-                }
-                label = usize::from(next[label]);
+    /// Splits the classes of several parts by coefficient.
+    fn split(&mut self, column: &Column, parts: &Parts) {
+        let mut left = self.mixed;
+        self.mixed = 0;
+        while left != 0 {
+            let lowest = left.trailing_zeros() as usize;
+            let joins = |circuit: usize| u64::from(column[circuit] == column[lowest]) << circuit;
+            let class = ones(self.class[lowest] & left).fold(0, |class, circuit| class | joins(circuit));
+            left &= !class;
+            if parts.differ(lowest, class) {
+                self.mixed |= class;
+                ones(class).for_each(|circuit| self.class[circuit] = class);
             }
-            self.label[circuit] = label as u8;
-            let joins = u64::from(label != circuit);
-            shared |= joins << circuit | joins << label;
         }
-        self.shared = shared;
     }
 
-    /// No two circuits are in one class both here and there.
-    fn isolate_with(&self, other: &Classes) -> bool {
-        let mut seen = [0u64; MOST_CIRCUITS];
-        ones(self.shared & other.shared).all(|circuit| {
-            let labels = &mut seen[usize::from(self.label[circuit])];
-            let label = 1 << other.label[circuit];
-            let new = *labels & label == 0;
-            *labels |= label;
-            new
-        })
+    /// No two circuits of different parts are in one class both here and there.
+    fn isolate_with(&self, other: &Classes, parts: &Parts) -> bool {
+        let mut circuits = ones(self.mixed & other.mixed);
+        circuits.all(|circuit| !parts.differ(circuit, self.class[circuit] & other.class[circuit]))
     }
 }
 
@@ -253,32 +271,32 @@ fn ones(mut set: u64) -> impl Iterator<Item = usize> {
     })
 }
 
-/// Writes the isolating signature and gives its length; no two circuits have equal spectra.
-fn isolate(spectra: &Spectra, entries: &mut [Entry; MOST_FAULTS]) -> usize {
+/// Writes the isolating signature and gives its length; no two circuits of different parts have equal spectra.
+fn isolate(spectra: &Spectra, parts: &Parts, entries: &mut [Entry; MOST_FAULTS]) -> usize {
     let mut taken = [0; MOST_FAULTS];
-    let mut before = [Classes::one(0); MOST_FAULTS];
+    let mut classes = Classes::one(spectra.circuits, parts);
+    let mut after = classes;
+    let mut before = [classes; MOST_FAULTS];
     let mut count = 0;
     let mut column = [0; MOST_CIRCUITS];
-    let mut classes = Classes::one(spectra.circuits);
     for place in spectra.order() {
-        if classes.shared == 0 {
+        if classes.mixed == 0 {
             break;
         }
         if classes.differ(spectra, place, &mut column) {
             taken[count] = place;
             before[count] = classes;
             count += 1;
-            classes.split(&column);
+            classes.split(&column, parts);
         }
     }
 
     let mut kept = 0u64;
-    let mut after = Classes::one(spectra.circuits);
     for at in (0..count).rev() {
-        if !before[at].isolate_with(&after) {
+        if !before[at].isolate_with(&after, parts) {
             kept |= 1 << at;
             if after.differ(spectra, taken[at], &mut column) {
-                after.split(&column);
+                after.split(&column, parts);
             }
         }
     }

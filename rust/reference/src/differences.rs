@@ -87,8 +87,8 @@ impl<const W: usize, const O: usize> Differences<W, O> {
     fn tables(&mut self, job: &Job, tables: &mut Tables<O>) {
         let good: Each<W, O> = self.outputs.map(|line| self.good[line]);
         put(good, &mut tables[0]);
-        for (place, fault) in tables[1..].iter_mut().zip(&job.faults[..job.fault_count.into()]) {
-            let faulty: Each<W, O> = match *fault {
+        for (place, entry) in tables[1..].iter_mut().zip(&job.faults[..job.fault_count.into()]) {
+            let faulty: Each<W, O> = match entry.fault {
                 Fault::Stuck(line, at) => {
                     let (entries, stuck) = (self.good[usize::from(line)], level::<W>(at));
                     let change = self.differences(line.into());

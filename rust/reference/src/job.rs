@@ -6,8 +6,10 @@ pub const MOST_INPUTS: usize = 8;
 pub const MOST_GATES: usize = 64;
 pub const MOST_OUTPUTS: usize = 4;
 pub const MOST_FAULTS: usize = 63;
-/// The most bytes that a job can have: 4 + 7 + 64 x 17 + 2 + 4 x 7 + 6 + 63 x 16 bits.
-pub const LONGEST_JOB: usize = 268;
+/// The highest number of a part; the lowest is 1, and the good circuit has part 0.
+pub const MOST_PART: u8 = 63;
+/// The most bytes that a job can have: 4 + 7 + 64 x 17 + 2 + 4 x 7 + 6 + 63 x 22 bits.
+pub const LONGEST_JOB: usize = 316;
 
 /// A gate and the lines that it reads.
 #[derive(Clone, Copy, Debug, PartialEq, Eq)]
@@ -31,6 +33,18 @@ pub enum Fault {
     Bridge(u8, u8, bool),
 }
 
+/// A fault of the list, and the part that is mended for it.
+#[derive(Clone, Copy, Debug, PartialEq, Eq)]
+pub struct FaultEntry {
+    pub fault: Fault,
+    pub part: u8,
+}
+
+impl FaultEntry {
+    /// What stands where a record has no fault.
+    pub const UNUSED: FaultEntry = FaultEntry { fault: Fault::Stuck(0, false), part: 0 };
+}
+
 /// A circuit and its faults. Gate q drives line `inputs` + q; output o is line `outputs[o]`; fault c, from 1, is
 /// `faults[c - 1]`.
 #[derive(Clone, Copy, Debug, PartialEq, Eq)]
@@ -41,7 +55,15 @@ pub struct Job {
     pub output_count: u8,
     pub outputs: [u8; MOST_OUTPUTS],
     pub fault_count: u8,
-    pub faults: [Fault; MOST_FAULTS],
+    pub faults: [FaultEntry; MOST_FAULTS],
+}
+
+impl Job {
+    /// The part of each circuit from 0 to f: that of its fault, 0 for the good one.
+    pub(crate) fn parts(&self) -> impl Iterator<Item = u8> + '_ {
+        let faults = &self.faults[..self.fault_count.into()];
+        std::iter::once(0).chain(faults.iter().map(|entry| entry.part))
+    }
 }
 
 impl Gate {
@@ -91,9 +113,9 @@ pub fn read(bytes: &[u8]) -> Result<Job, Refusal> {
         return Err(refusal::LOOSE_GATE);
     }
     let fault_count = fields.take(6)? as u8;
-    let mut faults = [Fault::Stuck(0, false); MOST_FAULTS];
-    for fault in &mut faults[..usize::from(fault_count)] {
-        *fault = read_fault(fields.take(16)?, inputs, lines)?;
+    let mut faults = [FaultEntry::UNUSED; MOST_FAULTS];
+    for entry in &mut faults[..usize::from(fault_count)] {
+        *entry = read_fault(fields.take(22)?, inputs, lines)?;
     }
     fields.end()?;
     Ok(Job { inputs, gate_count, gates, output_count, outputs, fault_count, faults })
@@ -138,12 +160,12 @@ fn has_loose_gate(inputs: u8, gates: &[Gate], outputs: &[u8]) -> bool {
     false
 }
 
-/// The fault in a field of 2 + 7 + 7 bits.
+/// The fault and its part in a field of 2 + 7 + 7 + 6 bits.
 #[inline(always)]
-fn read_fault(field: u32, inputs: u8, lines: u8) -> Result<Fault, Refusal> {
-    let (a, b) = ((field >> 7) as u8 & 127, field as u8 & 127);
-    let kind = field >> 14;
-    if kind < 2 {
+fn read_fault(field: u32, inputs: u8, lines: u8) -> Result<FaultEntry, Refusal> {
+    let (a, b, part) = ((field >> 13) as u8 & 127, (field >> 6) as u8 & 127, field as u8 & 63);
+    let kind = field >> 20;
+    let fault = if kind < 2 {
         // The stuck line is a; b only repeats it.
         if a >= lines {
             return Err(refusal::FAULT_LINE);
@@ -151,10 +173,20 @@ fn read_fault(field: u32, inputs: u8, lines: u8) -> Result<Fault, Refusal> {
         if a != b {
             return Err(refusal::FAULT_PAIR);
         }
-        return Ok(Fault::Stuck(a, kind == 1));
+        Fault::Stuck(a, kind == 1)
+    } else {
+        check_bridge(a, b, inputs)?;
+        Fault::Bridge(a, b, kind == 2)
+    };
+    check_part(part)?;
+    Ok(FaultEntry { fault, part })
+}
+
+fn check_part(part: u8) -> Result<(), Refusal> {
+    if part == 0 || part > MOST_PART {
+        return Err(refusal::PART);
     }
-    check_bridge(a, b, inputs)?;
-    Ok(Fault::Bridge(a, b, kind == 2))
+    Ok(())
 }
 
 fn check_bridge(low: u8, high: u8, inputs: u8) -> Result<(), Refusal> {
@@ -222,12 +254,12 @@ pub fn write(job: &Job, out: &mut [u8]) -> Result<usize, Refusal> {
         bits.put((*output).into(), 7);
     }
     bits.put(job.fault_count.into(), 6);
-    for fault in &job.faults[..job.fault_count.into()] {
+    for FaultEntry { fault, part } in &job.faults[..job.fault_count.into()] {
         let (kind, a, b) = match *fault {
             Fault::Stuck(line, level) => (u32::from(level), line, line),
             Fault::Bridge(low, high, is_and) => (3 - u32::from(is_and), low, high),
         };
-        bits.put(kind << 14 | u32::from(a) << 7 | u32::from(b), 16);
+        bits.put(kind << 20 | u32::from(a) << 13 | u32::from(b) << 6 | u32::from(*part), 22);
     }
     bits.end();
     Ok(size)
@@ -262,15 +294,16 @@ fn check(job: &Job) -> Result<usize, Refusal> {
     if usize::from(job.fault_count) > MOST_FAULTS {
         return Err(refusal::FAULTS);
     }
-    for fault in &job.faults[..job.fault_count.into()] {
+    for FaultEntry { fault, part } in &job.faults[..job.fault_count.into()] {
         match *fault {
             Fault::Stuck(line, _) if line >= lines => return Err(refusal::FAULT_LINE),
             Fault::Stuck(..) => {}
             Fault::Bridge(low, high, _) => check_bridge(low, high, inputs)?,
         }
+        check_part(*part)?;
     }
     let [gates, outputs, faults] = [job.gate_count, job.output_count, job.fault_count].map(usize::from);
-    Ok((4 + 7 + 17 * gates + 2 + 7 * outputs + 6 + 16 * faults).div_ceil(8))
+    Ok((4 + 7 + 17 * gates + 2 + 7 * outputs + 6 + 22 * faults).div_ceil(8))
 }
 
 /// Writes fields of bits one after another, four bytes at a time.

@@ -1,4 +1,4 @@
-//! Locating the circuits that give some readings.
+//! Locating the circuits that give some readings, and their part.
 
 use crate::job::read;
 use crate::refusal::{self, Refusal};
@@ -7,9 +7,9 @@ use crate::spectra::{fill, size, width, Kind};
 /// What locating comes to.
 #[derive(Clone, Copy, Debug, PartialEq, Eq)]
 pub enum Located {
-    /// The one circuit that gives the readings.
-    Alone(usize),
-    /// The lowest circuit that gives them, and how many do.
+    /// The one part of all circuits that give the readings, and the lowest of them.
+    Part(usize, usize),
+    /// The lowest circuit that gives them, and how many do; they have different parts.
     Several(usize, usize),
     /// No circuit gives them.
     Nowhere,
@@ -54,23 +54,24 @@ pub fn locate(
         _ => drop(fill::<4>(&job, kind, polarity, work)),
     }
 
-    let mut lowest = 0;
+    // The part and the number of the lowest circuit that agrees.
+    let mut lowest = None;
     let mut count = 0;
-    for (circuit, row) in work.chunks_exact(width(&job)).enumerate() {
+    let mut one_part = true;
+    for ((circuit, part), row) in job.parts().enumerate().zip(work.chunks_exact(width(&job))) {
         let mut list = indices.iter().zip(outputs).zip(readings);
         let agrees = list.all(|((index, output), reading)| {
             row[usize::from(*output) << job.inputs | usize::from(*index)] == *reading
         });
         if agrees {
-            if count == 0 {
-                lowest = circuit;
-            }
+            let (first_part, _) = *lowest.get_or_insert((part, circuit));
+            one_part &= part == first_part;
             count += 1;
         }
     }
-    match count {
-        0 => Located::Nowhere,
-        1 => Located::Alone(lowest),
-        _ => Located::Several(lowest, count),
+    match lowest {
+        None => Located::Nowhere,
+        Some((part, circuit)) if one_part => Located::Part(part.into(), circuit),
+        Some((_, circuit)) => Located::Several(circuit, count),
     }
 }

@@ -1,6 +1,6 @@
 //! The refusals, by the documents' numbers.
 
-/// The number of a refusal, 1 to 20.
+/// The number of a refusal, 1 to 21.
 pub type Refusal = u8;
 
 /// The bytes end inside a field.
@@ -31,7 +31,7 @@ pub const TABLE: Refusal = 12;
 pub const POLARITY: Refusal = 13;
 /// Not exactly N numbers, or numbers that are no table's spectrum.
 pub const NO_SPECTRUM: Refusal = 14;
-/// Two circuits that must be told apart have equal tables.
+/// Two circuits that must be told apart have equal tables at every output.
 pub const ALIKE: Refusal = 15;
 /// An index isn't below N.
 pub const INDEX: Refusal = 16;
@@ -43,3 +43,5 @@ pub const FAULTS: Refusal = 18;
 pub const LOOSE_GATE: Refusal = 19;
 /// The output number is too high, or a record's outputs aren't 1 to 4.
 pub const OUTPUT_NUMBER: Refusal = 20;
+/// A fault's part isn't 1 to 63.
+pub const PART: Refusal = 21;

@@ -7,7 +7,7 @@ use crate::spectra::Kind;
 /// The work that the program lends to choosing.
 const WORK: usize = 32768;
 
-/// What the program prints for these bytes on its standard input. It reads no more than 269 of them, as `read` does.
+/// What the program prints for these bytes on its standard input. It reads no more than 317 of them, as `read` does.
 pub fn report(bytes: &[u8]) -> Vec<u8> {
     report_with(bytes, &mut [0; WORK])
 }

@@ -31,7 +31,7 @@ pub fn table(bytes: &[u8], circuit: usize, output: usize, out: &mut [u8]) -> Res
         None => return Err(refusal::OUTPUT_NUMBER),
     };
     let out = out.get_mut(..packed_size(job.inputs.into())).ok_or(refusal::MEMORY)?;
-    let fault = circuit.checked_sub(1).map(|place| job.faults[place]);
+    let fault = circuit.checked_sub(1).map(|place| job.faults[place].fault);
     match job.inputs {
         8 => pack(8, &evaluate::<4>(&job, fault)[line], out),
         7 => pack(7, &evaluate::<2>(&job, fault)[line], out),

@@ -1,7 +1,7 @@
 //! A slow and literal model of the documents, compared with the library on random jobs, whole and damaged.
 
 use reference::{choose, locate, read, report, spectrum, table, undo, write};
-use reference::{Chosen, Entry, Fault, Gate, Job, Kind, Located, Purpose};
+use reference::{Chosen, Entry, Fault, FaultEntry, Gate, Job, Kind, Located, Purpose};
 
 // ---- the model ----
 
@@ -31,7 +31,7 @@ fn model_read(bytes: &[u8]) -> Result<Job, u8> {
         output_count: 0,
         outputs: [0; 4],
         fault_count: 0,
-        faults: [Fault::Stuck(0, false); 63],
+        faults: [FaultEntry::UNUSED; 63],
     };
     let n = job.inputs;
     if !(1..=8).contains(&n) {
@@ -75,7 +75,7 @@ fn model_read(bytes: &[u8]) -> Result<Job, u8> {
     }
     job.fault_count = bits.field(6)?;
     for c in 0..job.fault_count {
-        let (kind, a, b) = (bits.field(2)?, bits.field(7)?, bits.field(7)?);
+        let (kind, a, b, part) = (bits.field(2)?, bits.field(7)?, bits.field(7)?, bits.field(6)?);
         let stuck = kind < 2;
         if (stuck && a >= n + g) || (!stuck && (a >= n || b >= n)) {
             return Err(7);
@@ -83,13 +83,17 @@ fn model_read(bytes: &[u8]) -> Result<Job, u8> {
         if (stuck && a != b) || (!stuck && a >= b) {
             return Err(8);
         }
-        job.faults[c as usize] = match kind {
+        if !(1..=63).contains(&part) {
+            return Err(21);
+        }
+        let fault = match kind {
             0 => Fault::Stuck(a, false),
             1 => Fault::Stuck(a, true),
             2 => Fault::Bridge(a, b, true),
             3 => Fault::Bridge(a, b, false),
             _ => unreachable!(),
         };
+        job.faults[c as usize] = FaultEntry { fault, part };
     }
     let spare = &bits.bits[bits.at..];
     if spare.len() >= 8 || spare.contains(&1) {
@@ -175,7 +179,8 @@ fn model_write(job: &Job) -> Result<Vec<u8>, u8> {
     }
     bits += &format!("{:06b}", job.fault_count);
     for c in 0..usize::from(job.fault_count) {
-        let (kind, a, b) = match job.faults[c] {
+        let FaultEntry { fault, part } = job.faults[c];
+        let (kind, a, b) = match fault {
             Fault::Stuck(line, level) => (if level { 1 } else { 0 }, line, line),
             Fault::Bridge(low, high, is_and) => (if is_and { 2 } else { 3 }, low, high),
         };
@@ -185,7 +190,10 @@ fn model_write(job: &Job) -> Result<Vec<u8>, u8> {
         if kind >= 2 && a >= b {
             return Err(8);
         }
-        bits += &format!("{kind:02b}{a:07b}{b:07b}");
+        if !(1..=63).contains(&part) {
+            return Err(21);
+        }
+        bits += &format!("{kind:02b}{a:07b}{b:07b}{part:06b}");
     }
     while bits.len() % 8 != 0 {
         bits.push('0');
@@ -196,7 +204,7 @@ fn model_write(job: &Job) -> Result<Vec<u8>, u8> {
 /// Entry m of the tables of a circuit: the value of each output.
 fn model_entry(job: &Job, circuit: usize, m: usize) -> Vec<bool> {
     let n = usize::from(job.inputs);
-    let fault = if circuit == 0 { None } else { Some(job.faults[circuit - 1]) };
+    let fault = if circuit == 0 { None } else { Some(job.faults[circuit - 1].fault) };
     let mut lines = Vec::new();
     for line in 0..n + usize::from(job.gate_count) {
         let input = |i: u8| m >> i & 1 == 1;
@@ -300,11 +308,29 @@ impl Model {
         scan
     }
 
+    /// The part of a circuit: the good one's is 0.
+    fn part(&self, circuit: usize) -> usize {
+        if circuit == 0 {
+            0
+        } else {
+            usize::from(self.job.faults[circuit - 1].part)
+        }
+    }
+
+    /// The pairs of circuits that must be told apart, by the lower number, then by the higher.
+    fn needed(&self, purpose: Purpose) -> Vec<(usize, usize)> {
+        let circuits = self.tables.len();
+        let pairs = (0..circuits).flat_map(|a| (a + 1..circuits).map(move |b| (a, b)));
+        let is_needed = |pair: &(usize, usize)| match purpose {
+            Purpose::Isolating => self.part(pair.0) != self.part(pair.1),
+            Purpose::Detecting => pair.0 == 0,
+        };
+        pairs.filter(is_needed).collect()
+    }
+
     /// The signature, or the pair that is alike.
     fn choose(&self, purpose: Purpose) -> Result<Vec<Entry>, (usize, usize)> {
-        let circuits = self.tables.len();
-        let lower = if purpose == Purpose::Isolating { circuits } else { 1 };
-        let needed: Vec<_> = (0..lower).flat_map(|a| (a + 1..circuits).map(move |b| (a, b))).collect();
+        let needed = self.needed(purpose);
         if let Some(pair) = needed.iter().find(|pair| self.tables[pair.0] == self.tables[pair.1]) {
             return Err(*pair);
         }
@@ -327,9 +353,10 @@ impl Model {
     fn locate(&self, list: &[Entry], readings: &[u16]) -> Located {
         let gives = |c: &usize| (0..list.len()).all(|i| self.coefficient(*c, &list[i]) == readings[i]);
         let agreeing: Vec<_> = (0..self.spectra.len()).filter(gives).collect();
+        let parts: Vec<_> = agreeing.iter().map(|c| self.part(*c)).collect();
         match agreeing.len() {
             0 => Located::Nowhere,
-            1 => Located::Alone(agreeing[0]),
+            _ if parts.iter().all(|part| *part == parts[0]) => Located::Part(parts[0], agreeing[0]),
             count => Located::Several(agreeing[0], count),
         }
     }
@@ -456,7 +483,22 @@ impl Random {
         outputs
     }
 
-    /// A job without loose gates; with `distinct`, faults that are alike are left out.
+    /// A part for each of so many faults: each its own, one for all, falling, in fours, or any.
+    fn parts(&mut self, faults: usize) -> Vec<u8> {
+        let (scheme, one) = (self.below(7), 1 + self.below(63));
+        let part = |place: usize| match scheme {
+            0 | 1 => place + 1,
+            2 => one,
+            3 => faults - place,
+            4 => 1 + (faults - 1 - place) / 4,
+            5 => 1 + self.below(3),
+            _ => 1 + self.below(63),
+        };
+        (0..faults).map(part).map(|part| part as u8).collect()
+    }
+
+    /// A job without loose gates; with `distinct`, faults that are alike are left out, but for some that get the part
+    /// of the one that they equal.
     fn job(&mut self, inputs: usize, gates: usize, outputs: usize, faults: usize, distinct: bool) -> Job {
         let mut job = Job {
             inputs: inputs as u8,
@@ -465,7 +507,7 @@ impl Random {
             output_count: outputs as u8,
             outputs: [0; 4],
             fault_count: 0,
-            faults: [Fault::Stuck(0, false); 63],
+            faults: [FaultEntry::UNUSED; 63],
         };
         let mut unread = Vec::new();
         for q in 0..gates {
@@ -473,21 +515,29 @@ impl Random {
         }
         let lines = inputs + gates;
         job.outputs = self.outputs(lines, outputs, unread);
+        let parts = self.parts(faults);
         let mut tables = vec![model_tables(&job, 0)];
         for _ in 0..4 * faults {
-            if usize::from(job.fault_count) == faults {
+            let place = usize::from(job.fault_count);
+            if place == faults {
                 break;
             }
-            job.faults[usize::from(job.fault_count)] = self.fault(inputs, lines);
+            job.faults[place] = FaultEntry { fault: self.fault(inputs, lines), part: parts[place] };
             job.fault_count += 1;
             if distinct {
-                let faulty = model_tables(&job, job.fault_count.into());
-                if tables.contains(&faulty) {
-                    job.fault_count -= 1;
-                    job.faults[usize::from(job.fault_count)] = Fault::Stuck(0, false);
-                } else {
-                    tables.push(faulty);
+                let faulty = model_tables(&job, place + 1);
+                let equal = tables.iter().position(|earlier| *earlier == faulty);
+                let shared = equal.map(|circuit| if circuit == 0 { 0 } else { job.faults[circuit - 1].part });
+                match shared {
+                    Some(part) if part == 0 || (part != parts[place] && self.below(2) == 0) => {
+                        job.fault_count -= 1;
+                        job.faults[place] = FaultEntry::UNUSED;
+                        continue;
+                    }
+                    Some(part) => job.faults[place].part = part,
+                    None => {}
                 }
+                tables.push(faulty);
             }
         }
         job
@@ -604,7 +654,9 @@ fn compare_choice(random: &mut Random, bytes: &[u8], purpose: Purpose, kind: Kin
                 for c in 0..model.spectra.len() {
                     let readings: Vec<_> = signature.iter().map(|entry| model.coefficient(c, entry)).collect();
                     let located = locate(bytes, kind, k, &indices, &outputs, &readings, &mut work);
-                    assert_eq!(located, Located::Alone(c));
+                    assert_eq!(located, model.locate(&signature, &readings));
+                    // Its part, with the lowest circuit that has these readings.
+                    assert!(matches!(located, Located::Part(part, lowest) if part == model.part(c) && lowest <= c));
                 }
             }
         }
@@ -649,19 +701,51 @@ fn compare_location(random: &mut Random, bytes: &[u8], kind: Kind, k: usize, mod
     assert_eq!(work, model.work(&spoilt));
 }
 
+/// How many jobs had parts of each sort.
+#[derive(Debug, Default)]
+struct Seen {
+    /// An isolating signature, though two faults are equal.
+    equal_faults: usize,
+    /// An isolating signature, and unequal faults of one part.
+    unequal_faults: usize,
+    /// One part for all of at least two faults.
+    one_part: usize,
+    /// A part below the one before it.
+    falling: usize,
+}
+
+impl Seen {
+    fn count(&mut self, job: &Job) {
+        let model = model(job, Kind::Rm, 0);
+        let circuits = 1..model.tables.len();
+        let pairs = || circuits.clone().flat_map(|a| (1..a).map(move |b| (a, b)));
+        let has_signature = model.choose(Purpose::Isolating).is_ok();
+        let equal = |(a, b): (usize, usize)| model.tables[a] == model.tables[b];
+        let one_part = |(a, b): (usize, usize)| model.part(a) == model.part(b);
+        self.equal_faults += usize::from(has_signature && pairs().any(equal));
+        self.unequal_faults += usize::from(has_signature && pairs().any(|pair| one_part(pair) && !equal(pair)));
+        self.one_part += usize::from(job.fault_count > 1 && pairs().all(one_part));
+        self.falling += usize::from(pairs().any(|(a, b)| a == b + 1 && model.part(a) < model.part(b)));
+    }
+}
+
 #[test]
 fn small_jobs() {
     let mut random = Random(1);
+    let mut seen = Seen::default();
     for _ in 0..3000 {
         let job = random.small_job();
         compare(&mut random, &model_write(&job).unwrap());
+        seen.count(&job);
     }
+    println!("{seen:?}");
+    assert!([seen.equal_faults, seen.unequal_faults, seen.one_part, seen.falling].iter().all(|count| *count > 200));
 }
 
 #[test]
 fn damaged_jobs() {
     let mut random = Random(2);
-    let mut seen = [0; 21];
+    let mut seen = [0; 22];
     for _ in 0..6000 {
         let job = random.small_job();
         let mut bytes = model_write(&job).unwrap();
@@ -669,7 +753,7 @@ fn damaged_jobs() {
         seen[model_read(&bytes).err().unwrap_or(0) as usize] += 1;
         compare(&mut random, &bytes);
     }
-    assert!((0..10).chain([19]).all(|number| seen[number] > 0), "{seen:?}");
+    assert!((0..10).chain([19, 21]).all(|number| seen[number] > 0), "{seen:?}");
 }
 
 #[test]
@@ -702,30 +786,31 @@ fn any_bytes() {
 #[test]
 fn records() {
     let mut random = Random(5);
-    let mut seen = [0; 21];
+    let mut seen = [0; 22];
     for _ in 0..6000 {
         let mut job = random.small_job();
         for _ in 0..random.below(3) {
             let any = if random.below(2) == 0 { random.below(12) } else { random.below(256) } as u8;
             let place = random.below(14);
-            match random.below(8) {
+            match random.below(9) {
                 0 => job.inputs = any,
                 1 => job.gate_count = any,
                 2 => job.outputs[random.below(4)] = any,
                 3 => job.fault_count = any,
                 7 => job.output_count = any,
                 4 => job.gates[place] = Gate::Xor(any, 0),
-                5 => job.faults[place] = Fault::Stuck(any, true),
-                _ => job.faults[place] = Fault::Bridge(any, random.below(9) as u8, true),
+                5 => job.faults[place].fault = Fault::Stuck(any, true),
+                6 => job.faults[place].fault = Fault::Bridge(any, random.below(9) as u8, true),
+                _ => job.faults[place].part = random.below(100) as u8,
             }
         }
         let expected = model_write(&job);
-        let mut out = [0x5a; 300];
+        let mut out = [0x5a; 320];
         match &expected {
             Err(number) => assert_eq!(write(&job, &mut out), Err(*number)),
             Ok(bytes) => assert_eq!(write(&job, &mut out[..bytes.len() - 1]), Err(10)),
         }
-        assert_eq!(out, [0x5a; 300]);
+        assert_eq!(out, [0x5a; 320]);
         if let Ok(bytes) = &expected {
             assert_eq!(write(&job, &mut out), Ok(bytes.len()));
             assert_eq!(&out[..bytes.len()], bytes);
@@ -733,7 +818,7 @@ fn records() {
         }
         seen[expected.err().unwrap_or(0) as usize] += 1;
     }
-    assert!([0, 2, 3, 4, 20, 6, 19, 18, 7, 8].iter().all(|number| seen[*number] > 0), "{seen:?}");
+    assert!([0, 2, 3, 4, 20, 6, 19, 18, 7, 8, 21].iter().all(|number| seen[*number] > 0), "{seen:?}");
 }
 
 fn compare_table(entries: &[bool], kind: Kind, k: usize) {

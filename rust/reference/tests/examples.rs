@@ -1,14 +1,14 @@
-//! Document 01's examples in the layout of several outputs, P1 to P10 and the report of job A, and the checks that they
-//! leave open.
+//! Document 01's examples in the layout of several outputs and of parts, P1 to P10 and the report of job A, and the
+//! checks that they leave open. Fault c has part c here.
 
 use reference::Kind::{Mrm, Rm};
 use reference::Purpose::{Detecting, Isolating};
 use reference::{choose, locate, read, report, spectrum, table, undo, write};
-use reference::{Chosen, Entry, Fault, Gate, Job, Kind, Located, Purpose};
+use reference::{Chosen, Entry, Fault, FaultEntry, Gate, Job, Kind, Located, Purpose};
 
-const JOB_A: [u8; 12] = [0x20, 0x20, 0x00, 0x10, 0x10, 0x60, 0x00, 0x08, 0x00, 0x08, 0x10, 0x20];
+const JOB_A: [u8; 14] = [0x20, 0x20, 0x00, 0x10, 0x10, 0x60, 0x00, 0x00, 0xa0, 0x00, 0x04, 0x81, 0x02, 0x18];
 const JOB_P2: [u8; 4] = [0x10, 0, 0, 0];
-const JOB_P10: [u8; 8] = [0x20, 0x20, 0x00, 0x10, 0x10, 0x30, 0x00, 0x20];
+const JOB_P10: [u8; 9] = [0x20, 0x20, 0x00, 0x10, 0x10, 0x30, 0x00, 0x20, 0x80];
 
 fn spectrum_of(inputs: usize, table: &[u8], kind: Kind, polarity: usize) -> Vec<u16> {
     let mut out = vec![0; 1 << inputs];
@@ -27,7 +27,7 @@ fn signature(bytes: &[u8], purpose: Purpose, kind: Kind) -> Vec<(u16, u16)> {
 
 /// The bytes of a record.
 fn written(job: &Job) -> Vec<u8> {
-    let mut bytes = [0; 300];
+    let mut bytes = [0; 320];
     let size = write(job, &mut bytes).unwrap();
     bytes[..size].to_vec()
 }
@@ -39,7 +39,9 @@ fn without_gates(inputs: u8, outputs: &[u8], faults: &[Fault]) -> Job {
     job.output_count = outputs.len() as u8;
     job.outputs[..outputs.len()].copy_from_slice(outputs);
     job.fault_count = faults.len() as u8;
-    job.faults[..faults.len()].copy_from_slice(faults);
+    for ((place, fault), part) in job.faults.iter_mut().zip(faults).zip(1..) {
+        *place = FaultEntry { fault: *fault, part };
+    }
     job
 }
 
@@ -55,7 +57,8 @@ fn p2_smallest_job() {
     assert_eq!((job.inputs, job.gate_count, job.output_count, job.fault_count), (1, 0, 1, 0));
     assert_eq!(job.outputs, [0; 4]);
     assert!(job.gates.iter().all(|gate| *gate == Gate::Buf(0)));
-    assert!(job.faults.iter().all(|fault| *fault == Fault::Stuck(0, false)));
+    let unused = FaultEntry { fault: Fault::Stuck(0, false), part: 0 };
+    assert!(job.faults.iter().all(|entry| *entry == unused));
     assert_eq!(signature(&JOB_P2, Isolating, Mrm), []);
     assert_eq!(report(&JOB_P2), b"inputs 1 gates 0 faults 0\nsignature\n0\n");
     // Its bytes of one output end in the fault count.
@@ -121,9 +124,11 @@ fn reading_judges_fields_in_turn() {
     // NOT of line 0 with b too high is 4; with b another line below its own, 5.
     assert_eq!(read(&[0x20, 0x38, 0x00, 0x20]), Err(4));
     assert_eq!(read(&[0x20, 0x38, 0x00, 0x10]), Err(5));
-    // Stuck fault on line 0 whose b is no line: 8. On a line that isn't: 7.
+    // Stuck fault on line 0 whose b is no line: 8. On a line that isn't: 7. Both have part 0.
     assert_eq!(read(&[0x10, 0x00, 0x00, 0x40, 0x01, 0x40]), Err(8));
     assert_eq!(read(&[0x10, 0x00, 0x00, 0x40, 0x20, 0x00]), Err(7));
+    assert_eq!(read(&[0x10, 0x00, 0x00, 0x40, 0x00, 0x00]), Err(21));
+    assert_eq!(read(&[0x10, 0x00, 0x00, 0x40, 0x20]), Err(1));
     assert_eq!(read(&[0x10, 0x00, 0x00, 0x40]), Err(1));
     // The last spare bit.
     assert_eq!(read(&[0x10, 0x00, 0x00, 0x01]), Err(9));
@@ -191,8 +196,8 @@ fn several_outputs() {
         7, 7,
     ];
     assert_eq!(work, spectra);
-    assert_eq!(locate(&bytes, Mrm, 0, &[1, 2], &[0, 2], &[0, 0], &mut work), Located::Alone(3));
-    assert_eq!(locate(&bytes, Mrm, 0, &[2, 1, 1], &[2, 1, 0], &[0, 1, 1], &mut work), Located::Alone(2));
+    assert_eq!(locate(&bytes, Mrm, 0, &[1, 2], &[0, 2], &[0, 0], &mut work), Located::Part(3, 3));
+    assert_eq!(locate(&bytes, Mrm, 0, &[2, 1, 1], &[2, 1, 0], &[0, 1, 1], &mut work), Located::Part(2, 2));
     assert_eq!(locate(&bytes, Mrm, 0, &[1], &[2], &[0], &mut work), Located::Several(0, 4));
     let text = "inputs 2 gates 0 faults 3\nsignature 1:0 2:2\n0 1 1\n1 0 1\n2 1 0\n3 0 0\n";
     assert_eq!(report(&bytes), text.as_bytes());
@@ -217,22 +222,29 @@ fn more_bytes_than_any_job_are_9() {
 }
 
 #[test]
-fn longest_job_has_one_spare_bit() {
+fn longest_job_has_seven_spare_bits() {
     let mut job = without_gates(8, &[71, 0, 71, 7], &[Fault::Bridge(6, 7, false); 63]);
     job.gate_count = 64;
     // A chain of gates, each read by the next.
     job.gates = std::array::from_fn(|q| Gate::Xnor(7 + q as u8, 7));
-    let mut out = [0xee; 273];
-    assert_eq!(write(&job, &mut out[..267]), Err(10));
-    assert_eq!(out, [0xee; 273]);
-    assert_eq!(write(&job, &mut out), Ok(268));
-    assert_eq!(out[268..], [0xee; 5]);
-    assert_eq!(read(&out[..268]), Ok(job));
-    assert_eq!(read(&out[..267]), Err(1));
-    assert_eq!(read(&out[..269]), Err(9));
+    let mut out = [0xee; 321];
+    assert_eq!(write(&job, &mut out[..315]), Err(10));
+    assert_eq!(out, [0xee; 321]);
+    assert_eq!(write(&job, &mut out), Ok(316));
+    assert_eq!(out[316..], [0xee; 5]);
+    assert_eq!(read(&out[..316]), Ok(job));
+    // Only the last bit of the last part is in the last byte.
+    assert_eq!(read(&out[..315]), Err(1));
+    assert_eq!(read(&out[..317]), Err(9));
     assert_eq!(read(&out), Err(9));
-    out[267] |= 1;
-    assert_eq!(read(&out[..268]), Err(9));
+    for spare in 0..7 {
+        let mut bytes = out[..316].to_vec();
+        bytes[315] |= 1 << spare;
+        assert_eq!(read(&bytes), Err(9));
+    }
+    out[315] &= 0x7f;
+    job.faults[62].part = 62;
+    assert_eq!(read(&out[..316]), Ok(job));
 }
 
 /// The report lends 32768 numbers. All of these jobs have alike circuits, for which 15 comes after 10.
@@ -285,10 +297,10 @@ fn refusals_come_in_the_stated_order() {
 #[test]
 fn locating_job_a() {
     let mut work = [0; 16];
-    assert_eq!(locate(&JOB_A, Mrm, 0, &[1, 3], &[0, 0], &[0, 2], &mut work), Located::Alone(2));
-    assert_eq!(locate(&JOB_A, Mrm, 0, &[3, 3, 1], &[0, 0, 0], &[2, 2, 1], &mut work), Located::Alone(3));
+    assert_eq!(locate(&JOB_A, Mrm, 0, &[1, 3], &[0, 0], &[0, 2], &mut work), Located::Part(2, 2));
+    assert_eq!(locate(&JOB_A, Mrm, 0, &[3, 3, 1], &[0, 0, 0], &[2, 2, 1], &mut work), Located::Part(3, 3));
     assert_eq!(locate(&JOB_A, Mrm, 0, &[3], &[0], &[2], &mut work), Located::Several(2, 2));
     assert_eq!(locate(&JOB_A, Mrm, 0, &[3], &[0], &[3], &mut work), Located::Nowhere);
     assert_eq!(locate(&JOB_A, Mrm, 0, &[], &[], &[], &mut work), Located::Several(0, 4));
-    assert_eq!(locate(&JOB_P2, Mrm, 0, &[], &[], &[], &mut work), Located::Alone(0));
+    assert_eq!(locate(&JOB_P2, Mrm, 0, &[], &[], &[], &mut work), Located::Part(0, 0));
 }

@@ -1,6 +1,6 @@
 //! Loose gates, refusal 19, in reading bytes and in writing records.
 
-use reference::{read, report, write, Fault, Gate, Job};
+use reference::{read, report, write, FaultEntry, Gate, Job};
 
 /// A gate's kind, line a and line b.
 type Fields = [u8; 3];
@@ -31,7 +31,7 @@ fn record(inputs: u8, gates: &[Fields], outputs: &[u8]) -> Job {
         output_count: outputs.len() as u8,
         outputs: [0; 4],
         fault_count: 0,
-        faults: [Fault::Stuck(0, false); 63],
+        faults: [FaultEntry::UNUSED; 63],
     };
     for (place, fields) in job.gates.iter_mut().zip(gates) {
         *place = gate(*fields);
@@ -41,7 +41,7 @@ fn record(inputs: u8, gates: &[Fields], outputs: &[u8]) -> Job {
 }
 
 fn written(job: &Job) -> Result<usize, u8> {
-    write(job, &mut [0; 300])
+    write(job, &mut [0; 320])
 }
 
 /// The bits of a circuit, up to the output lines.
@@ -186,8 +186,13 @@ fn before_the_fault_count_is_read() {
 
 #[test]
 fn before_all_that_follows() {
-    // A fault on no line, a stuck fault of two lines, a spare bit.
-    for (rest, number) in [("000001 01 1111111 1111111", 7), ("000001 00 0000000 0000001", 8), ("000000 1", 9)] {
+    // A fault on no line, a stuck fault of two lines, one of no part, a spare bit.
+    for (rest, number) in [
+        ("000001 01 1111111 1111111 000001", 7),
+        ("000001 00 0000000 0000001 000001", 8),
+        ("000001 00 0000000 0000000 000000", 21),
+        ("000000 1", 9),
+    ] {
         let job = |output| bytes(&(bits(2, &[[AND, 0, 1]], &[output]) + &rest.replace(' ', "")));
         assert_eq!(read(&job(2)), Err(number));
         assert_eq!(read(&job(1)), Err(19));

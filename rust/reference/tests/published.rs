@@ -72,7 +72,7 @@ fn check_locate(job: &[u8], kind: Kind, polarity: usize, rest: &[&str]) {
     let parts: Vec<&[&str]> = rest.split(|word| *word == "/").collect();
     let expected = match parts[2] {
         ["none"] => Located::Nowhere,
-        ["alone", circuit] => Located::Alone(number(circuit)),
+        ["part", part, lowest] => Located::Part(number(part), number(lowest)),
         ["several", lowest, count] => Located::Several(number(lowest), number(count)),
         other => panic!("{other:?}"),
     };

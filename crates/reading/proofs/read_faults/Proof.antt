@@ -20,7 +20,7 @@ use Rattle.reading.proofs.read_faults.Statement.{statement}
 use Rattle.reading.proofs.read_faults.Tie as tie
 
 abbrev Inv-loop : tie.InvT-loop
-Inv-loop s n lines f job₀ c₀ i₀ job c i = (i ≤ f) × (c .bit ≤ c₀ .bit + 3 * maxWidth * i) × ((entriesFrom (λ k. fault n lines) f 0 (job₀ .faults) (from s c₀) ≡ entriesFrom (λ k. fault n lines) (f - i) i (job .faults) (from s c)) × (withFaults job₀ (job .faults) ≡ job))
+Inv-loop s n lines f job₀ c₀ i₀ job c i = (i ≤ f) × (c .bit ≤ c₀ .bit + 4 * maxWidth * i) × ((entriesFrom (λ k. fault n lines) f 0 (job₀ .faults) (from s c₀) ≡ entriesFrom (λ k. fault n lines) (f - i) i (job .faults) (from s c)) × (withFaults job₀ (job .faults) ≡ job))
 
 abbrev μ-loop : tie.MeasureT-loop
 μ-loop s n lines f job₀ c₀ i₀ job c i = f - i
@@ -43,16 +43,16 @@ loop-holds c = (zero≤, omega arith, (ap (λ (k : ℕ). entriesFrom (λ i. faul
 read-fault-requires : tie.Need-read-fault-requires Inv-loop μ-loop
 read-fault-requires c κs = omega (arith, c .before .loop .inv .1, c .before .loop .inv .0, c .loop-test .taken, c .before .before .before .before .before .before .pre .0, c .before .before .before .before .before .before .pre .1)
 
-enum-known-fault : tie.Need-enum-known-fault Inv-loop μ-loop
-enum-known-fault c = search needs
+enum-known-entry : tie.Need-enum-known-entry Inv-loop μ-loop
+enum-known-entry c = search needs
 
-mul-t17 : tie.Need-mul-t17 Inv-loop μ-loop
+mul-entry : tie.Need-mul-entry Inv-loop μ-loop
 unfolding maxFaults
-mul-t17 c = omega arith
+mul-entry c = omega arith
 
-element-set-from-job : tie.Need-element-set-from-job Inv-loop μ-loop
+element-set-from-entry : tie.Need-element-set-from-entry Inv-loop μ-loop
 unfolding maxFaults
-element-set-from-job c = omega arith
+element-set-from-entry c = omega arith
 
 enum-known-cause : tie.Need-enum-known-cause Inv-loop μ-loop
 enum-known-cause c = search needs
@@ -80,10 +80,10 @@ loop-again : tie.Need-loop-again Inv-loop μ-loop
 loop-again c =
     let c-loop = c .before .before .before .before .before .loop in
     let c-read-fault = c .before .before .before .read-fault in
-    let c-fault = c .before .fault in
+    let c-entry = c .before .entry in
     let c-args = c .before .before .before .before .before .before .before .before .before .before .args in
     let c-loop-test = c .before .before .before .before .loop-test in
-    (omega arith, omega (arith, c-loop .inv .1, c-read-fault .ensures .1, ap faultEnd (c-fault .given .1)), (c-loop .inv .2 .0 ∙ entries-next (λ i. fault (c-args .before .inputs) (lines (c-args .before))) (c-args .before .«fault_count») (c-loop .i) (c-loop .job .faults) (from (now (c-args .s)) (c-loop .c)) (c-loop-test .taken) (sym (c-read-fault .ensures .0) ∙ ap (faultTold (now (c-args .s))) (c-fault .given .1)), ap (λ (x : Job). withFaults x (set (c-loop .job .faults) (c-loop .i) (record { fault = c-fault .given .0 .0 }))) (c-loop .inv .2 .1)))
+    (omega arith, omega (arith, c-loop .inv .1, c-read-fault .ensures .1, ap faultEnd (c-entry .given .1)), (c-loop .inv .2 .0 ∙ entries-next (λ i. fault (c-args .before .inputs) (lines (c-args .before))) (c-args .before .«fault_count») (c-loop .i) (c-loop .job .faults) (from (now (c-args .s)) (c-loop .c)) (c-loop-test .taken) (sym (c-read-fault .ensures .0) ∙ ap (faultTold (now (c-args .s))) (c-entry .given .1)), ap (λ (x : Job). withFaults x (set (c-loop .job .faults) (c-loop .i) (c-entry .given .0 .0))) (c-loop .inv .2 .1)))
 
 read-end-requires : tie.Need-read-end-requires Inv-loop μ-loop
 read-end-requires c κs = tt
@@ -107,9 +107,9 @@ read-faults-spec =
     cast-f
     loop-holds
     read-fault-requires
-    enum-known-fault
-    mul-t17
-    element-set-from-job
+    enum-known-entry
+    mul-entry
+    element-set-from-entry
     enum-known-cause
     refused-requires
     returns

@@ -96,20 +96,17 @@ put-tables-requires c κs =
       all-room (r .result .job) v i (subst (λ (k : ℕ). k ≤ length (now (a .out))) (sized (c .before .before .before .before .before .before)) (c .before .before .before .before .if1 .left)),
     )
 
-cast-t14 : tie.Need-cast-t14
-cast-t14 c = search needs
-
-cast-t13 : tie.Need-cast-t13
-cast-t13 c = search needs
+counts-of-requires : tie.Need-counts-of-requires
+counts-of-requires c κs = tt
 
 same-length : tie.Need-same-length
-same-length c = c .before .before .before .before .before .put-tables .kept .0
+same-length c = c .before .before .before .before .put-tables .kept .0
 
 returns-3 : tie.Need-returns-3
 returns-3 c =
-    let a = c .before .before .before .before .before .before .before .before .before .before .before .before .before .before .before .before .before .before .before .before .before .before .args in let r = c .before .before .before .before .before .before .before .before .before .before .before .before .before .before .before .before .before .before .before .read in let v = valid (c .before .before .before .before .before .before .before .before .before .before .before .before) in let i = inside (c .before .before .before .before .before .before .before .before .before .before .before .before) in
-    tables-done (now (a .bytes)) (now (a .out)) (r .result .job) (told-done (r .result) (reading (now (a .bytes))) (r .ensures) (c .before .before .before .before .before .before .before .before .before .before .before .before .before .before .before .before .before .enum-told .given .1)) _ (sized (c .before .before .before .before .before .before .before .before .before .before .before .before)) (c .before .before .before .before .before .before .before .before .before .before .if1 .left)
-    (all-put (r .result .job) v i (r .result .job .«fault_count» + 1) (now (a .out)) (c .before .before .before .before .before .put-tables .ensures))
+    let a = c .before .before .before .before .before .before .before .before .before .before .before .before .before .before .before .before .before .before .before .before .before .args in let r = c .before .before .before .before .before .before .before .before .before .before .before .before .before .before .before .before .before .before .read in let v = valid (c .before .before .before .before .before .before .before .before .before .before .before) in let i = inside (c .before .before .before .before .before .before .before .before .before .before .before) in
+    tables-done (now (a .bytes)) (now (a .out)) (r .result .job) (told-done (r .result) (reading (now (a .bytes))) (r .ensures) (c .before .before .before .before .before .before .before .before .before .before .before .before .before .before .before .before .enum-told .given .1)) _ (c .counts-of .ensures) (sized (c .before .before .before .before .before .before .before .before .before .before .before)) (c .before .before .before .before .before .before .before .before .before .if1 .left)
+    (all-put (r .result .job) v i (r .result .job .«fault_count» + 1) (now (a .out)) (c .before .before .before .before .put-tables .ensures))
 
 pub tables-spec : {M : Type 1} → statement M
 tables-spec =
@@ -133,7 +130,6 @@ tables-spec =
     array-share-prefix-lines
     slice-aggregate-put-tables-2
     put-tables-requires
-    cast-t14
-    cast-t13
+    counts-of-requires
     same-length
     returns-3)

@@ -3,7 +3,7 @@ use mathlib.Core.Path.{_≡_, sym, _∙_}
 use native.Mathlib.Omega.{arith}
 use borrow.Author.Needs.{needs}
 use lib.ListN.{length-map, length}
-use Rattle.job.specs.Layout.{maxGates, maxOutputs, maxFaults, inputCountBits, gateCountBits, gateKindBits, lineBits, outputCountBits, faultCountBits, faultKindBits}
+use Rattle.job.specs.Layout.{maxGates, maxOutputs, maxFaults, inputCountBits, gateCountBits, gateKindBits, lineBits, outputCountBits, faultCountBits, faultKindBits, partBits}
 use Rattle.writing.proofs.Entries.{bytes-jobBits}
 use Rattle.writing.proofs.job_bytes.Statement.{statement}
 use Rattle.writing.proofs.job_bytes.Tie as tie
@@ -28,6 +28,9 @@ mul-fault-bits c = search needs
 
 add-fault-bits : tie.Need-add-fault-bits
 add-fault-bits c = search needs
+
+add-fault-bits-2 : tie.Need-add-fault-bits-2
+add-fault-bits-2 c = search needs
 
 add-result : tie.Need-add-result
 add-result c = search needs
@@ -60,7 +63,7 @@ add-result-7 : tie.Need-add-result-7
 add-result-7 c = search needs
 
 returns : tie.Need-returns
-unfolding maxGates maxOutputs maxFaults inputCountBits gateCountBits gateKindBits lineBits outputCountBits faultCountBits faultKindBits
+unfolding maxGates maxOutputs maxFaults inputCountBits gateCountBits gateKindBits lineBits outputCountBits faultCountBits faultKindBits partBits
 returns c =
     let job = c .before .before .before .args .job in
     let gates : length (job .gates) ≡ maxGates = sym (length-map (job .gates) _) ∙ c .before .before .before .good .0 .1 .1 .1 .1 .0 .1 .0 .1 in
@@ -79,6 +82,7 @@ job-bytes-spec =
     add-gate-bits
     mul-fault-bits
     add-fault-bits
+    add-fault-bits-2
     add-result
     mul-result
     add-result-2

@@ -5,12 +5,14 @@ use native.Mathlib.Omega.{arith}
 use borrow.Author.Needs.{needs, zero≤}
 use lib.ListN.{length, take, length-map}
 use lib.Dec.{lit≤}
-use Rattle.job.specs.Record.{unusedFault}
-use Rattle.job.specs.Layout.{maxFaults, faultKindBits}
+use Rattle.bits.specs.Bits.{bitsOf}
+use Rattle.job.specs.Record.{partAt, unusedFault}
+use Rattle.job.specs.Layout.{maxFaults, faultKindBits, partBits}
 use Rattle.writing.specs.Writing.{faultBits, allBits}
 use Rattle.writing.specs.Pen.{Puts}
-use Rattle.writing.proofs.Widths.{fault-fits, fits-same}
-use Rattle.writing.proofs.Entries.{entry-same, entries-none, entries-ready, entries-next, entries-done}
+use Rattle.writing.proofs.Widths.{fault-fits, part-fits, fits-same}
+use Rattle.writing.proofs.PutBits.{puts-then, ready-front, ready-after}
+use Rattle.writing.proofs.Entries.{fault-same, entries-none, entries-ready, entries-next, entries-done}
 use Rattle.writing.proofs.put_faults.Statement.{statement}
 use Rattle.writing.proofs.put_faults.Tie as tie
 
@@ -55,29 +57,49 @@ put-entry-requires c κs =
     let at = c .before .before .before .before .before .before in
     let inside = c .before .before .before .before .before .loop-test .taken in
     let long : length (start .args .t3 .faults) ≡ maxFaults = faults-long start in
-    let few = start .pre .0 .faults-few in (
-      entries-ready faultBits unusedFault (start .args .t3 .faults) (at .loop .i) (at .loop .inv .1) (entry-same faultKindBits (c .before .before .kind .ensures) (c .before .first .ensures) (c .second .ensures)) (start .args .t3 .«fault_count») inside (omega arith) (start .pre .1),
+    let few = start .pre .0 .faults-few in
+    let same = fault-same (partAt (start .args .t3) (at .loop .i)) (c .before .before .kind .ensures) (c .before .first .ensures) (c .second .ensures) in (
+      ready-front _ (bitsOf partBits (partAt (start .args .t3) (at .loop .i))) (entries-ready faultBits unusedFault (start .args .t3 .faults) (at .loop .i) (at .loop .inv .1) same (start .args .t3 .«fault_count») inside (omega arith) (start .pre .1)),
       lit≤ tt,
       fits-same (c .before .before .kind .ensures) (c .before .first .ensures) (c .second .ensures) (fault-fits (start .pre .0) (at .loop .i) inside),
     )
 
+cast-put-field : tie.Need-cast-put-field Inv-loop μ-loop
+cast-put-field c = search needs
+
+put-field-requires : tie.Need-put-field-requires Inv-loop μ-loop
+unfolding maxFaults faultKindBits partBits
+put-field-requires c κs =
+    let start = c .before .before .before .before .before .before .before .before .before .before .before .before .before in
+    let at = c .before .before .before .before .before .before .before .before .before .before .before in
+    let inside = c .before .before .before .before .before .before .before .before .before .before .loop-test .taken in
+    let long : length (start .args .t3 .faults) ≡ maxFaults = faults-long start in
+    let few = start .pre .0 .faults-few in
+    let part = partAt (start .args .t3) (at .loop .i) in
+    let same = fault-same part (c .before .before .before .before .before .before .before .kind .ensures) (c .before .before .before .before .before .before .first .ensures) (c .before .before .before .before .before .second .ensures) in (
+      ready-after (bitsOf partBits part) (entries-ready faultBits unusedFault (start .args .t3 .faults) (at .loop .i) (at .loop .inv .1) same (start .args .t3 .«fault_count») inside (omega arith) (start .pre .1)) (c .before .before .before .before .put-entry .ensures),
+      lit≤ tt,
+      part-fits (start .pre .0) (at .loop .i) inside,
+    )
+
 add-i : tie.Need-add-i Inv-loop μ-loop
 unfolding maxFaults
-add-i c = omega (arith, c .before .before .before .before .before .before .before .before .before .before .before .pre .0 .faults-few)
+add-i c = omega (arith, c .before .before .before .before .before .before .before .before .before .before .before .before .before .before .before .before .pre .0 .faults-few)
 
 loop-less : tie.Need-loop-less Inv-loop μ-loop
-loop-less c = omega (arith, c .before .before .before .before .before .before .before .before .loop-test .taken)
+loop-less c = omega (arith, c .before .before .before .before .before .before .before .before .before .before .before .before .before .loop-test .taken)
 
 loop-again : tie.Need-loop-again Inv-loop μ-loop
-unfolding maxFaults faultKindBits
+unfolding maxFaults faultKindBits partBits
 loop-again c =
-    let start = c .before .before .before .before .before .before .before .before .before .before .before in
-    let at = c .before .before .before .before .before .before .before .before .before in
-    let inside = c .before .before .before .before .before .before .before .before .loop-test .taken in
+    let start = c .before .before .before .before .before .before .before .before .before .before .before .before .before .before .before .before in
+    let at = c .before .before .before .before .before .before .before .before .before .before .before .before .before .before in
+    let inside = c .before .before .before .before .before .before .before .before .before .before .before .before .before .loop-test .taken in
     let long : length (start .args .t3 .faults) ≡ maxFaults = faults-long start in
-    let few = start .pre .0 .faults-few in (
+    let few = start .pre .0 .faults-few in
+    let same = fault-same (partAt (start .args .t3) (at .loop .i)) (c .before .before .before .before .before .before .before .before .before .before .kind .ensures) (c .before .before .before .before .before .before .before .before .before .first .ensures) (c .before .before .before .before .before .before .before .before .second .ensures) in (
       omega arith,
-      entries-next faultBits unusedFault (start .args .t3 .faults) (at .loop .i) (at .loop .inv .1) (entry-same faultKindBits (c .before .before .before .before .before .kind .ensures) (c .before .before .before .before .first .ensures) (c .before .before .before .second .ensures)) (omega arith) (c .before .before .put-entry .ensures),
+      entries-next faultBits unusedFault (start .args .t3 .faults) (at .loop .i) (at .loop .inv .1) same (omega arith) (puts-then (c .before .before .before .before .before .before .before .put-entry .ensures) (c .before .before .put-field .ensures)),
     )
 
 same-length : tie.Need-same-length Inv-loop μ-loop
@@ -100,6 +122,8 @@ put-faults-spec =
     first-requires
     second-requires
     put-entry-requires
+    cast-put-field
+    put-field-requires
     add-i
     loop-less
     loop-again
