@@ -1,6 +1,6 @@
-// The packed truth tables of a job's circuits (document 01, "Tables"): of one circuit at one output, and of all, with their counts and parts. The job
-// is read, its circuits are worked out in batches (evaluator.rt), and the rows of the output lines are copied to the lent
-// bytes, circuit after circuit, output after output.
+// The packed truth tables of a job's circuits (document 01, "Tables"): of one circuit at one output, and of all, with
+// the job's counts and parts. The job is read, its circuits are worked out in batches (evaluator.rt), and the rows of
+// the output lines are copied to the lent bytes, circuit after circuit, output after output.
 ghost use mathlib.Core.Path.{_≡_};
 ghost use Prim.Native.Nat.{_+_, _*_, _/_, _≤_, _<_};
 ghost use lib.ListN.{length};
