@@ -1,21 +1,13 @@
 -- Where the numbers of rows stand (specs/Matrix.antt, `cell`).
 --
---   cell-within     a row's number at an entry lies within the work
---   cell-inside     so for a row that is there
 --   count-within    a count no greater than a size is within what has that size
 --   place-fits      a place within lent memory fits a machine word
 use Prim.Native.Nat.{ℕ, suc, _+_, _*_, _^_, _≤_, _<_}
-use native.Mathlib.Nat.{mul-le-mul-right, mul-suc, suc-mul, le-trans}
+use native.Mathlib.Nat.{mul-suc}
 use native.Mathlib.Omega.{arith}
 use mathlib.Core.Path.{_≡_}
 use mir.Syntax.{w64}
 use mir.Val.{Fits}
-
-pub cell-inside : (c : ℕ) {width entry room : ℕ} → suc c * width ≤ room → entry < width → c * width + entry < room
-cell-inside c {width} h l = omega (arith, suc-mul c width)
-
-pub cell-within : {width rows c entry room : ℕ} → c < rows → entry < width → rows * width ≤ room → c * width + entry < room
-cell-within {width} {c = c} h l r = cell-inside c (le-trans (mul-le-mul-right width h) r) l
 
 pub count-within : {count places n : ℕ} → places ≡ n → count ≤ n → count ≤ places
 count-within e h = omega arith

@@ -14,19 +14,18 @@
 --   scan-count, scan-few, scan-bounded, scan-room, scan-fits   what putting their entries asks
 --   scan-coded      the entries in the order of looking, each as its number
 use Prim.Native.Nat.{ℕ, zero, suc, _+_, _-_, _*_, _/_, _%_, _^_, _≤_, _<_}
-use native.Mathlib.Nat.{zero-mul, suc-mul, zero-add, le-trans, lt-of-le-of-lt, mul-comm, mul-le-mul, mul-le-mul-right, div-le-self, div-mul-le-self, div-add-mod, mod-eq-of-lt, zero-div, zero-mod}
-use native.Mathlib.Numerals.{add-one}
+use native.Mathlib.Nat.{zero-mul, suc-mul, lt-of-le-of-lt, mul-comm, mul-le-mul, div-le-self, div-mul-le-self, div-add-mod, mod-eq-of-lt, zero-div, zero-mod}
 use native.Mathlib.Omega.{arith}
 use mathlib.Core.Bool.{true}
 use mathlib.Core.Path.{_≡_, refl, sym, ap, ap₂, subst, _∙_}
-use mathlib.Core.List.{List, [], _∷_, _++_, map, map-append, append-nil, append-assoc, List·Memᴰ, List·Memᴰ·head, List·Memᴰ·tail}
+use mathlib.Core.List.{List, [], _∷_, _++_, map, map-append, List·Memᴰ, List·Memᴰ·head, List·Memᴰ·tail}
 use mir.Syntax.{w64}
 use mir.Val.{Fits}
 use borrow.Author.Tests.{lt-ltb}
 use lib.Count.{ones-le}
 use lib.Pow.{pow-mono}
 use lib.ListN.{length, getD, take, drop, length-map, length-append, List·getD-map}
-use lib.Seq.{take-suc, take-all, take-at, length-take-le}
+use lib.Seq.{take-at}
 use Rattle.bits.specs.Blocks.{block}
 use Rattle.bits.specs.Bounds.{allBelow}
 use Rattle.bits.specs.Packed.{tabulate}
@@ -34,7 +33,7 @@ use Rattle.bits.specs.Slices.{splice}
 use Rattle.bits.proofs.Blocks.{block-ext, block-append}
 use Rattle.bits.proofs.Bounds.{members-below}
 use Rattle.bits.proofs.Tests.{and-i}
-use Rattle.bits.proofs.Splice.{length-splice, splice-start}
+use Rattle.bits.proofs.Splice.{splice-start}
 use Rattle.bits.proofs.Packed.{length-tabulate, tabulate-ext, tabulate-list}
 use Rattle.job.specs.Layout.{maxInputs, maxOutputs}
 use Rattle.spectra.specs.Codes.{codeOf, codesOf}

@@ -15,7 +15,7 @@
 --   placed-listed              indices that stand at their places are listed in the order of looking
 --   size-few, size-firsts      the number of indices as the code works it out
 --   listed-length, listed-within             a list that stands in an array is no longer than the array
-use Prim.Native.Nat.{ℕ, zero, suc, _+_, _-_, _*_, _%_, _^_, _≤_, _<_, min}
+use Prim.Native.Nat.{ℕ, zero, suc, _+_, _-_, _^_, _≤_, _<_, min}
 use native.Mathlib.Nat.{not-suc-le-zero, eq-or-lt-of-le, le-of-suc-le-suc, le-refl}
 use native.Mathlib.Numerals.{add-one}
 use native.Mathlib.Omega.{arith}

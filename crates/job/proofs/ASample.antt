@@ -16,7 +16,7 @@
 --   past-parts      64 is
 use Prim.Native.Nat.{ℕ}
 use mathlib.Core.Path.{_≡_, refl}
-use mathlib.Core.Bool.{Bool, true, false}
+use mathlib.Core.Bool.{true, false}
 use mathlib.Core.List.{[], _∷_}
 use lib.ListN.{set}
 use Rattle.bits.specs.Answer.Answer.{gives, refused}
@@ -77,18 +77,6 @@ crowded count output =
       faults = noFaults;
     }
 
-pub count-first : checked (crowded 5 2) ≡ refused 20
-unfolding checked inTurn noneLoose loose depends builtTo maxInputs maxGates maxOutputs maxFaults noGates noOutputs noFaults
-count-first = refl
-
-pub output-first : checked (crowded 1 2) ≡ refused 6
-unfolding checked inTurn noneLoose loose depends builtTo maxInputs maxGates maxOutputs maxFaults noGates noOutputs noFaults
-output-first = refl
-
-pub loose-first : checked (crowded 1 0) ≡ refused 19
-unfolding checked inTurn noneLoose loose depends builtTo maxInputs maxGates maxOutputs maxFaults noGates noOutputs noFaults
-loose-first = refl
-
 -- two inputs, no gate, and an AND bridge of lines a and b with a part
 abbrev bridged : ℕ → ℕ → ℕ → Job
 bridged a b part =
@@ -102,18 +90,24 @@ bridged a b part =
       faults = set noFaults 0 (record { fault = Bridge a b true; part = part });
     }
 
-pub eight-first : checked (bridged 1 0 0) ≡ refused 8
-unfolding checked inTurn faultsChecked noneLoose loose depends builtTo maxInputs maxGates maxOutputs maxFaults maxPart noGates noOutputs noFaults
-eight-first = refl
+pub record FirstRefusals : Type 0 where
+  pub count-first : checked (crowded 5 2) ≡ refused 20
+  pub output-first : checked (crowded 1 2) ≡ refused 6
+  pub loose-first : checked (crowded 1 0) ≡ refused 19
+  pub eight-first : checked (bridged 1 0 0) ≡ refused 8
+  pub no-part : checked (bridged 0 1 0) ≡ refused 21
+  pub last-part : checked (bridged 0 1 63) ≡ gives tt
+  pub past-parts : checked (bridged 0 1 64) ≡ refused 21
 
-pub no-part : checked (bridged 0 1 0) ≡ refused 21
+pub first-refusals : FirstRefusals
 unfolding checked inTurn faultsChecked noneLoose loose depends builtTo maxInputs maxGates maxOutputs maxFaults maxPart noGates noOutputs noFaults
-no-part = refl
-
-pub last-part : checked (bridged 0 1 63) ≡ gives tt
-unfolding checked inTurn faultsChecked noneLoose loose depends builtTo maxInputs maxGates maxOutputs maxFaults maxPart noGates noOutputs noFaults
-last-part = refl
-
-pub past-parts : checked (bridged 0 1 64) ≡ refused 21
-unfolding checked inTurn faultsChecked noneLoose loose depends builtTo maxInputs maxGates maxOutputs maxFaults maxPart noGates noOutputs noFaults
-past-parts = refl
+first-refusals =
+    record {
+      count-first = refl;
+      output-first = refl;
+      loose-first = refl;
+      eight-first = refl;
+      no-part = refl;
+      last-part = refl;
+      past-parts = refl;
+    }

@@ -6,8 +6,7 @@ use native.Mathlib.Omega.{arith}
 use mathlib.Core.Path.{_≡_, refl, _∙_}
 use mathlib.Core.Bool.{Bool, true}
 use borrow.Author.Tests.{le-leb, lt-ltb}
-use lib.Dec.{leb, ltb}
-use Rattle.bits.specs.Answer.{unless}
+use lib.Dec.{leb}
 use Rattle.bits.specs.Answer.Answer.{gives}
 use Rattle.bits.proofs.Answers.{unless-true}
 use Rattle.job.specs.Check.{Valid, checked, inTurn, gateOk, gatesChecked, outputOk, outputsChecked, faultLineOk, faultOrderOk, partOk, faultsChecked}

@@ -9,7 +9,6 @@ use mathlib.Core.Bool.{Bool, true}
 use mathlib.Core.Logic.{⊎-elim}
 use borrow.Author.Tests.{leb-true, ltb-true}
 use lib.Dec.{leb}
-use Rattle.bits.specs.Answer.{unless}
 use Rattle.bits.specs.Answer.Answer.{gives}
 use Rattle.bits.proofs.Answers.{unless-gives, onward-gives}
 use Rattle.bits.proofs.Tests.{and-l, and-r}

@@ -2,9 +2,8 @@
 --
 --   Found  so many bytes as were read are there
 --   Whole  a text was made, and all of it is there
-use Prim.Native.Nat.{ℕ, _≤_}
+use Prim.Native.Nat.{ℕ}
 use mathlib.Core.List.{List}
-use lib.ListN.{length}
 use Rattle.io.specs.Counts.{Counts}
 use Rattle.report.specs.declared.Input.{Input}
 use Rattle.report.specs.declared.Input.the-variants.{Bytes, Unreadable}

@@ -5,7 +5,7 @@
 --   rows-room               the places of tables that pass the checks are a number
 --   spectrum-left           the spectrum of a table is what is left of one row
 --   row-done                memory of its size holds it where no test fails
-use Prim.Native.Nat.{ℕ, _+_, _-_, _*_, _^_, _≤_, _<_}
+use Prim.Native.Nat.{ℕ, _-_, _*_, _^_, _≤_, _<_}
 use native.Mathlib.Nat.{one-mul, le-of-eq, mul-le-mul, lt-of-le-of-lt}
 use native.Mathlib.Omega.{arith}
 use mathlib.Core.Path.{_≡_, refl, sym, ap, ap₂, subst, _∙_}

@@ -1,6 +1,6 @@
 -- `choosing::choose_filled` meets its contract.
 use native.Mathlib.Omega.{arith}
-use mathlib.Core.Path.{sym, ap, _∙_}
+use mathlib.Core.Path.{ap, _∙_}
 use denote.Ref.{now}
 use borrow.Author.Needs.{needs, length-unmapped}
 use Rattle.job.specs.Layout.{maxFaults}

@@ -1,6 +1,6 @@
 -- `choosing::decoded` meets its contract: a number taken apart a turn.
 use Prim.Native.Nat.{ℕ, _-_, _/_, _%_, _^_}
-use native.Mathlib.Nat.{zero-div, zero-mod, lt-of-lt-of-le}
+use native.Mathlib.Nat.{zero-div, zero-mod}
 use native.Mathlib.Omega.{arith}
 use Prim.Native.Nat.{_≤_}
 use mathlib.Core.Path.{_≡_, refl, sym, ap, ap₂, _∙_}
@@ -10,7 +10,7 @@ use lib.ListN.{length, getD, replicate, length-replicate}
 use borrow.Author.Needs.{needs}
 use Rattle.job.proofs.Sizes.{inputs-few}
 use Rattle.bits.specs.Packed.{tabulate}
-use Rattle.bits.proofs.Splice.{Written, written-none, written-length, filled-more, filled-all}
+use Rattle.bits.proofs.Splice.{Written, written-none, filled-more, filled-all}
 use Rattle.chooser.specs.Matrix.{maxSignature}
 use Rattle.choosing.proofs.EntryNumbers.{output-fits, whole-within, index-rest, rest-fits, decoded-map}
 use Rattle.choosing.proofs.decoded.Statement.{statement}

@@ -8,7 +8,6 @@ use borrow.Author.Needs.{needs}
 use lib.ListN.{length, getD, length-map}
 use Rattle.bits.proofs.Splice.{Written, written-none, written-more}
 use Rattle.job.specs.declared.FaultEntry.{FaultEntry}
-use Rattle.tables.specs.declared.Counts.{Counts}
 use Rattle.tables.proofs.Parts.{part-entry, parts-written}
 use Rattle.tables.proofs.counts_of.Statement.{statement}
 use Rattle.tables.proofs.counts_of.Tie as tie
