@@ -54,7 +54,7 @@ use Rattle.chooser.specs.declared.Choice as picked
 use Rattle.bits.proofs.Bounds.{each-same}
 use Rattle.chooser.proofs.Relation.{choice-needed}
 use Rattle.choosing.specs.Choosing.{needed, scanOrder, entriesOf, scanEntries, signatureIn, alikePair, signatureOf, Finding, findingBy, finding, chosenFrom, chosenOf, AtExit, found, atExit, countsIn, verdictNumber, verdictPair}
-use Rattle.choosing.specs.Looking.{marksOf, Filled, unchosen, chosenBy, decodedFrom, chosenFor, scanCodes, chosenIn}
+use Rattle.choosing.specs.Looking.{marksOf, wanted, Filled, unchosen, chosenBy, decodedFrom, chosenFor, scanCodes, chosenIn}
 use Rattle.choosing.specs.declared.Chosen.{Chosen}
 use Rattle.choosing.specs.declared.Purpose.{Purpose}
 use Rattle.choosing.specs.declared.Purpose.the-variants.{Isolating, Detecting}
@@ -115,20 +115,16 @@ module _ (counts : Counts) (work : List ℕ) (enough : Filled counts (length wor
       )
 
   module _ (purpose : Purpose) where
-    -- the pairs that the parts make needed
-    abbrev wanted : ℕ → ℕ → Bool
-    wanted = needed purpose (partIn (counts .parts))
-
     told : (p : Pair) (l : List ℕ) → chosenBy counts (chooser.choiceBy p l .untold) (decodedFrom (2 ^ n) (chooser.choiceBy p l .signature)) ≡ chosenFor p counts l
     told nobody l = refl
     told (pair a b) l = refl
 
     -- the marks of the purpose tell which pairs are needed
     marked : (marks : List ℕ) → length marks ≡ maxRows → marks ≡ marksOf purpose (counts .parts)
-        → chooser.choice work width rows marks (scanCodes counts) ≡ choiceOver work width rows wanted (scanCodes counts)
+        → chooser.choice work width rows marks (scanCodes counts) ≡ choiceOver work width rows (wanted purpose counts) (scanCodes counts)
     marked marks long of =
         let few : rows ≤ maxRows = omega (arith, enough .faults-few, faults-rows) in
-        choice-needed work width rows marks (scanCodes counts) wanted filled-fits (subst (λ (m : ℕ). rows ≤ m) (sym long) few)
+        choice-needed work width rows marks (scanCodes counts) (wanted purpose counts) filled-fits (subst (λ (m : ℕ). rows ≤ m) (sym long) few)
         (λ a b h k. ap (λ (l : List ℕ). differ l a b) of ∙ marks-needed purpose (counts .parts) a b h (omega (arith, enough .faults-few)))
 
     pub filled-answer : (c : picked.Choice) (marks : List ℕ) (count : ℕ) (list : List ℕ) → length marks ≡ maxRows → marks ≡ marksOf purpose (counts .parts)
@@ -141,8 +137,8 @@ module _ (counts : Counts) (work : List ℕ) (enough : Filled counts (length wor
         in
         ap (λ (x : picked.Choice). chosenBy counts (x .untold) (decodedFrom (2 ^ n) (x .signature)))
         (e ∙ ap₂ (λ (x : ℕ) (l : List ℕ). chooser.choice work x rows marks l) wide q ∙ marked marks long of)
-        ∙ told (firstPair rows (λ a b. wanted a b && agree (cell work width) (scanCodes counts) a b))
-        (signature (cell work width) rows wanted (scanCodes counts))
+        ∙ told (firstPair rows (λ a b. wanted purpose counts a b && agree (cell work width) (scanCodes counts) a b))
+        (signature (cell work width) rows (wanted purpose counts) (scanCodes counts))
 
 -- ---- families with the same entries
 
@@ -322,23 +318,19 @@ module _ (purpose : Purpose) (counts : Counts) (s : List ℕ) (kind : Kind) (k :
           (λ e m. coef-at a e (omega arith) m) (λ e m. coef-at b e l m)
           ∙ alike-tables kind k family (table-family-valid counts s (full .given .fits)) (full .given .below) a b
 
-      -- the pairs that the parts make needed
-      abbrev wants : ℕ → ℕ → Bool
-      wants = needed purpose (family .part)
-
       -- the signature over the work has the entries' numbers
-      signed-so : signature coef (counts .faults + 1) wants (scanCodes counts) ≡ codesOf size (signatureIn purpose kind k family)
+      signed-so : signature coef (counts .faults + 1) (wanted purpose counts) (scanCodes counts) ≡ codesOf size (signatureIn purpose kind k family)
       signed-so =
-          signature-named (codeOf size) coef (counts .faults + 1) wants (scanEntries family)
+          signature-named (codeOf size) coef (counts .faults + 1) (wanted purpose counts) (scanEntries family)
           ∙ ap (codesOf size)
-          (signature-same numbered (coefOf kind k family) (counts .faults + 1) wants wants (scanEntries family)
+          (signature-same numbered (coefOf kind k family) (counts .faults + 1) (wanted purpose counts) (wanted purpose counts) (scanEntries family)
           (λ c e h m. coef-at c e h m) (λ a b h l. refl))
 
-      paired-so : firstPair (counts .faults + 1) (λ a b. wants a b && agree coef (scanCodes counts) a b) ≡ alikePair purpose family
+      paired-so : firstPair (counts .faults + 1) (λ a b. wanted purpose counts a b && agree coef (scanCodes counts) a b) ≡ alikePair purpose family
       paired-so =
-          firstPair-same (counts .faults + 1) (λ a b. wants a b && agree coef (scanCodes counts) a b)
-          (λ a b. wants a b && sameTables family a b)
-          (λ a b h l. ap (λ (t : Bool). wants a b && t) (agree-tables a b h l))
+          firstPair-same (counts .faults + 1) (λ a b. wanted purpose counts a b && agree coef (scanCodes counts) a b)
+          (λ a b. wanted purpose counts a b && sameTables family a b)
+          (λ a b h l. ap (λ (t : Bool). wanted purpose counts a b && t) (agree-tables a b h l))
 
       pub chosen-filled : {c : Chosen} → c ≡ chosenIn purpose counts (cell after (counts .outputs * size)) → exited c after ≡ atExit counts answer work
       unfolding coef

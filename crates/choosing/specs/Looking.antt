@@ -11,13 +11,14 @@
 --   Listed      a list stands at the start of an array, and so many places are taken
 --   Filled      the counts are a job's, and its spectra lie within the work
 --   marksOf     the circuits' marks: their parts, or whether each is a faulty one
+--   wanted      the pairs of counted circuits that a purpose needs told apart
 --   chosenBy    the answer that the method's choice gives
 --   decodedOf   the entries of a signature whose numbers are taken apart
 --   scanCodes   the entries in the order of looking, each as one number
 --   chosenIn    the answer over any coefficients of the counted circuits, by an entry's number
 use Prim.Native.Nat.{ℕ, zero, suc, _+_, _*_, _/_, _%_, _^_, _≤_, _<_}
 use mathlib.Core.Path.{_≡_}
-use mathlib.Core.Bool.{_&&_}
+use mathlib.Core.Bool.{Bool, _&&_}
 use mathlib.Core.List.{List, [], _∷_, map}
 use lib.Count.{ones}
 use lib.Dec.{eqb}
@@ -89,6 +90,9 @@ abbrev pub marksOf : Purpose → List ℕ → List ℕ
 marksOf Isolating parts = parts
 marksOf Detecting parts = 0 ∷ replicate maxFaults 1
 
+abbrev pub wanted : Purpose → Counts → ℕ → ℕ → Bool
+wanted purpose counts = needed purpose (partIn (counts .parts))
+
 abbrev pub unchosen : Verdict → Chosen
 unchosen verdict = record { verdict = verdict; counts = noCounts; signature = signatureOf [] }
 
@@ -115,5 +119,5 @@ scanCodes counts = codesOf (2 ^ (counts .inputs)) (entriesOf (counts .outputs) (
 
 abbrev pub chosenIn : Purpose → Counts → (ℕ → ℕ → ℕ) → Chosen
 chosenIn purpose counts coef =
-    chosenFor (firstPair (counts .faults + 1) (λ a b. needed purpose (partIn (counts .parts)) a b && agree coef (scanCodes counts) a b)) counts
-    (signature coef (counts .faults + 1) (needed purpose (partIn (counts .parts))) (scanCodes counts))
+    chosenFor (firstPair (counts .faults + 1) (λ a b. wanted purpose counts a b && agree coef (scanCodes counts) a b)) counts
+    (signature coef (counts .faults + 1) (wanted purpose counts) (scanCodes counts))

@@ -21,7 +21,7 @@ use mathlib.Core.List.{[], _∷_}
 use lib.ListN.{set}
 use Rattle.bits.specs.Answer.Answer.{gives, refused}
 use Rattle.bits.specs.Building.{builtTo}
-use Rattle.job.specs.Check.{checked, inTurn, faultsChecked}
+use Rattle.job.specs.Check.{checked, inTurn}
 use Rattle.job.specs.Dependence.{depends, loose, noneLoose}
 use Rattle.job.specs.Layout.{maxInputs, maxGates, maxOutputs, maxFaults, maxPart}
 use Rattle.job.specs.Record.{noGates, noOutputs, noFaults}
@@ -100,7 +100,7 @@ pub record FirstRefusals : Type 0 where
   pub past-parts : checked (bridged 0 1 64) ≡ refused 21
 
 pub first-refusals : FirstRefusals
-unfolding checked inTurn faultsChecked noneLoose loose depends builtTo maxInputs maxGates maxOutputs maxFaults maxPart noGates noOutputs noFaults
+unfolding checked inTurn noneLoose loose depends builtTo maxInputs maxGates maxOutputs maxFaults maxPart noGates noOutputs noFaults
 first-refusals =
     record {
       count-first = refl;

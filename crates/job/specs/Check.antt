@@ -2,7 +2,8 @@
 -- writing share them. Test 19 is in Dependence.antt.
 --
 --   inputsOk, .., partOk              the tests 2, 3, 4, 20, 6, 18, 7, 8, 21
---   inTurn                            one test of each of so many entries
+--   inTurn                            each of so many entries judged, one after the other
+--   faultJudged                       the tests of one fault
 --   checked                           the first refusal of a record, in the order of writing
 --   Valid                             what holds of a record that is not refused
 use Prim.Native.Nat.{ℕ, zero, suc, _+_, _≤_, _<_}
@@ -57,26 +58,29 @@ faultOrderOk (Bridge a b is-and) = ltb a b
 abbrev pub partOk : ℕ → Bool
 partOk part = leb 1 part && leb part maxPart
 
--- a test of each entry, with its number: so many entries from entry i on
-unfoldable pub inTurn : (ℕ → Bool) → ℕ → ℕ → ℕ → Answer (Unit {0})
-inTurn ok k zero i = gives tt
-inTurn ok k (suc left) i = unless (ok i) k (inTurn ok k left (suc i))
+-- so many entries from entry i on, each judged in turn
+unfoldable pub inTurn : (ℕ → Answer (Unit {0})) → ℕ → ℕ → Answer (Unit {0})
+inTurn judged zero i = gives tt
+inTurn judged (suc left) i = onward (judged i) (λ _. inTurn judged left (suc i))
 
 -- "4 per gate in turn"
 abbrev pub gatesChecked : Job → ℕ → ℕ → Answer (Unit {0})
-gatesChecked j = inTurn (λ q. gateOk (j .inputs + q) (gateAt j q)) 4
+gatesChecked j = inTurn (λ q. unless (gateOk (j .inputs + q) (gateAt j q)) 4 (gives tt))
 
 -- "each output line in 7 bits, each checked by 6"
 abbrev pub outputsChecked : Job → ℕ → ℕ → Answer (Unit {0})
-outputsChecked j = inTurn (λ o. outputOk (lines j) (outputAt j o)) 6
+outputsChecked j = inTurn (λ o. unless (outputOk (lines j) (outputAt j o)) 6 (gives tt))
 
--- "7 and 8 per fault in turn"; 21 "checked after 8": so many faults from fault i on
-unfoldable pub faultsChecked : Job → ℕ → ℕ → Answer (Unit {0})
-faultsChecked j zero i = gives tt
-faultsChecked j (suc left) i =
+-- 7; 8; 21 "checked after 8"
+abbrev pub faultJudged : Job → ℕ → Answer (Unit {0})
+faultJudged j i =
     unless (faultLineOk (j .inputs) (lines j) (faultAt j i)) 7
     (unless (faultOrderOk (faultAt j i)) 8
-    (unless (partOk (partAt j i)) 21 (faultsChecked j left (suc i))))
+    (unless (partOk (partAt j i)) 21 (gives tt)))
+
+-- "7 and 8 per fault in turn"
+abbrev pub faultsChecked : Job → ℕ → ℕ → Answer (Unit {0})
+faultsChecked j = inTurn (faultJudged j)
 
 -- "Writing a record checks 2, 3, 4 per gate in turn, 6, then 18 .., then 7 and 8 per fault in turn"; 20 "in writing .. before 6"; 19 "checked after 6,
 -- before the fault count; writing has it at the same place"

@@ -7,6 +7,7 @@ ghost use mathlib.Core.List.{[]};
 ghost use Prim.Native.Nat.{_≤_, _<_, _^_};
 ghost use lib.ListN.{length, getD, take};
 ghost use Rattle.bits.specs.Answer.{outcome, unless, onward, leaves};
+ghost use Rattle.bits.specs.Answer.Answer.{gives};
 ghost use Rattle.bits.specs.Bits.{bitsOf, bytesOf};
 ghost use Rattle.job.specs.Check.{inTurn, outputCountOk, outputOk, faultCountOk, faultOrderOk, gatesChecked, outputsChecked, faultsChecked, checked, Valid};
 ghost use Rattle.job.specs.Dependence.{noLoose};
@@ -118,7 +119,7 @@ fn check_behind_gates(job: Job) -> Outcome
 
 // Refusal 6, output by output, of a circuit with so many lines.
 fn check_outputs(outputs: &[u8], lines: usize) -> Outcome
-    ensures { λ r. ⌜ outcome r ≡ inTurn (λ o. outputOk lines (getD (now (outputs .entry)) o 0)) 6 (length (now (outputs .entry))) 0 ⌝ }
+    ensures { λ r. ⌜ outcome r ≡ inTurn (λ o. unless (outputOk lines (getD (now (outputs .entry)) o 0)) 6 (gives tt)) (length (now (outputs .entry))) 0 ⌝ }
 {
     let mut o = 0;
     while o < outputs.len() {

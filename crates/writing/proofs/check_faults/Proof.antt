@@ -6,8 +6,8 @@ use native.Mathlib.Nat.{sub-zero}
 use borrow.Author.Tests.{not-true, not-false}
 use borrow.Author.Needs.{needs, zero≤}
 use Rattle.job.specs.Layout.{maxFaults}
-use Rattle.job.specs.Check.{faultsChecked}
-use Rattle.writing.proofs.Checks.{faults-line, faults-order, faults-part, faults-next, faults-end}
+use Rattle.job.specs.Check.{faultJudged, faultsChecked}
+use Rattle.writing.proofs.Checks.{turn-end, turn-stop, turn-next, fault-line, fault-order, fault-part, fault-passed}
 use Rattle.writing.proofs.check_faults.Statement.{statement}
 use Rattle.writing.proofs.check_faults.Tie as tie
 
@@ -47,7 +47,7 @@ returns : tie.Need-returns Inv-loop μ-loop
 returns c =
     let job = c .before .before .before .before .before .args .t1 in
     let at = c .before .before .before .before in
-    sym (at .loop .inv .1 ∙ faults-line job (job .«fault_count») (at .loop .i) (c .before .before .before .loop-test .taken) (sym (c .before .fault-line-ok .ensures) ∙ not-true _ (c .if1 .taken)))
+    sym (at .loop .inv .1 ∙ turn-stop (faultJudged job) (job .«fault_count») (at .loop .i) (c .before .before .before .loop-test .taken) (fault-line job (at .loop .i) (sym (c .before .fault-line-ok .ensures) ∙ not-true _ (c .if1 .taken))))
 
 order-ok-requires : tie.Need-order-ok-requires Inv-loop μ-loop
 order-ok-requires c κs = tt
@@ -56,7 +56,7 @@ returns-2 : tie.Need-returns-2 Inv-loop μ-loop
 returns-2 c =
     let job = c .before .before .before .before .before .before .before .args .t1 in
     let at = c .before .before .before .before .before .before in
-    sym (at .loop .inv .1 ∙ faults-order job (job .«fault_count») (at .loop .i) (c .before .before .before .before .before .loop-test .taken) (sym (c .before .before .before .fault-line-ok .ensures) ∙ not-false _ (c .before .before .if1 .left)) (sym (c .before .order-ok .ensures) ∙ not-true _ (c .if2 .taken)))
+    sym (at .loop .inv .1 ∙ turn-stop (faultJudged job) (job .«fault_count») (at .loop .i) (c .before .before .before .before .before .loop-test .taken) (fault-order job (at .loop .i) (sym (c .before .before .before .fault-line-ok .ensures) ∙ not-false _ (c .before .before .if1 .left)) (sym (c .before .order-ok .ensures) ∙ not-true _ (c .if2 .taken))))
 
 cast-part-ok : tie.Need-cast-part-ok Inv-loop μ-loop
 cast-part-ok c = search needs
@@ -70,7 +70,7 @@ returns-3 c =
     let at = c .before .before .before .before .before .before .before .before .before in
     let line = sym (c .before .before .before .before .before .before .fault-line-ok .ensures) ∙ not-false _ (c .before .before .before .before .before .if1 .left) in
     let order = sym (c .before .before .before .before .order-ok .ensures) ∙ not-false _ (c .before .before .before .if2 .left) in
-    sym (at .loop .inv .1 ∙ faults-part job (job .«fault_count») (at .loop .i) (c .before .before .before .before .before .before .before .before .loop-test .taken) line order (sym (c .before .part-ok .ensures) ∙ not-true _ (c .if3 .taken)))
+    sym (at .loop .inv .1 ∙ turn-stop (faultJudged job) (job .«fault_count») (at .loop .i) (c .before .before .before .before .before .before .before .before .loop-test .taken) (fault-part job (at .loop .i) line order (sym (c .before .part-ok .ensures) ∙ not-true _ (c .if3 .taken))))
 
 add-i : tie.Need-add-i Inv-loop μ-loop
 unfolding maxFaults
@@ -83,10 +83,10 @@ loop-again : tie.Need-loop-again Inv-loop μ-loop
 loop-again c =
     let job = c .before .before .before .before .before .before .before .before .before .before .args .t1 in
     let at = c .before .before .before .before .before .before .before .before .before in
-    (omega arith, at .loop .inv .1 ∙ faults-next job (job .«fault_count») (at .loop .i) (c .before .before .before .before .before .before .before .before .loop-test .taken) (sym (c .before .before .before .before .before .before .fault-line-ok .ensures) ∙ not-false _ (c .before .before .before .before .before .if1 .left)) (sym (c .before .before .before .before .order-ok .ensures) ∙ not-false _ (c .before .before .before .if2 .left)) (sym (c .before .part-ok .ensures) ∙ not-false _ (c .if3 .left)))
+    (omega arith, at .loop .inv .1 ∙ turn-next (faultJudged job) (job .«fault_count») (at .loop .i) (c .before .before .before .before .before .before .before .before .loop-test .taken) (fault-passed job (at .loop .i) (sym (c .before .before .before .before .before .before .fault-line-ok .ensures) ∙ not-false _ (c .before .before .before .before .before .if1 .left)) (sym (c .before .before .before .before .order-ok .ensures) ∙ not-false _ (c .before .before .before .if2 .left)) (sym (c .before .part-ok .ensures) ∙ not-false _ (c .if3 .left))))
 
 returns-4 : tie.Need-returns-4 Inv-loop μ-loop
-returns-4 c = sym (c .before .loop .inv .1 ∙ faults-end (c .before .before .args .t1) (c .before .before .args .t1 .«fault_count») (c .before .loop .i) (c .loop-test .left))
+returns-4 c = sym (c .before .loop .inv .1 ∙ turn-end _ (c .before .before .args .t1 .«fault_count») (c .before .loop .i) (c .loop-test .left))
 
 pub check-faults-spec : {M : Type 1} → statement M
 check-faults-spec =

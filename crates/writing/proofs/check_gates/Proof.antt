@@ -6,7 +6,7 @@ use native.Mathlib.Nat.{sub-zero}
 use borrow.Author.Needs.{needs, zero≤}
 use Rattle.job.specs.Layout.{maxGates}
 use Rattle.job.specs.Check.{gatesChecked}
-use Rattle.writing.proofs.Checks.{turn-end, gates-first, gates-second, gates-next}
+use Rattle.writing.proofs.Checks.{turn-end, turn-stop, turn-next, gate-first, gate-second, gate-passed}
 use Rattle.writing.proofs.check_gates.Statement.{statement}
 use Rattle.writing.proofs.check_gates.Tie as tie
 
@@ -44,7 +44,7 @@ returns : tie.Need-returns Inv-loop μ-loop
 returns c =
     let job = c .before .before .before .before .before .args .t1 in
     let at = c .before .before .before .before in
-    sym (at .loop .inv .1 ∙ gates-first job (job .«gate_count») (at .loop .q) (c .before .before .before .loop-test .taken) (c .before .first .ensures) (c .if1 .taken))
+    sym (at .loop .inv .1 ∙ turn-stop _ (job .«gate_count») (at .loop .q) (c .before .before .before .loop-test .taken) (gate-first job (at .loop .q) (c .before .first .ensures) (c .if1 .taken)))
 
 add-if2 : tie.Need-add-if2 Inv-loop μ-loop
 unfolding maxGates
@@ -57,7 +57,7 @@ returns-2 : tie.Need-returns-2 Inv-loop μ-loop
 returns-2 c =
     let job = c .before .before .before .before .before .before .before .args .t1 in
     let at = c .before .before .before .before .before .before in
-    sym (at .loop .inv .1 ∙ gates-second job (job .«gate_count») (at .loop .q) (c .before .before .before .before .before .loop-test .taken) (c .before .before .before .first .ensures) (c .before .second .ensures) (c .before .before .if1 .left) (c .if2 .taken))
+    sym (at .loop .inv .1 ∙ turn-stop _ (job .«gate_count») (at .loop .q) (c .before .before .before .before .before .loop-test .taken) (gate-second job (at .loop .q) (c .before .before .before .first .ensures) (c .before .second .ensures) (c .before .before .if1 .left) (c .if2 .taken)))
 
 add-q : tie.Need-add-q Inv-loop μ-loop
 unfolding maxGates
@@ -70,10 +70,10 @@ loop-again : tie.Need-loop-again Inv-loop μ-loop
 loop-again c =
     let job = c .before .before .before .before .before .before .before .args .t1 in
     let at = c .before .before .before .before .before .before in
-    (omega arith, at .loop .inv .1 ∙ gates-next job (job .«gate_count») (at .loop .q) (c .before .before .before .before .before .loop-test .taken) (c .before .before .before .first .ensures) (c .before .second .ensures) (c .before .before .if1 .left) (c .if2 .left))
+    (omega arith, at .loop .inv .1 ∙ turn-next _ (job .«gate_count») (at .loop .q) (c .before .before .before .before .before .loop-test .taken) (gate-passed job (at .loop .q) (c .before .before .before .first .ensures) (c .before .second .ensures) (c .before .before .if1 .left) (c .if2 .left)))
 
 returns-3 : tie.Need-returns-3 Inv-loop μ-loop
-returns-3 c = sym (c .before .loop .inv .1 ∙ turn-end _ 4 (c .before .before .args .t1 .«gate_count») (c .before .loop .q) (c .loop-test .left))
+returns-3 c = sym (c .before .loop .inv .1 ∙ turn-end _ (c .before .before .args .t1 .«gate_count») (c .before .loop .q) (c .loop-test .left))
 
 pub check-gates-spec : {M : Type 1} → statement M
 check-gates-spec =
