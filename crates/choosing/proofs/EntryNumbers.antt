@@ -21,7 +21,6 @@ use mathlib.Core.Path.{_≡_, refl, sym, ap, ap₂, subst, _∙_}
 use mathlib.Core.List.{List, [], _∷_, _++_, map, map-append, List·Memᴰ, List·Memᴰ·head, List·Memᴰ·tail}
 use mir.Syntax.{w64}
 use mir.Val.{Fits}
-use borrow.Author.Tests.{lt-ltb}
 use lib.Count.{ones-le}
 use lib.Pow.{pow-mono}
 use lib.ListN.{length, getD, take, drop, length-map, length-append, List·getD-map}
@@ -32,13 +31,12 @@ use Rattle.bits.specs.Packed.{tabulate}
 use Rattle.bits.specs.Slices.{splice}
 use Rattle.bits.proofs.Blocks.{block-ext, block-append}
 use Rattle.bits.proofs.Bounds.{members-below}
-use Rattle.bits.proofs.Tests.{and-i}
 use Rattle.bits.proofs.Splice.{splice-start}
 use Rattle.bits.proofs.Packed.{length-tabulate, tabulate-ext, tabulate-list}
 use Rattle.job.specs.Layout.{maxInputs, maxOutputs}
 use Rattle.spectra.specs.Codes.{codeOf, codesOf}
 use Rattle.spectra.specs.Listed.{Entry}
-use Rattle.spectra.proofs.Codes.{code-below, code-index, code-output}
+use Rattle.spectra.proofs.Codes.{code-below, code-index, code-output, entries-ok}
 use Rattle.chooser.specs.Matrix as chooser
 use Rattle.chooser.specs.Matrix.{maxSignature, zeros}
 use Rattle.choosing.specs.Choosing.{scanOrder, outputsAt, entriesOf, signatureOf}
@@ -118,11 +116,7 @@ decoded-map f l z =
 -- entries whose indices lie below a size
 pub codes-within : (size outputs : ℕ) (l : List Entry) → ((e : Entry) → List·Memᴰ e l → (e .index < size) × (e .output < outputs))
     → allBelow (outputs * size) (codesOf size l) ≡ true
-unfolding allBelow
-codes-within size outputs [] h = refl
-codes-within size outputs (e ∷ l) h =
-    let r = h e (List·Memᴰ·head refl) in
-    and-i (lt-ltb (codeOf size e) (outputs * size) (code-below size outputs e (r .0) (r .1))) (codes-within size outputs l (λ x m. h x (List·Memᴰ·tail m)))
+codes-within size outputs l h = entries-ok (outputs * size) (codeOf size) l (λ e m. let r = h e m in code-below size outputs e (r .0) (r .1))
 
 map-zeros : (f : ℕ → ℕ) → f 0 ≡ 0 → (n : ℕ) → map f (zeros n) ≡ zeros n
 unfolding zeros

@@ -1,14 +1,13 @@
 -- What choosing and locating come to where nothing is refused (Rattle.choosing, specs/Choosing.antt; Rattle.locating, specs/Locating.antt).
 --
 --   signature-returned   the entries of a signature, as many as it counts, are the list that it stands for
---   entries-ok           numbers of entries that are below a bound are not refused
---   lengths-ok           nor are a list's indices and outputs beside as many readings
+--   lengths-ok           a list's indices and outputs are not refused beside as many readings
 --   chosen-opened        what choosing finds and fills
 --   located-opened       locating's answer and fills
-use Prim.Native.Nat.{ℕ, _^_, _≤_, _<_}
-use mathlib.Core.Path.{_≡_, refl, ap, ap₂, _∙_}
+use Prim.Native.Nat.{ℕ, _^_, _≤_}
+use mathlib.Core.Path.{_≡_, ap, ap₂, _∙_}
 use mathlib.Core.Bool.{true}
-use mathlib.Core.List.{List, [], _∷_, map, List·Memᴰ, List·Memᴰ·head, List·Memᴰ·tail}
+use mathlib.Core.List.{List}
 use borrow.Author.Tests.{lt-ltb, le-leb, eq-eqb}
 use lib.ListN.{length, length-map}
 use lib.Seq.{take-at}
@@ -18,7 +17,7 @@ use Rattle.bits.proofs.Tests.{and-i}
 use Rattle.tables.specs.Family.{Family}
 use Rattle.spectra.specs.Listed.{Entry, familySpectra, places, indicesOf, outputsOf, entriesAt}
 use Rattle.spectra.specs.declared.Kind.{Kind}
-use Rattle.spectra.proofs.Codes.{entries-back}
+use Rattle.spectra.proofs.Codes.{entries-back, entries-ok}
 use Rattle.choosing.specs.Choosing.{signatureOf, finding, chosenFrom}
 use Rattle.choosing.specs.declared.Purpose.{Purpose}
 use Rattle.locating.specs.Locating.{agreeing, location, lengthsOk, preparedBy, locatedFrom}
@@ -29,11 +28,6 @@ signature-returned l =
     ap₂ entriesAt (take-at (indicesOf l) _ (length l) (length-map l (λ (e : Entry). e .index)))
     (take-at (outputsOf l) _ (length l) (length-map l (λ (e : Entry). e .output)))
     ∙ entries-back l
-
-pub entries-ok : (bound : ℕ) (of : Entry → ℕ) (l : List Entry) → ((e : Entry) → List·Memᴰ e l → of e < bound) → allBelow bound (map of l) ≡ true
-unfolding allBelow
-entries-ok bound of [] h = refl
-entries-ok bound of (e ∷ l) h = and-i (lt-ltb (of e) bound (h e (List·Memᴰ·head refl))) (entries-ok bound of l (λ x m. h x (List·Memᴰ·tail m)))
 
 pub lengths-ok : (l : List Entry) (numbers : List ℕ) → length l ≡ length numbers → lengthsOk (indicesOf l) (outputsOf l) numbers ≡ true
 lengths-ok l numbers e =

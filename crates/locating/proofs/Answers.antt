@@ -87,20 +87,22 @@ module _ (counts : Counts) (s : List ℕ) (kind : Kind) (k : ℕ) (indices outpu
         subst (λ (x : ℕ). x ≤ length after) (length-familySpectra kind k F ∙ mul-assoc (counts .faults + 1) (counts .outputs) (2 ^ (counts .inputs)))
         (omega (arith, long))
 
-    pub sought-rows : RowsIn counts indices outputs readings (length after)
+    pub sought-rows : RowsIn counts indices outputs (length after) × (length indices ≡ length readings)
     sought-rows =
         let first = eqb (length indices) (length readings) in
         let second = eqb (length outputs) (length readings) in
         let both = sym lengths ∙ w .pairs in
-        record {
-          inputs-few = w .fits .few;
-          faults-few = w .fits .faults-few;
-          enough = room;
-          indexed = eqb-true (length indices) (length readings) (and-l first second both);
-          paired = eqb-true (length outputs) (length readings) (and-r first second both);
-          indices-below = w .indices-below;
-          outputs-below = w .outputs-below;
-        }
+        let indexed = eqb-true (length indices) (length readings) (and-l first second both) in (
+          record {
+            inputs-few = w .fits .few;
+            faults-few = w .fits .faults-few;
+            enough = room;
+            paired = indexed ∙ sym (eqb-true (length outputs) (length readings) (and-r first second both));
+            indices-below = w .indices-below;
+            outputs-below = w .outputs-below;
+          },
+          indexed,
+        )
 
     -- a number of the work is a coefficient
     number-at : (c : ℕ) → c < counts .faults + 1 → (e : Entry) → List·Memᴰ e list

@@ -9,23 +9,20 @@ use lib.ListN.{length, getD}
 use Rattle.spectra.specs.Listed.{entriesAt}
 use Rattle.spectra.specs.Operations.{sameNumbers}
 use Rattle.spectra.proofs.Recovery.{Comparing, comparing-none, comparing-stop, comparing-more, comparing-all}
-use Rattle.locating.specs.Scanning.{numbersAt, Readable}
+use Rattle.locating.specs.Scanning.{numbersAt, Within}
 use Rattle.locating.proofs.Indices.{numbers-at, numbers-length}
 
-module _ (work : List ℕ) {size start : ℕ} {indices outputs readings : List ℕ} (r : Readable size indices outputs readings start (length work)) where
+module _ (work : List ℕ) {size start : ℕ} {indices outputs : List ℕ} (r : Within start size indices outputs (length work)) where
   abbrev numbers : List ℕ
   numbers = numbersAt work start size (entriesAt indices outputs)
 
-  lengths : length indices ≡ length outputs
-  lengths = r .indexed ∙ sym (r .paired)
-
   long : length numbers ≡ length indices
-  long = numbers-length work start size indices outputs lengths
+  long = numbers-length work start size indices outputs (r .paired)
 
-  pub compared-none : Comparing numbers readings 0
-  compared-none = comparing-none (long ∙ r .indexed)
+  pub compared-none : {readings : List ℕ} → length indices ≡ length readings → Comparing numbers readings 0
+  compared-none indexed = comparing-none (long ∙ indexed)
 
-  module _ {i : ℕ} (w : Comparing numbers readings i) where
+  module _ {readings : List ℕ} {i : ℕ} (w : Comparing numbers readings i) where
     -- number i, as the code reads it
     abbrev number : ℕ
     number = getD work (start + (getD outputs i 0 * size + getD indices i 0)) 0
@@ -34,10 +31,10 @@ module _ (work : List ℕ) {size start : ℕ} {indices outputs readings : List �
     inside h = subst (λ (x : ℕ). i < x) (sym long) h
 
     pub compared-stop : i < length indices → (number ≡ getD readings i 0 → ⊥) → false ≡ sameNumbers numbers readings
-    compared-stop h d = comparing-stop w (inside h) (λ e. d (sym (numbers-at work start size indices outputs lengths i h) ∙ e))
+    compared-stop h d = comparing-stop w (inside h) (λ e. d (sym (numbers-at work start size indices outputs (r .paired) i h) ∙ e))
 
     pub compared-more : i < length indices → number ≡ getD readings i 0 → Comparing numbers readings (i + 1)
-    compared-more h e = comparing-more w (inside h) (numbers-at work start size indices outputs lengths i h ∙ e)
+    compared-more h e = comparing-more w (inside h) (numbers-at work start size indices outputs (r .paired) i h ∙ e)
 
     pub compared-all : length indices ≤ i → true ≡ sameNumbers numbers readings
     compared-all h = comparing-all w (subst (λ (x : ℕ). x ≤ i) (sym long) h)

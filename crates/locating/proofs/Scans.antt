@@ -10,8 +10,8 @@
 --   scanned-lowest, scanned-count             the lowest and the number are small
 --   scanned-joined, scanned-passed            one row more, that agrees or does not
 --   scanned-all                               all rows: the location
---   row-within, row-wide                      a row of the work lies within it, and so is no wider
---   row-readable                              a number of a row of the work for each entry
+--   row-end, row-wide                         a row of the work lies within it, and so is no wider
+--   row-within                                a number of a row of the work for each entry
 --   rows-agree                                what the code reads from rows tells which agree
 use Prim.Native.Nat.{ℕ, zero, suc, _+_, _*_, _^_, _≤_, _<_}
 use native.Mathlib.Nat.{suc-mul, mul-le-mul-right, lt-of-lt-of-le}
@@ -33,7 +33,7 @@ use Rattle.spectra.specs.Listed.{entriesAt}
 use Rattle.spectra.specs.Operations.{sameNumbers}
 use Rattle.locating.specs.Locating.{eachOf, location}
 use Rattle.locating.specs.Locating.Location.{parted, several, nowhere}
-use Rattle.locating.specs.Scanning.{seenOf, joinedTo, locationBy, numbersAt, workAgrees, Readable, RowsIn}
+use Rattle.locating.specs.Scanning.{seenOf, joinedTo, locationBy, numbersAt, workAgrees, Within, RowsIn}
 use Rattle.locating.specs.declared.Agreeing.{Agreeing}
 
 -- ---- agreeing circuits
@@ -165,40 +165,38 @@ module _ {part : ℕ → ℕ} {p : ℕ → Bool} {rows c : ℕ} {seen : Agreeing
 
 -- ---- the rows of the work
 
-module _ {counts : Counts} {indices outputs readings : List ℕ} {room : ℕ} (w : RowsIn counts indices outputs readings room) where
+module _ {counts : Counts} {indices outputs : List ℕ} {room : ℕ} (w : RowsIn counts indices outputs room) where
   abbrev full : ℕ
   full = 2 ^ (counts .inputs)
 
-  readable : {c : ℕ} → c < counts .faults + 1 → Readable full indices outputs readings (c * (counts .outputs * full)) room
-  readable {c} h =
+  within : {c : ℕ} → c < counts .faults + 1 → Within (c * (counts .outputs * full)) full indices outputs room
+  within {c} h =
       record {
-        indexed = w .indexed;
         paired = w .paired;
-        within = λ i l.
+        inside = λ i l.
             lt-of-lt-of-le
             (digits-lt h
-            (digits-lt (entry-below (counts .outputs) outputs i (w .outputs-below) (omega (arith, w .indexed, w .paired)))
-            (entry-below full indices i (w .indices-below) l)))
+            (digits-lt (entry-below (counts .outputs) outputs i (w .outputs-below) (omega (arith, w .paired))) (entry-below full indices i (w .indices-below) l)))
             (w .enough);
       }
 
   module _ {size : ℕ} (e : size ≡ full) where
-    pub row-within : {c : ℕ} → c < counts .faults + 1 → c * (counts .outputs * size) + counts .outputs * size ≤ room
-    row-within {c} h =
+    pub row-end : {c : ℕ} → c < counts .faults + 1 → c * (counts .outputs * size) + counts .outputs * size ≤ room
+    row-end {c} h =
         let m : suc c * (counts .outputs * full) ≤ (counts .faults + 1) * (counts .outputs * full) = mul-le-mul-right (counts .outputs * full) h in
         let s : suc c * (counts .outputs * full) ≡ c * (counts .outputs * full) + counts .outputs * full = suc-mul c (counts .outputs * full) in
         subst (λ (x : ℕ). c * (counts .outputs * x) + counts .outputs * x ≤ room) (sym e) (omega (arith, w .enough))
 
     pub row-wide : counts .outputs * size ≤ room
-    row-wide = let h = row-within {c = 0} (omega arith) in omega (arith, h)
+    row-wide = let h = row-end {c = 0} (omega arith) in omega (arith, h)
 
-    pub row-readable : {c : ℕ} → c < counts .faults + 1 → Readable size indices outputs readings (c * (counts .outputs * size)) room
-    row-readable {c} h = subst (λ (x : ℕ). Readable x indices outputs readings (c * (counts .outputs * x)) room) (sym e) (readable h)
+    pub row-within : {c : ℕ} → c < counts .faults + 1 → Within (c * (counts .outputs * size)) size indices outputs room
+    row-within {c} h = subst (λ (x : ℕ). Within (c * (counts .outputs * x)) x indices outputs room) (sym e) (within h)
 
-    pub rows-agree : (part : ℕ → ℕ) (work : List ℕ) (rows : ℕ)
+    pub rows-agree : (part : ℕ → ℕ) (work readings : List ℕ) (rows : ℕ)
         → gives (location part (passing (λ r. sameNumbers (numbersAt work (r * (counts .outputs * size)) size (entriesAt indices outputs)) readings) rows))
         ≡ gives (location part (passing (workAgrees work counts (entriesAt indices outputs) readings) rows))
-    rows-agree part work rows =
+    rows-agree part work readings rows =
         ap
         (λ (x : ℕ).
         gives (location part (passing (λ r. sameNumbers (numbersAt work (r * (counts .outputs * x)) x (entriesAt indices outputs)) readings) rows)))

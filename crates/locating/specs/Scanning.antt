@@ -6,7 +6,7 @@
 --   numbersAt      the numbers of the work at a list of entries, from a place on
 --   workNumbers    a circuit's numbers at these entries, its row of the work
 --   workAgrees     they agree with readings
---   Readable       a number of the work for each entry, and as many readings
+--   Within         a number of the work for each entry, from a place on
 --   RowsIn         the rows of the counted circuits lie within the work, and the entries within a row
 use Prim.Native.Nat.{ℕ, _+_, _*_, _^_, _≤_, _<_}
 use mathlib.Core.Path.{_≡_}
@@ -47,16 +47,14 @@ workNumbers work counts list c = numbersAt work (c * (counts .outputs * 2 ^ (cou
 abbrev pub workAgrees : List ℕ → Counts → List Entry → List ℕ → ℕ → Bool
 workAgrees work counts list readings c = sameNumbers (workNumbers work counts list c) readings
 
-pub record Readable (size : ℕ) (indices outputs readings : List ℕ) (start room : ℕ) : Type 0 where
-  pub indexed : length indices ≡ length readings
-  pub paired : length outputs ≡ length readings
-  pub within : (i : ℕ) → i < length indices → start + (getD outputs i 0 * size + getD indices i 0) < room
+pub record Within (start size : ℕ) (indices outputs : List ℕ) (room : ℕ) : Type 0 where
+  pub paired : length indices ≡ length outputs
+  pub inside : (i : ℕ) → i < length indices → start + (getD outputs i 0 * size + getD indices i 0) < room
 
-pub record RowsIn (counts : Counts) (indices outputs readings : List ℕ) (room : ℕ) : Type 0 where
+pub record RowsIn (counts : Counts) (indices outputs : List ℕ) (room : ℕ) : Type 0 where
   pub inputs-few : counts .inputs ≤ maxInputs
   pub faults-few : counts .faults ≤ maxFaults
   pub enough : (counts .faults + 1) * (counts .outputs * 2 ^ (counts .inputs)) ≤ room
-  pub indexed : length indices ≡ length readings
-  pub paired : length outputs ≡ length readings
+  pub paired : length indices ≡ length outputs
   pub indices-below : allBelow (2 ^ (counts .inputs)) indices ≡ true
   pub outputs-below : allBelow (counts .outputs) outputs ≡ true

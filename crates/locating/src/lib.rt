@@ -13,7 +13,7 @@ ghost use Rattle.tables.specs.Operations.{partIn};
 ghost use Rattle.spectra.specs.Listed.{entriesAt};
 ghost use Rattle.spectra.specs.Operations.{sameNumbers, fromTables};
 ghost use Rattle.locating.specs.Locating.{preparedBy, lengthsOk, locatedFrom, locatedOf, locatedTold, location};
-ghost use Rattle.locating.specs.Scanning.{joinedTo, locationBy, numbersAt, workAgrees, Readable, RowsIn};
+ghost use Rattle.locating.specs.Scanning.{joinedTo, locationBy, numbersAt, workAgrees, Within, RowsIn};
 use bits::Outcome;
 use bits::Refusal;
 use spectra::Kind;
@@ -45,7 +45,7 @@ fn agrees(
     size: usize,
     start: usize,
 ) -> bool
-    requires { ⌜ Readable size (now indices) (now outputs) (now readings) start (length (now work)) ⌝ }
+    requires { ⌜ Within start size (now indices) (now outputs) (length (now work)) × (length (now indices) ≡ length (now readings)) ⌝ }
     ensures { λ r. ⌜ r ≡ sameNumbers (numbersAt (now (work .entry)) start size (entriesAt (now (indices .entry)) (now (outputs .entry)))) (now (readings .entry)) ⌝ }
 {
     let mut i = 0;
@@ -100,7 +100,7 @@ fn told(seen: Agreeing, parts: &[u8]) -> Located
 
 // Which of the counted circuits, whose rows of the work have N numbers an output, agree with the readings.
 fn scan(work: &[u16], counts: Counts, indices: &[u16], outputs: &[u16], readings: &[u16]) -> Located
-    requires { ⌜ RowsIn counts (now indices) (now outputs) (now readings) (length (now work)) ⌝ }
+    requires { ⌜ RowsIn counts (now indices) (now outputs) (length (now work)) × (length (now indices) ≡ length (now readings)) ⌝ }
     ensures { λ r. ⌜ locatedTold r ≡ gives (location (partIn (counts .parts)) (passing (workAgrees (now (work .entry)) counts (entriesAt (now (indices .entry)) (now (outputs .entry))) (now (readings .entry))) (counts .faults + 1))) ⌝ }
 {
     let size = bits::table_size(counts.inputs);

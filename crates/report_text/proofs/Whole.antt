@@ -11,10 +11,10 @@ use native.Mathlib.Omega.{arith}
 use native.Mathlib.Nat.{zero-add, le-trans, mul-assoc}
 use mathlib.Core.Path.{_≡_, refl, sym, ap, ap₂, subst, _∙_}
 use mathlib.Core.Bool.{Bool, true, false}
-use mathlib.Core.List.{List, _++_, map, List·Memᴰ, Memᴰ·of-map}
+use mathlib.Core.List.{List, _++_}
 use borrow.Author.Tests.{le-leb, lt-leb}
 use lib.Dec.{leb}
-use lib.ListN.{length, getD, drop, length-append, length-map}
+use lib.ListN.{length, drop, length-append, length-map}
 use lib.Seq.{take-at}
 use Rattle.bits.specs.Answer.{Answer, Fills, leaves, unless, onward}
 use Rattle.bits.specs.Answer.Answer.{gives, refused}
@@ -30,11 +30,10 @@ use Rattle.tables.specs.declared.Counts.{Counts}
 use Rattle.spectra.specs.Listed.{Entry, familySpectra, places, indicesOf, outputsOf, entriesAt}
 use Rattle.spectra.specs.Operations.{polarityOk}
 use Rattle.spectra.specs.declared.Kind.the-variants.{Mrm}
-use Rattle.spectra.proofs.Codes.{code-below, entries-back}
+use Rattle.spectra.proofs.Codes.{entries-back, entries-ok}
 use Rattle.spectra.proofs.Families.{length-familySpectra}
 use Rattle.method.specs.Method.{Pair}
 use Rattle.method.specs.Method.Pair.{nobody, pair}
-use Rattle.bits.proofs.Bounds.{members-below, entry-below}
 use Rattle.choosing.specs.Choosing.{Finding, AtExit, signatureIn, signatureOf, alikePair, findingBy, chosenFrom, chosenOf, found, atExit, countsIn, verdictNumber, verdictPair}
 use Rattle.choosing.specs.Choosing.Finding.{chosen, alike}
 use Rattle.choosing.specs.declared.Purpose.the-variants.{Isolating}
@@ -43,7 +42,8 @@ use Rattle.choosing.specs.declared.Verdict.{Verdict}
 use Rattle.choosing.specs.declared.Verdict.the-variants.{Done, Alike, Refused}
 use Rattle.choosing.proofs.Bound.{signature-below}
 use Rattle.choosing.proofs.Sizes.{faults-entries}
-use Rattle.report_text.specs.Putting.{Puts, Room, WorkRows, Printable, workText, indexList, outputList, verdictText}
+use Rattle.locating.specs.Scanning.{RowsIn}
+use Rattle.report_text.specs.Putting.{Puts, Room, Printable, workText, indexList, outputList, verdictText}
 use Rattle.report_text.specs.Text.{refusedLine, findingText, chosenText, reportBy, reportText, workLeft, maxText, reported}
 use Rattle.report_text.specs.declared.Reported.the-variants.{Written, Short}
 use Rattle.report_text.proofs.Lengths.{refused-short, signature-few, job-short, alike-short}
@@ -86,31 +86,21 @@ module _ (j : Job) (v : Valid j) where
   taken : entriesAt (indexList given) (outputList given) ≡ signed
   taken = ap₂ entriesAt indices-taken outputs-taken ∙ entries-back signed
 
-  -- a number of each entry that lies below a bound
-  each-below : (f : Entry → ℕ) (bound : ℕ) → ((e : Entry) → List·Memᴰ e signed → f e < bound) → (i : ℕ) → i < length signed → getD (map f signed) i 0 < bound
-  each-below f bound below i h =
-      let member : (x : ℕ) → List·Memᴰ x (map f signed) → x < bound =
-      λ x m. let r = Memᴰ·of-map f signed m in subst (λ (y : ℕ). y < bound) (r .2) (below (r .0) (r .1)) in
-      entry-below bound (map f signed) i (members-below bound (map f signed) member) (omega (arith, length-map signed f))
-
   module _ (rest : List ℕ) where
     abbrev filled : List ℕ
     filled = familySpectra Mrm 0 F ++ rest
 
-    rows : WorkRows (countsOf j) (indicesOf signed) (outputsOf signed) (length filled)
+    rows : RowsIn (countsOf j) (indicesOf signed) (outputsOf signed) (length filled)
     rows =
-        let indexed = length-map signed (λ (e : Entry). e .index) in
         let long : length (familySpectra Mrm 0 F) ≡ (j .«fault_count» + 1) * (j .«output_count» * 2 ^ (j .inputs)) =
         length-familySpectra Mrm 0 F ∙ mul-assoc (j .«fault_count» + 1) (j .«output_count») (2 ^ (j .inputs)) in
         record {
           inputs-few = v .few;
           faults-few = v .faults-few;
-          rows = omega (arith, length-append (familySpectra Mrm 0 F) rest);
-          paired = indexed ∙ sym (length-map signed (λ (e : Entry). e .output));
-          entries = λ i h.
-              code-below (2 ^ (j .inputs)) (j .«output_count») (record { index = getD (indicesOf signed) i 0; output = getD (outputsOf signed) i 0 })
-              (each-below (λ (e : Entry). e .index) (2 ^ (j .inputs)) (λ e m. signature-below Isolating Mrm 0 F e m .0) i (omega (arith, indexed)))
-              (each-below (λ (e : Entry). e .output) (j .«output_count») (λ e m. signature-below Isolating Mrm 0 F e m .1) i (omega (arith, indexed)));
+          enough = omega (arith, length-append (familySpectra Mrm 0 F) rest);
+          paired = length-map signed (λ (e : Entry). e .index) ∙ sym (length-map signed (λ (e : Entry). e .output));
+          indices-below = entries-ok (2 ^ (j .inputs)) (λ (e : Entry). e .index) signed (λ e m. signature-below Isolating Mrm 0 F e m .0);
+          outputs-below = entries-ok (j .«output_count») (λ (e : Entry). e .output) signed (λ e m. signature-below Isolating Mrm 0 F e m .1);
         }
 
     prints-found : (p : Pair) → alikePair Isolating F ≡ p
@@ -121,8 +111,8 @@ module _ (j : Job) (v : Valid j) where
           short = job-short j v;
           ready = λ _. (
             le-trans (signature-few j v) faults-entries,
-            subst (λ (l : List ℕ). WorkRows (countsOf j) (indexList given) l (length filled)) (sym outputs-taken)
-                (subst (λ (l : List ℕ). WorkRows (countsOf j) l (outputsOf signed) (length filled)) (sym indices-taken) rows),
+            subst (λ (l : List ℕ). RowsIn (countsOf j) (indexList given) l (length filled)) (sym outputs-taken)
+                (subst (λ (l : List ℕ). RowsIn (countsOf j) l (outputsOf signed) (length filled)) (sym indices-taken) rows),
           );
         }
     prints-found (pair a b) e =

@@ -2,16 +2,13 @@
 --
 --   Puts         a text stands from a place on, and all else is as it was; the answer is the place after it
 --   Room         there is room for a text from a place on
---   Within       a number of the work for each listed entry of a row
---   WorkRows     the rows of the counted circuits lie within the work, and the listed entries within a row
 --   workText     the text of a job, its circuits' numbers read off the work
 --   verdictText  the text of a verdict
 --   Printable    it can be printed from the work
-use Prim.Native.Nat.{ℕ, _+_, _*_, _^_, _≤_, _<_}
+use Prim.Native.Nat.{ℕ, _+_, _≤_}
 use mathlib.Core.Path.{_≡_}
 use mathlib.Core.List.{List, _++_}
-use lib.ListN.{length, getD, take}
-use Rattle.job.specs.Layout.{maxInputs, maxFaults}
+use lib.ListN.{length, take}
 use Rattle.bits.specs.Answer.{number}
 use Rattle.bits.specs.Slices.{splice}
 use Rattle.tables.specs.declared.Counts.{Counts}
@@ -20,7 +17,7 @@ use Rattle.spectra.specs.Listed.{Entry, entriesAt}
 use Rattle.choosing.specs.declared.Signature.{Signature}
 use Rattle.choosing.specs.declared.Verdict.{Verdict}
 use Rattle.choosing.specs.declared.Verdict.the-variants.{Done, Alike, Refused}
-use Rattle.locating.specs.Scanning.{workNumbers}
+use Rattle.locating.specs.Scanning.{workNumbers, RowsIn}
 use Rattle.report_text.specs.Text.{countsLine, signatureLine, circuitLines, refusedLine, alikeLine}
 
 pub record Puts (text before : List ℕ) (at : ℕ) (end : ℕ) (after : List ℕ) : Type 0 where
@@ -29,17 +26,6 @@ pub record Puts (text before : List ℕ) (at : ℕ) (end : ℕ) (after : List �
 
 abbrev pub Room : List ℕ → ℕ → List ℕ → Type 0
 Room text at out = at + length text ≤ length out
-
-pub record Within (start size : ℕ) (indices outputs : List ℕ) (room : ℕ) : Type 0 where
-  pub paired : length indices ≡ length outputs
-  pub inside : (i : ℕ) → i < length indices → start + (getD outputs i 0 * size + getD indices i 0) < room
-
-pub record WorkRows (counts : Counts) (indices outputs : List ℕ) (room : ℕ) : Type 0 where
-  pub inputs-few : counts .inputs ≤ maxInputs
-  pub faults-few : counts .faults ≤ maxFaults
-  pub rows : (counts .faults + 1) * (counts .outputs * 2 ^ (counts .inputs)) ≤ room
-  pub paired : length indices ≡ length outputs
-  pub entries : (i : ℕ) → i < length indices → getD outputs i 0 * 2 ^ (counts .inputs) + getD indices i 0 < counts .outputs * 2 ^ (counts .inputs)
 
 abbrev pub workText : Counts → List Entry → List ℕ → List ℕ
 workText counts list work = countsLine counts ++ signatureLine list ++ circuitLines (workNumbers work counts list) (counts .faults + 1)
@@ -58,6 +44,6 @@ verdictText (Refused e) counts signature work = refusedLine (number e)
 -- of a refusal or a pair there is nothing to know
 abbrev pub Printable : Verdict → Counts → Signature → ℕ → Type 0
 Printable Done counts signature room =
-    (signature .count ≤ maxSignature) × WorkRows counts (indexList signature) (outputList signature) room
+    (signature .count ≤ maxSignature) × RowsIn counts (indexList signature) (outputList signature) room
 Printable (Alike a b) counts signature room = Unit {0}
 Printable (Refused e) counts signature room = Unit {0}

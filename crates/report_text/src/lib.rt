@@ -2,13 +2,13 @@
 //
 // Each function puts a piece of text from a place on and answers the place after it. There is room for the longest
 // text, or nothing is written, so that no piece needs a test.
-ghost use Prim.Native.Nat.{_+_, _≤_};
+ghost use Prim.Native.Nat.{_+_, _<_};
 ghost use mathlib.Core.Path.{_≡_};
 ghost use mathlib.Core.List.{_∷_};
 ghost use lib.ListN.{length};
-ghost use Rattle.locating.specs.Scanning.{numbersAt, workNumbers};
+ghost use Rattle.locating.specs.Scanning.{numbersAt, workNumbers, Within, RowsIn};
 ghost use Rattle.spectra.specs.Listed.{entriesAt};
-ghost use Rattle.report_text.specs.Putting.{Puts, Room, Within, WorkRows, Printable, workText, verdictText};
+ghost use Rattle.report_text.specs.Putting.{Puts, Room, Printable, workText, verdictText};
 ghost use Rattle.report_text.specs.Text.{decimal, space, numbersText, entryText, entriesText, countsLine, signatureLine, circuitLine, circuitLines, refusedLine, alikeLine, reported};
 use choosing::Purpose;
 use choosing::Signature;
@@ -141,7 +141,7 @@ fn put_circuit(
     indices: &[u16],
     outputs: &[u16],
 ) -> usize
-    requires { ⌜ WorkRows counts (now indices) (now outputs) (length (now work)) × (c ≤ counts .faults) × Room (circuitLine c (workNumbers (now work) counts (entriesAt (now indices) (now outputs)) c)) at (now out) ⌝ }
+    requires { ⌜ RowsIn counts (now indices) (now outputs) (length (now work)) × (c < counts .faults + 1) × Room (circuitLine c (workNumbers (now work) counts (entriesAt (now indices) (now outputs)) c)) at (now out) ⌝ }
     ensures { λ r. ⌜ Puts (circuitLine c (workNumbers (now (work .entry)) counts (entriesAt (now (indices .entry)) (now (outputs .entry))) c)) (now (out .entry)) at r (now (out .exit)) ⌝ }
 {
     let size = bits::table_size(counts.inputs);
@@ -160,7 +160,7 @@ fn put_circuits(
     indices: &[u16],
     outputs: &[u16],
 ) -> usize
-    requires { ⌜ WorkRows counts (now indices) (now outputs) (length (now work)) × Room (circuitLines (workNumbers (now work) counts (entriesAt (now indices) (now outputs))) (counts .faults + 1)) at (now out) ⌝ }
+    requires { ⌜ RowsIn counts (now indices) (now outputs) (length (now work)) × Room (circuitLines (workNumbers (now work) counts (entriesAt (now indices) (now outputs))) (counts .faults + 1)) at (now out) ⌝ }
     ensures { λ r. ⌜ Puts (circuitLines (workNumbers (now (work .entry)) counts (entriesAt (now (indices .entry)) (now (outputs .entry)))) (counts .faults + 1)) (now (out .entry)) at r (now (out .exit)) ⌝ }
 {
     let circuits = counts.faults + 1;
@@ -175,7 +175,7 @@ fn put_circuits(
 
 // The whole text of a job, at the start.
 fn put_job(out: &mut [u8], counts: Counts, work: &[u16], indices: &[u16], outputs: &[u16]) -> usize
-    requires { ⌜ WorkRows counts (now indices) (now outputs) (length (now work)) × Room (workText counts (entriesAt (now indices) (now outputs)) (now work)) 0 (now out) ⌝ }
+    requires { ⌜ RowsIn counts (now indices) (now outputs) (length (now work)) × Room (workText counts (entriesAt (now indices) (now outputs)) (now work)) 0 (now out) ⌝ }
     ensures { λ r. ⌜ Puts (workText counts (entriesAt (now (indices .entry)) (now (outputs .entry))) (now (work .entry))) (now (out .entry)) 0 r (now (out .exit)) ⌝ }
 {
     let signature_at = put_counts(out, counts);

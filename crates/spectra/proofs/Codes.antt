@@ -6,12 +6,17 @@
 --   entries-back    entries are those that their indices and outputs stand for
 --   length-entries  as many entries as there are indices, where there are as many outputs
 --   entries-get     entry i has index i and output i
+--   entries-ok      numbers of entries, each below a bound, pass its test
 use Prim.Native.Nat.{ℕ, zero, suc, _*_, _/_, _%_, _<_}
 use native.Mathlib.Omega.{arith}
 use mathlib.Core.Path.{_≡_, refl, ap}
-use mathlib.Core.List.{List, [], _∷_}
+use mathlib.Core.Bool.{true}
+use mathlib.Core.List.{List, [], _∷_, map, List·Memᴰ, List·Memᴰ·head, List·Memᴰ·tail}
+use borrow.Author.Tests.{lt-ltb}
 use lib.Arith.{digits-lt, digits-div, digits-mod}
 use lib.ListN.{length, getD}
+use Rattle.bits.specs.Bounds.{allBelow}
+use Rattle.bits.proofs.Tests.{and-i}
 use Rattle.spectra.specs.Codes.{codeOf}
 use Rattle.spectra.specs.Listed.{Entry, indicesOf, outputsOf, entriesAt}
 
@@ -42,3 +47,8 @@ entries-get [] os i h e d = absurd (omega arith)
 entries-get (x ∷ is) [] i h e d = absurd (omega (arith, e))
 entries-get (x ∷ is) (o ∷ os) zero h e d = refl
 entries-get (x ∷ is) (o ∷ os) (suc i) h e d = entries-get is os i (omega arith) (omega (arith, e)) d
+
+pub entries-ok : (bound : ℕ) (of : Entry → ℕ) (l : List Entry) → ((e : Entry) → List·Memᴰ e l → of e < bound) → allBelow bound (map of l) ≡ true
+unfolding allBelow
+entries-ok bound of [] h = refl
+entries-ok bound of (e ∷ l) h = and-i (lt-ltb (of e) bound (h e (List·Memᴰ·head refl))) (entries-ok bound of l (λ x m. h x (List·Memᴰ·tail m)))

@@ -14,7 +14,7 @@ use Rattle.tables.specs.Operations.{partIn}
 use Rattle.spectra.specs.Listed.{entriesAt}
 use Rattle.spectra.specs.Operations.{sameNumbers}
 use Rattle.locating.specs.Scanning.{numbersAt}
-use Rattle.locating.proofs.Scans.{Scanned, scanned-none, scanned-lowest, scanned-count, scanned-joined, scanned-passed, scanned-all, row-within, row-wide, row-readable, rows-agree}
+use Rattle.locating.proofs.Scans.{Scanned, scanned-none, scanned-lowest, scanned-count, scanned-joined, scanned-passed, scanned-all, row-end, row-wide, row-within, rows-agree}
 use Rattle.locating.proofs.scan.Statement.{statement}
 use Rattle.locating.proofs.scan.Tie as tie
 
@@ -29,7 +29,7 @@ table-size-requires c κs = tt
 
 -- the size is the number of coefficients
 sized : (c : tie.After-table-size Inv-loop μ-loop) → c .table-size .result ≡ 2 ^ (c .before .before .before .before .before .args .counts .inputs)
-sized c = table-size-exact (inputs-few (c .before .before .before .before .before .pre .inputs-few)) (c .table-size .ensures)
+sized c = table-size-exact (inputs-few (c .before .before .before .before .before .pre .0 .inputs-few)) (c .table-size .ensures)
 
 -- what owning the counts tells of their array
 parts-long : (c : tie.Start Inv-loop μ-loop) → length (c .args .counts .parts) ≡ 64
@@ -38,23 +38,23 @@ parts-long c = length-unmapped _ (c .args .counts .parts) _ (c .good .1 .0 .1 .1
 -- there is a part for every circuit
 parts-enough : (c : tie.Start Inv-loop μ-loop) → c .args .counts .faults + 1 ≤ length (c .args .counts .parts)
 unfolding maxFaults
-parts-enough c = omega (arith, parts-long c, c .pre .faults-few)
+parts-enough c = omega (arith, parts-long c, c .pre .0 .faults-few)
 
 mul-width : tie.Need-mul-width Inv-loop μ-loop
-mul-width c = omega (arith, row-wide (c .before .before .before .before .before .before .pre) (sized (c .before)))
+mul-width c = omega (arith, row-wide (c .before .before .before .before .before .before .pre .0) (sized (c .before)))
 
 add-circuits : tie.Need-add-circuits Inv-loop μ-loop
 unfolding maxFaults
-add-circuits c = omega (arith, c .before .before .before .before .before .before .before .pre .faults-few)
+add-circuits c = omega (arith, c .before .before .before .before .before .before .before .pre .0 .faults-few)
 
 loop-holds : tie.Need-loop-holds Inv-loop μ-loop
 loop-holds c = scanned-none _ _ (c .before .before .before .before .before .before .before .before .args .counts .faults + 1)
 
 mul-agrees : tie.Need-mul-agrees Inv-loop μ-loop
-mul-agrees c = omega (arith, row-within (c .before .before .before .before .before .before .before .before .before .before .pre) (sized (c .before .before .before .before .before)) (c .loop-test .taken))
+mul-agrees c = omega (arith, row-end (c .before .before .before .before .before .before .before .before .before .before .pre .0) (sized (c .before .before .before .before .before)) (c .loop-test .taken))
 
 agrees-requires : tie.Need-agrees-requires Inv-loop μ-loop
-agrees-requires c κs = row-readable (c .before .before .before .before .before .before .before .before .before .before .pre) (sized (c .before .before .before .before .before)) (c .loop-test .taken)
+agrees-requires c κs = (row-within (c .before .before .before .before .before .before .before .before .before .before .pre .0) (sized (c .before .before .before .before .before)) (c .loop-test .taken), c .before .before .before .before .before .before .before .before .before .before .pre .1)
 
 slice-aggregate-joined : tie.Need-slice-aggregate-joined Inv-loop μ-loop
 slice-aggregate-joined c = sym (parts-long (c .before .before .before .before .before .before .before .before .before .before .before .before .before))
@@ -68,7 +68,7 @@ joined-requires c κs =
 
 add-c : tie.Need-add-c Inv-loop μ-loop
 unfolding maxFaults
-add-c c = omega (arith, c .before .before .before .before .before .before .before .before .before .before .before .before .pre .faults-few, c .before .before .loop-test .taken)
+add-c c = omega (arith, c .before .before .before .before .before .before .before .before .before .before .before .before .pre .0 .faults-few, c .before .before .loop-test .taken)
 
 loop-less : tie.Need-loop-less Inv-loop μ-loop
 loop-less c = falls _ _ (c .before .before .loop-test .taken)
@@ -87,7 +87,7 @@ told-requires : tie.Need-told-requires Inv-loop μ-loop
 told-requires c κs = let low = scanned-lowest (c .before .before .loop .inv) (omega arith) in omega (arith, parts-enough (c .before .before .before .before .before .before .before .before .before .before .before), low)
 
 returns : tie.Need-returns Inv-loop μ-loop
-returns c = c .told .ensures ∙ scanned-all (c .before .before .before .loop .inv) (c .before .before .loop-test .left) ∙ rows-agree (c .before .before .before .before .before .before .before .before .before .before .before .before .pre) (sized (c .before .before .before .before .before .before .before)) (partIn (c .before .before .before .before .before .before .before .before .before .before .before .before .args .counts .parts)) (now (c .before .before .before .before .before .before .before .before .before .before .before .before .args .work)) (c .before .before .before .before .before .before .before .before .before .before .before .before .args .counts .faults + 1)
+returns c = c .told .ensures ∙ scanned-all (c .before .before .before .loop .inv) (c .before .before .loop-test .left) ∙ rows-agree (c .before .before .before .before .before .before .before .before .before .before .before .before .pre .0) (sized (c .before .before .before .before .before .before .before)) (partIn (c .before .before .before .before .before .before .before .before .before .before .before .before .args .counts .parts)) (now (c .before .before .before .before .before .before .before .before .before .before .before .before .args .work)) (now (c .before .before .before .before .before .before .before .before .before .before .before .before .args .readings)) (c .before .before .before .before .before .before .before .before .before .before .before .before .args .counts .faults + 1)
 
 pub scan-spec : {M : Type 1} → statement M
 scan-spec =

@@ -8,7 +8,8 @@ use Rattle.job.proofs.Sizes.{inputs-few}
 use Rattle.spectra.specs.Listed.{entriesAt}
 use Rattle.locating.specs.Scanning.{workNumbers}
 use Rattle.report_text.specs.Text.{decimal, numbersText, newline}
-use Rattle.report_text.proofs.Circuits.{width-inside, start-inside, row-within, row-same}
+use Rattle.locating.proofs.Scans.{row-end, row-wide, row-within}
+use Rattle.report_text.proofs.Circuits.{row-same}
 use Rattle.report_text.proofs.Lines.{first-room, second-room, third-room, three-puts}
 use Rattle.report_text.proofs.Texts.{room-same, puts-same}
 use borrow.Author.Needs.{needs}
@@ -28,10 +29,10 @@ put-decimal-requires c κs =
     first-room (decimal (a .c)) (numbersText (workNumbers (now (a .work)) (a .counts) (entriesAt (now (a .indices)) (now (a .outputs))) (a .c))) newline (a .at) (now (a .out)) (c .before .before .before .before .before .before .pre .2)
 
 mul-start : tie.Need-mul-start
-mul-start c = omega (arith, width-inside (c .before .before .before .before .before .before .before .before .before .before .pre .0) (c .before .before .before .before .before .before .before .before .before .before .pre .1) (sized (c .before .before .before .before .before)))
+mul-start c = omega (arith, row-wide (c .before .before .before .before .before .before .before .before .before .before .pre .0) (sized (c .before .before .before .before .before)))
 
 mul-start-2 : tie.Need-mul-start-2
-mul-start-2 c = omega (arith, start-inside (c .before .before .before .before .before .before .before .before .before .before .pre .0) (c .before .before .before .before .before .before .before .before .before .before .pre .1) (sized (c .before .before .before .before .before)))
+mul-start-2 c = omega (arith, row-end (c .before .before .before .before .before .before .before .before .before .before .pre .0) (sized (c .before .before .before .before .before)) (c .before .before .before .before .before .before .before .before .before .before .pre .1))
 
 put-row-requires : tie.Need-put-row-requires
 put-row-requires c κs =
@@ -40,7 +41,7 @@ put-row-requires c κs =
     let at = c .before .before .before .before .put-decimal in
     let size = sized (c .before .before .before .before .before .before) in
     let list = entriesAt (now (a .indices)) (now (a .outputs)) in
-    (row-within (pre .0) (pre .1) size, room-same (at .result) (at .last .0) (sym (row-same (a .counts) (now (a .work)) list (a .c) size)) (second-room (decimal (a .c)) (numbersText (workNumbers (now (a .work)) (a .counts) list (a .c))) newline (a .at) (now (a .out)) (pre .2) (at .ensures)))
+    (row-within (pre .0) size (pre .1), room-same (at .result) (at .last .0) (sym (row-same (a .counts) (now (a .work)) list (a .c) size)) (second-room (decimal (a .c)) (numbersText (workNumbers (now (a .work)) (a .counts) list (a .c))) newline (a .at) (now (a .out)) (pre .2) (at .ensures)))
 
 slice-aggregate-put : tie.Need-slice-aggregate-put
 slice-aggregate-put c = search needs
