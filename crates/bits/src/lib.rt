@@ -6,6 +6,8 @@
 // the byte that it begins in has one more behind it, that is the only test; in the last byte and past it the tests come
 // one by one (`late_field`), with the same answer. The number of a slice's bits may not fit a word, so a field from a
 // place past 2 to the power 62 on is answered as cut, and the place behind a field is always a number.
+#![tactic(auto)]
+
 ghost use Rattle.std.specs.Prelude.{cond, ◌≡◌, ltb, ◌+◌, ◌-◌, ◌*◌, ◌/◌, ◌%◌, ◌^◌, ◌≤◌, ◌<◌, get_or, length};
 ghost use Rattle.bits.specs.Answer.{number};
 ghost use Rattle.bits.specs.Bounds.{all_below};
@@ -17,7 +19,7 @@ ghost use Rattle.bits.specs.Field.{field_at, from, max_place, max_width, spare_o
 pub mod sets;
 
 // The causes for which an operation refuses, in the order of their numbers in documents 01 and 02.
-#[derive(Drop)]
+#[derive(Clone, Copy)]
 pub enum Refusal {
     BytesEnd,
     Inputs,
@@ -74,20 +76,20 @@ impl Refusal {
 }
 
 // Success alone, or the refusal.
-#[derive(Drop)]
+#[derive(Clone, Copy)]
 pub enum Outcome {
     Done,
     Refused(Refusal),
 }
 
 // A place in a string of bits: how many bits stand before it.
-#[derive(Drop)]
+#[derive(Clone, Copy)]
 pub struct Cursor {
     pub bit: usize,
 }
 
 // What stands at a place: a field's value with the place behind it, or bytes that end inside the field.
-#[derive(Drop)]
+#[derive(Clone, Copy)]
 pub enum Field {
     Value(usize, Cursor),
     Cut,

@@ -7,6 +7,8 @@
 // is dropped if the pairs left by those before it and the pairs left by those kept behind it have none in common. So no
 // list of entries taken is kept, and the signature is put together from its end. It has fewer entries than there are
 // rows, which is why there is always room for one more.
+#![tactic(auto)]
+
 ghost use Rattle.std.specs.Prelude.{◌≤◌, ◌<◌, ◌≡◌, true, [], length, drop};
 ghost use Rattle.method.specs.Method.{first_pair};
 ghost use Rattle.bits.specs.Bounds.{all_below};
@@ -22,21 +24,21 @@ pub const MAX_ROWS: usize = 64;
 pub const MAX_SIGNATURE: usize = 63;
 
 // Entries in the order of taking; the places past the count are 0.
-#[derive(Drop)]
+#[derive(Clone, Copy)]
 pub struct Signature {
     pub count: usize,
     pub entries: [u16; MAX_SIGNATURE],
 }
 
 // Nobody: all rows that should be are told apart. Or the first two that are not; or the lent memory is no such matrix.
-#[derive(Drop)]
+#[derive(Clone, Copy)]
 pub enum Untold {
     Nobody,
     Pair(usize, usize),
     NoMatrix,
 }
 
-#[derive(Drop)]
+#[derive(Clone, Copy)]
 pub struct Choice {
     pub untold: Untold,
     pub signature: Signature,

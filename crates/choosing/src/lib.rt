@@ -8,6 +8,8 @@
 // The order of looking, by number of ones, then by value, then by output, is made without sorting: each index goes to the
 // next place of its order, and then each index gives its entries. The first place of an order is the number of indices
 // of lower order, by Pascal's rule.
+#![tactic(auto)]
+
 ghost use Rattle.std.specs.Prelude.{◌+◌, ◌*◌, ◌^◌, ◌≤◌, ◌<◌, ◌≡◌, true, [], length};
 ghost use Rattle.std.specs.Int.Count.{ones};
 ghost use Rattle.job.specs.Layout.{max_inputs, max_outputs};
@@ -28,14 +30,14 @@ use spectra::Kind;
 use tables::{ALL_TABLES_BYTES, Counts};
 
 // To tell circuits of different parts apart, or the good one from each fault.
-#[derive(Drop)]
+#[derive(Clone, Copy)]
 pub enum Purpose {
     Isolating,
     Detecting,
 }
 
 // A signature is chosen; the first needed pair of circuits that are alike; or another refusal.
-#[derive(Drop)]
+#[derive(Clone, Copy)]
 pub enum Verdict {
     Done,
     Alike(usize, usize),
@@ -43,7 +45,7 @@ pub enum Verdict {
 }
 
 // Entries in the order of taking, an index and an output each; the places past the count are 0.
-#[derive(Drop)]
+#[derive(Clone, Copy)]
 pub struct Signature {
     pub count: usize,
     pub indices: [u16; MAX_SIGNATURE],
@@ -51,7 +53,7 @@ pub struct Signature {
 }
 
 // Beside a pair or a refusal the counts are 0, and the signature is empty.
-#[derive(Drop)]
+#[derive(Clone, Copy)]
 pub struct Chosen {
     pub verdict: Verdict,
     pub counts: Counts,
@@ -68,32 +70,32 @@ const MAX_ENTRIES: usize = job::MAX_OUTPUTS * MAX_PLACES;
 const MAX_ORDERS: usize = job::MAX_INPUTS + 1;
 
 // A mark for each circuit: those with different marks are to be told apart.
-#[derive(Drop)]
+#[derive(Clone, Copy)]
 struct Marks {
     of: [u8; chooser::MAX_ROWS],
 }
 
 // The order of each index.
-#[derive(Drop)]
+#[derive(Clone, Copy)]
 struct Orders {
     of: [u8; MAX_PLACES],
 }
 
 // A number for each order.
-#[derive(Drop)]
+#[derive(Clone, Copy)]
 struct PerOrder {
     of: [usize; MAX_ORDERS],
 }
 
 // Indices by order, then by value.
-#[derive(Drop)]
+#[derive(Clone, Copy)]
 struct Scan {
     count: usize,
     of: [u16; MAX_PLACES],
 }
 
 // Entries in the order of looking, each as one number.
-#[derive(Drop)]
+#[derive(Clone, Copy)]
 struct Codes {
     count: usize,
     of: [u16; MAX_ENTRIES],

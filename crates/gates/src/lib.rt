@@ -5,6 +5,8 @@
 // for each kind of gate: reading the constant table in the loop over bytes would write it to the stack each time. The
 // loop is one for all kinds (`combine_bytes`), and the only place that a faster gate step would change. The polynomial
 // is cut to the bits that are entries, so that spare bits come out 0 whatever the operands hold.
+#![tactic(auto)]
+
 ghost use Rattle.std.specs.Prelude.{◌≡◌, cond, ◌+◌, ◌≤◌, ◌<◌, length};
 ghost use Rattle.bits.specs.Packed.{tabulate};
 ghost use Rattle.job.specs.Record.{gate_kind};
@@ -30,7 +32,7 @@ const ANSWERS: [[u8; 4]; 8] = [
 ];
 
 // A gate's answers over packed bytes, as the polynomial constant ^ (first & x) ^ (second & y) ^ (both & x & y).
-#[derive(Drop)]
+#[derive(Clone, Copy)]
 pub struct Polynomial {
     pub constant: u8,
     pub first: u8,

@@ -12,7 +12,7 @@ use crate::Polynomial;
 
 const WORD: usize = 8;
 
-#[derive(Drop)]
+#[derive(Clone, Copy)]
 struct Word {
     b0: u8,
     b1: u8,

@@ -1,6 +1,8 @@
 // The operations for programs in C and Rust: include/horncurlew.h declares them. Answers are numbers: the documents'
 // number of a refusal, 0 for success, then the values, unused places 0. A kind is 0 for RM and any other number for
 // MRM; a purpose 0 for isolating and any other number for detecting.
+#![tactic(auto)]
+
 ghost use Rattle.std.specs.Prelude.{◌≡◌, length};
 ghost use Rattle.bits.specs.Answer.{leaves, outcome};
 ghost use Rattle.reading.specs.Reading.{reading};

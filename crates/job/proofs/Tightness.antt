@@ -75,6 +75,7 @@ module _ (n : ℕ) (gates : List GateEntry) where
 
   used_tight : (outputs : List ℕ) (l : ℕ) → Used outputs l → not (loose n gates outputs l) ≡ true
   unfolding loose
+  used_tight [] l x = elim x [ ]
   used_tight (output ∷ outputs) l (inl (inl s)) = simp (eq-eqb l output s)
   used_tight (output ∷ outputs) l (inl (inr d)) = by_test (eqb l output) (λ s. simp s) (λ s. simp (s, rule_depends n gates d))
   used_tight (output ∷ outputs) l (inr more) =
@@ -89,12 +90,14 @@ module _ (n : ℕ) (gates : List GateEntry) where
 
   -- what a line in use reads is in use
   used_on : (outputs : List ℕ) {m k : ℕ} → Reads n gates m k → Used outputs m → Used outputs k
+  used_on [] {m = m} {k = k} r x = elim x [ ]
   used_on (output ∷ outputs) {m} {k} r (inl (inl s)) = inl (inr (Depends.directly (subst (λ (l : ℕ). Reads n gates l k) s r)))
   used_on (output ∷ outputs) r (inl (inr d)) = inl (inr (reads_on n gates d r))
   used_on (output ∷ outputs) r (inr more) = inr (used_on outputs r more)
 
   -- a line in use is an output, or its last reader is a gate above it
   used_marked : (outputs : List ℕ) (q : ℕ) → Used outputs (n + q) → (is_output outputs (n + q) ≡ true) ⊎ Reader outputs (n + q) gates (suc q)
+  used_marked [] q x = elim x [ ]
   used_marked (output ∷ outputs) q (inl (inl s)) = inl (or_l (is_output outputs (n + q)) (eq-eqb (n + q) output s))
   used_marked (output ∷ outputs) q (inl (inr d)) =
       let r = (last_read n gates d).1 in

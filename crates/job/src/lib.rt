@@ -3,6 +3,8 @@
 // Lines and counts are bytes, so that the record, which goes by value from stage to stage, is half a kilobyte. A
 // one-line gate has one line, and a stuck fault too. The first case of each enum is the unused entry's, which is the
 // value that a list gives past its end.
+#![tactic(auto)]
+
 ghost use Rattle.std.specs.Prelude.{◌≡◌};
 ghost use Rattle.job.specs.Check.{fault_line_ok, part_ok};
 ghost use Rattle.job.specs.Dependence.{no_loose};
@@ -55,7 +57,7 @@ pub const MAX_JOB_BYTES: usize = (COUNT_BITS
     / 8;
 
 // The six kinds of gate that read two lines.
-#[derive(Drop)]
+#[derive(Clone, Copy)]
 pub enum BinaryKind {
     And,
     Or,
@@ -66,21 +68,21 @@ pub enum BinaryKind {
 }
 
 // The two kinds that read one line.
-#[derive(Drop)]
+#[derive(Clone, Copy)]
 pub enum UnaryKind {
     Buf,
     Not,
 }
 
 // "A record's gate kind can only be one of the eight": a unary gate has one line.
-#[derive(Drop)]
+#[derive(Clone, Copy)]
 pub enum Gate {
     Unary(UnaryKind, u8),
     Binary(BinaryKind, u8, u8),
 }
 
 // "A fault is either a line stuck at a level or a bridge of two inputs."
-#[derive(Drop)]
+#[derive(Clone, Copy)]
 pub enum Fault {
     // The line and its level.
     Stuck(u8, bool),
@@ -216,20 +218,20 @@ pub fn part_ok(part: usize) -> bool
     part <= MAX_PART
 }
 
-#[derive(Drop)]
+#[derive(Clone, Copy)]
 pub struct GateEntry {
     pub gate: Gate,
 }
 
 // A fault, and the part that is mended for it.
-#[derive(Drop)]
+#[derive(Clone, Copy)]
 pub struct FaultEntry {
     pub fault: Fault,
     pub part: u8,
 }
 
 // Entries past a count are unused.
-#[derive(Drop)]
+#[derive(Clone, Copy)]
 pub struct Job {
     pub inputs: u8,
     pub gate_count: u8,
@@ -264,7 +266,7 @@ pub fn empty_job() -> Job
 const MARKS: usize = 256 + MAX_GATES;
 
 // For each line whether it is in use.
-#[derive(Drop)]
+#[derive(Clone, Copy)]
 struct Marks {
     of: [bool; MARKS],
 }

@@ -3,6 +3,8 @@
 // The list is lent as its indices and its outputs. `prepare` has the checks and fills the work: 13, 16, 20 and 17 come
 // before 10, so they are judged before the spectra are made; 16 over all indices, then 20 over all outputs, then 17.
 // Then each circuit's coefficients at the entries are compared with the readings.
+#![tactic(auto)]
+
 ghost use Rattle.std.specs.Prelude.{◌+◌, ◌≤◌, ◌<◌, ◌≡◌, length};
 ghost use Rattle.bits.specs.Answer.{outcome, leaves};
 ghost use Rattle.bits.specs.Answer.Answer.{gives};
@@ -19,7 +21,7 @@ use tables::{ALL_TABLES_BYTES, Counts};
 
 // The part of all agreeing circuits and the lowest of them; the lowest agreeing circuit and how many agree, where they
 // have several parts; none agrees; or the refusal.
-#[derive(Drop)]
+#[derive(Clone, Copy)]
 pub enum Located {
     Part(usize, usize),
     Several(usize, usize),
@@ -28,7 +30,7 @@ pub enum Located {
 }
 
 // Agreeing circuits: the lowest, 0 where there is none; how many; and whether all of them have its part.
-#[derive(Drop)]
+#[derive(Clone, Copy)]
 struct Agreeing {
     lowest: usize,
     count: usize,

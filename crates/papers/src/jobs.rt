@@ -26,7 +26,7 @@ pub fn answer(line: &[u8], job: &[u8]) {
 }
 
 // A row: from one place to another.
-#[derive(Drop)]
+#[derive(Clone, Copy)]
 struct Row {
     start: usize,
     end: usize,

@@ -11,6 +11,8 @@
 //   spectra N K HH HH ..            the RM and the MRM spectrum of a table of N inputs
 //   undo KIND N K C C ..            the table of a spectrum
 //   record HH HH ..                 how many bytes the record of a job is written in; records.rt has the numbers of the line
+#![tactic(auto)]
+
 ghost use Rattle.std.specs.Prelude.{◌≤◌, length};
 
 use job::{MAX_FAULTS, MAX_INPUTS, MAX_JOB_BYTES, MAX_OUTPUTS};

@@ -4,6 +4,8 @@
 // function a stage: each reads its fields one by one, value with cursor or refusal, judges them, and hands the record
 // so far to the next. A job ends before bit 2600, so a stage may ask for a place that is near (`Near`), for a slice of
 // any length. A gate and a fault each read their fields themselves, so that each is compiled for its widths.
+#![tactic(auto)]
+
 ghost use Rattle.std.specs.Prelude.{◌≡◌, ◌+◌, ◌*◌, ◌≤◌};
 ghost use Rattle.bits.specs.Answer.{number};
 ghost use Rattle.bits.specs.Answer.Answer.{refused};
@@ -21,7 +23,7 @@ use job::{
 };
 
 // The outcome, and the record: the empty one with a refusal.
-#[derive(Drop)]
+#[derive(Clone, Copy)]
 pub struct Reading {
     pub outcome: Outcome,
     pub job: Job,
@@ -63,7 +65,7 @@ pub fn read(s: &[u8]) -> Reading
 }
 
 // What stands where a gate is due.
-#[derive(Drop)]
+#[derive(Clone, Copy)]
 enum GateRead {
     Found(Gate, Cursor),
     Refused(Refusal),
@@ -141,7 +143,7 @@ fn read_output_count(s: &[u8], at: Cursor, before: Job) -> Reading
 }
 
 // What stands where an output line is due.
-#[derive(Drop)]
+#[derive(Clone, Copy)]
 enum OutputRead {
     Found(u8, Cursor),
     Refused(Refusal),
@@ -203,7 +205,7 @@ fn read_fault_count(s: &[u8], at: Cursor, before: Job) -> Reading
 }
 
 // What stands where a fault is due.
-#[derive(Drop)]
+#[derive(Clone, Copy)]
 enum FaultRead {
     Found(FaultEntry, Cursor),
     Refused(Refusal),

@@ -1,6 +1,8 @@
 // Reads a job from standard input and prints its report: the counts, the isolating signature by MRM at polarity 0, and
 // each circuit's coefficients in signature order; or the refusal (document 01, "The report program"). No contract can
 // speak of what is read or written: `job_report` makes the text, and the rest reads its bytes and writes what it gave.
+#![tactic(auto)]
+
 ghost use Rattle.std.specs.Prelude.{◌≡◌};
 ghost use Rattle.report.specs.Program.{program_report};
 ghost use Rattle.report.specs.Buffers.{Whole, Found};

@@ -2,6 +2,8 @@
 //
 // Each function puts a piece of text from a place on and answers the place after it. There is room for the longest
 // text, or nothing is written, so that no piece needs a test.
+#![tactic(auto)]
+
 ghost use Rattle.std.specs.Prelude.{◌+◌, ◌<◌, ◌≡◌, ◌∷◌, length};
 ghost use Rattle.locating.specs.Scanning.{numbers_at, work_numbers, Within, RowsIn};
 ghost use Rattle.spectra.specs.Listed.{entries_at};
@@ -18,7 +20,7 @@ use tables::Counts;
 pub const MAX_TEXT: usize = 28 + (10 + 6 * MAX_FAULTS) + (MAX_FAULTS + 1) * (3 + 4 * MAX_FAULTS);
 
 // How many bytes the text has; or there is less room than the longest text has, and nothing is written.
-#[derive(Drop)]
+#[derive(Clone, Copy)]
 pub enum Reported {
     Written(usize),
     Short,

@@ -6,6 +6,8 @@
 // Undoing recovers and compares. The numbers are taken modulo 2 and transformed once more, which undoes an RM spectrum;
 // an MRM coefficient modulo 2 is the RM one, so this recovers the one table that can have these numbers. It is then
 // transformed anew, and 14 is given unless the result is the numbers given. No number falls below zero on the way.
+#![tactic(auto)]
+
 ghost use Rattle.std.specs.Prelude.{◌+◌, ◌^◌, ◌≤◌, ◌<◌, length, ◌≡◌};
 ghost use Rattle.bits.specs.Answer.{outcome, leaves};
 ghost use Rattle.bits.specs.Bits.{value_from};
@@ -22,7 +24,7 @@ use tables::{Counts, MAX_TABLE_BYTES};
 mod transform;
 
 // The kind of a spectrum: Reed-Muller, or modified Reed-Muller.
-#[derive(Drop)]
+#[derive(Clone, Copy)]
 pub enum Kind {
     Rm,
     Mrm,

@@ -25,7 +25,7 @@ pub(crate) const MAX_LINES: usize = MAX_INPUTS + MAX_GATES;
 
 // `count` circuits from number `first` on. The table of line l of circuit first + i is row base + l * count + i, so that the tables of one line are a
 // block. The good circuit is a batch by itself.
-#[derive(Drop)]
+#[derive(Clone, Copy)]
 pub(crate) struct Batch {
     pub(crate) base: usize,
     pub(crate) first: usize,
@@ -41,7 +41,7 @@ pub(crate) fn block_place(batch: Batch, line: usize, bytes: usize) -> usize
 }
 
 // For each line the set of the batch's columns whose faults fix it: column i is circuit first + i.
-#[derive(Drop)]
+#[derive(Clone, Copy)]
 struct Fixed {
     of: [u64; MAX_LINES],
 }

@@ -1,6 +1,8 @@
 // The packed truth tables of a job's circuits (document 01, "Tables"): of one circuit at one output, and of all, with
 // the job's counts and parts. The job is read, its circuits are worked out in batches (evaluator.rt), and the rows of
 // the output lines are copied to the lent bytes, circuit after circuit, output after output.
+#![tactic(auto)]
+
 ghost use Rattle.std.specs.Prelude.{◌≡◌, ◌+◌, ◌*◌, ◌/◌, ◌≤◌, ◌<◌, length};
 ghost use Rattle.bits.specs.Answer.{outcome, leaves};
 ghost use Rattle.bits.specs.Sizes.{table_bytes};
@@ -39,7 +41,7 @@ const BLOCK_BYTES: usize = 512;
 const ALL_ROW_BYTES: usize = MAX_LINES * (MAX_TABLE_BYTES + BLOCK_BYTES);
 
 // How many inputs, gates, outputs and faults a job has, and the part of each circuit.
-#[derive(Drop)]
+#[derive(Clone, Copy)]
 pub struct Counts {
     pub inputs: usize,
     pub gates: usize,
@@ -49,7 +51,7 @@ pub struct Counts {
 }
 
 // Whether the tables of a job are written, its counts, and how many bytes the tables have; these are 0 beside a refusal.
-#[derive(Drop)]
+#[derive(Clone, Copy)]
 pub struct Delivery {
     pub outcome: Outcome,
     pub counts: Counts,

@@ -15,7 +15,7 @@ use job::{BinaryKind, Fault, Gate};
 const KINDS: usize = 8;
 
 // Its inputs, its bytes, and the bits of each byte that are entries.
-#[derive(Drop)]
+#[derive(Clone, Copy)]
 pub(crate) struct Shape {
     pub(crate) inputs: usize,
     pub(crate) bytes: usize,
@@ -40,7 +40,7 @@ pub(crate) fn shape_of(inputs: usize) -> Shape
 }
 
 // The polynomial of each kind of gate, worked out once for all circuits.
-#[derive(Drop)]
+#[derive(Clone, Copy)]
 pub(crate) struct Polynomials {
     pub(crate) of: [Polynomial; KINDS],
 }

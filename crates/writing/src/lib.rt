@@ -2,6 +2,8 @@
 //
 // First all checks, then the number of bytes, and only then a byte is written. Bits that do not fill a byte yet wait in
 // a number (`Pen`); each byte is put once, from the start on.
+#![tactic(auto)]
+
 ghost use Rattle.std.specs.Prelude.{◌≡◌, [], ◌≤◌, ◌<◌, ◌^◌, length, get_or, take};
 ghost use Rattle.bits.specs.Answer.{outcome, unless, onward, leaves};
 ghost use Rattle.bits.specs.Answer.Answer.{gives};
@@ -19,7 +21,7 @@ use job::{
 };
 
 // The number of bytes written, or the refusal.
-#[derive(Drop)]
+#[derive(Clone, Copy)]
 pub enum Written {
     Bytes(usize),
     Refused(Refusal),
@@ -191,7 +193,7 @@ fn order_ok(fault: Fault) -> bool
 }
 
 // Where the next bits go: so many whole bytes are put, and the bits that wait for their byte to be full are a number.
-#[derive(Drop)]
+#[derive(Clone, Copy)]
 struct Pen {
     at: usize,
     waiting: usize,

@@ -1,0 +1,11 @@
+-- `bits::copy_bytes` meets its contract. The loop has copied one byte for each turn.
+use Prim.Native.Nat.{◌+◌, ◌-◌}
+use lib.ListN.{get_or}
+use Rattle.bits.proofs.Splice.{Written}
+use Rattle.bits.proofs.copy_bytes.Given as goal
+
+abbrev pub invariant-loop-i : goal.invariant-loop-i
+invariant-loop-i l = Written l.initial.out l.to l.count (λ n. get_or l.rows (l.at + n) 0) l.out l.i
+
+abbrev pub decreases-loop-i : goal.decreases-loop-i
+decreases-loop-i l = l.count - l.i

@@ -1,0 +1,10 @@
+-- `bits::fill_bytes` meets its contract. The loop has written one byte for each turn.
+use Prim.Native.Nat.{◌-◌}
+use Rattle.bits.proofs.Splice.{Written}
+use Rattle.bits.proofs.fill_bytes.Given as goal
+
+abbrev pub invariant-loop-i : goal.invariant-loop-i
+invariant-loop-i l = Written l.initial.rows l.to l.count (λ n. l.byte) l.rows l.i
+
+abbrev pub decreases-loop-i : goal.decreases-loop-i
+decreases-loop-i l = l.count - l.i
