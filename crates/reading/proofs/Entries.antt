@@ -59,11 +59,13 @@ module _ (j : Job) (bits : List ℕ) where
       (w : with_outputs j k.outputs ≡ k) where
     pub from_outputs_loose : no_loose k ≡ false → from_outputs j bits ≡ refused 19
     unfolding from_outputs
-    from_outputs_loose l = rw (e, w, l)
+    from_outputs_loose l = let l' : no_loose (with_outputs j k.outputs) ≡ false = ap no_loose w ∙ l in rw (e, l')
 
     pub from_outputs_done : no_loose k ≡ true → from_outputs j bits ≡ from_fault_count k rest
     unfolding from_outputs
-    from_outputs_done t = rw (e, w, t)
+    from_outputs_done t =
+        let t' : no_loose (with_outputs j k.outputs) ≡ true = ap no_loose w ∙ t in
+        rw (e, t') (ap (λ (x : Job). from_fault_count x rest) w)
 
   pub from_faults_stop : {k : ℕ} → entries_from (λ i. fault j.inputs (lines j)) j.fault_count 0 j.faults bits ≡ refused k → from_faults j bits ≡ refused k
   unfolding from_faults

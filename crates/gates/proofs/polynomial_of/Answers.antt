@@ -1,0 +1,47 @@
+-- `gates::polynomial_of` meets its contract. The constant's rows are `answers`, by computation.
+use Prim.Native.Nat.{ℕ, ◌<◌}
+use native.Mathlib.Omega.{arith}
+use mathlib.Core.Path.{ap}
+use mathlib.Core.List.{List, []}
+use lib.ListN.{get_or}
+use Rattle.gates.specs.Answers.{answers}
+use Rattle.gates.specs.Polynomial.{polynomial_of}
+use Rattle.gates.proofs.Answers.{answers_lt, kind_lt}
+use Rattle.gates.proofs.Polynomials.{Row, bit_first, bit_second, bit_both, copies_fit}
+use Rattle.gates.proofs.polynomial_of.Goals as goal
+use Rattle.gates.proofs.polynomial_of.Goals.{After-kind, After-row-1}
+
+below : (c : After-kind) → c.kind.result < 8
+below c = rw c.kind.ensures (kind_lt c.args.gate)
+
+pub offset_bounds-kind : goal.offset_bounds-kind
+offset_bounds-kind c = omega (arith, below c)
+
+pub bounds-kind-kind : goal.bounds-kind-kind
+bounds-kind-kind c = below c
+
+abbrev row : After-row-1 → List ℕ
+row c = get_or answers c.kind.result []
+
+bit : (c : After-row-1) → Row (row c)
+bit c = answers_lt c.kind.result (below c.before)
+
+pub overflow_mul-result : goal.overflow_mul-result
+unfolding answers
+overflow_mul-result c = copies_fit (bit c 0 (omega arith))
+
+pub overflow_mul-result-2 : goal.overflow_mul-result-2
+unfolding answers
+overflow_mul-result-2 c = copies_fit (bit_first (row c) (bit c))
+
+pub overflow_mul-result-3 : goal.overflow_mul-result-3
+unfolding answers
+overflow_mul-result-3 c = copies_fit (bit_second (row c) (bit c))
+
+pub overflow_mul-result-4 : goal.overflow_mul-result-4
+unfolding answers
+overflow_mul-result-4 c = copies_fit (bit_both (row c) (bit c))
+
+pub returns : goal.returns
+unfolding answers polynomial_of
+returns c = ap (λ (kind : ℕ). polynomial_of (get_or answers kind []) c.args.mask) c.kind.ensures
