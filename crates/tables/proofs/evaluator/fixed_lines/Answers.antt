@@ -1,0 +1,79 @@
+-- `tables::evaluator::fixed_lines` meets its contract: each turn notes the lines that one circuit fixes.
+use Prim.Native.Nat.{◌+◌, ◌-◌}
+use native.Mathlib.Omega.{arith}
+use mathlib.Core.Path.{refl}
+use borrow.Author.Count.{falls}
+use Rattle.job.specs.Layout.{max_inputs, max_gates, max_faults}
+use Rattle.job.specs.Record.{fault_at}
+use Rattle.tables.proofs.Columns.{column_index, column_few, low_index, high_index, fixed_good, fixed_none, fixed_next, fixed_all}
+use Rattle.tables.proofs.evaluator.fixed_lines.Goals as goal
+
+pub returns-then-first-eq0 : goal.returns-then-first-eq0
+unfolding max_inputs max_gates
+returns-then-first-eq0 c = fixed_good c.args.job c.args.batch c.if-first-eq0.true (c.requires.2 c.if-first-eq0.true)
+
+pub loop-i-init : goal.loop-i-init
+unfolding max_inputs max_gates
+loop-i-init c = fixed_none c.args.job c.args.batch.first c.args.batch.count
+
+pub overflow_sub-entry : goal.overflow_sub-entry
+overflow_sub-entry c = omega (arith, c.if-first-eq0.false)
+
+pub overflow_add-entry : goal.overflow_add-entry
+unfolding max_faults
+overflow_add-entry c = record { fits = omega (arith, column_index c.requires.0 c.if-first-eq0.false c.requires.1 c.loop-i-test.true) }
+
+pub offset_bounds-job-first : goal.offset_bounds-job-first
+unfolding max_faults
+offset_bounds-job-first c = record { fits = omega (arith, column_index c.requires.0 c.if-first-eq0.false c.requires.1 c.loop-i-test.true) }
+
+pub bounds-job-first : goal.bounds-job-first
+unfolding max_faults
+bounds-job-first c = column_index c.requires.0 c.if-first-eq0.false c.requires.1 c.loop-i-test.true
+
+pub offset_bounds-of-low : goal.offset_bounds-of-low
+unfolding max_inputs max_gates
+offset_bounds-of-low c = record { fits = omega (arith, low_index c.requires.0 c.if-first-eq0.false c.requires.1 c.loop-i-test.true c.first-low.ensures) }
+
+pub bounds-of-low : goal.bounds-of-low
+unfolding max_inputs max_gates
+bounds-of-low c = low_index c.requires.0 c.if-first-eq0.false c.requires.1 c.loop-i-test.true c.first-low.ensures
+
+pub offset_bounds-of-low-in-loop-i : goal.offset_bounds-of-low-in-loop-i
+unfolding max_inputs max_gates
+offset_bounds-of-low-in-loop-i c = record { fits = omega (arith, low_index c.requires.0 c.if-first-eq0.false c.requires.1 c.loop-i-test.true c.first-low.ensures) }
+
+pub bounds-of-low-in-loop-i : goal.bounds-of-low-in-loop-i
+unfolding max_inputs max_gates
+bounds-of-low-in-loop-i c = low_index c.requires.0 c.if-first-eq0.false c.requires.1 c.loop-i-test.true c.first-low.ensures
+
+pub offset_bounds-of-high : goal.offset_bounds-of-high
+unfolding max_inputs max_gates
+offset_bounds-of-high c = record { fits = omega (arith, high_index c.requires.0 c.if-first-eq0.false c.requires.1 c.loop-i-test.true c.second-high.ensures) }
+
+pub bounds-of-high : goal.bounds-of-high
+unfolding max_inputs max_gates
+bounds-of-high c = high_index c.requires.0 c.if-first-eq0.false c.requires.1 c.loop-i-test.true c.second-high.ensures
+
+pub offset_bounds-of-high-in-loop-i : goal.offset_bounds-of-high-in-loop-i
+unfolding max_inputs max_gates
+offset_bounds-of-high-in-loop-i c = record { fits = omega (arith, high_index c.requires.0 c.if-first-eq0.false c.requires.1 c.loop-i-test.true c.second-high.ensures) }
+
+pub bounds-of-high-in-loop-i : goal.bounds-of-high-in-loop-i
+unfolding max_inputs max_gates
+bounds-of-high-in-loop-i c = high_index c.requires.0 c.if-first-eq0.false c.requires.1 c.loop-i-test.true c.second-high.ensures
+
+pub overflow_add-i : goal.overflow_add-i
+overflow_add-i c = omega (arith, c.loop-i-test.true)
+
+pub loop-i-smaller : goal.loop-i-smaller
+loop-i-smaller c = falls _ _ c.loop-i-test.true
+
+pub loop-i-preserved : goal.loop-i-preserved
+loop-i-preserved c =
+    fixed_next c.loop-i.invariant c.if-first-eq0.false (fault_at c.args.job (c.args.batch.first - 1 + c.loop-i.i)) refl c.first-low.ensures c.second-high.ensures
+    (low_index c.requires.0 c.if-first-eq0.false c.requires.1 c.loop-i-test.true c.first-low.ensures) (high_index c.requires.0 c.if-first-eq0.false c.requires.1 c.loop-i-test.true c.second-high.ensures)
+    c.loop-i-test.true (column_few c.requires.0 c.if-first-eq0.false c.requires.1 c.loop-i-test.true) c.joined.ensures c.joined-in-loop-i.ensures
+
+pub returns : goal.returns
+returns c = fixed_all c.loop-i.invariant c.loop-i-test.false
