@@ -13,8 +13,8 @@ use std::process::{Command, Stdio};
 
 /// What the program prints for tasks.
 fn printed(tasks: &str) -> String {
-    let program = Path::new(env!("CARGO_MANIFEST_DIR")).join("../../target/bin/papers");
-    assert!(program.exists(), "{} isn't there: build the crate `papers` first", program.display());
+    let program = Path::new(env!("CARGO_MANIFEST_DIR")).join("../../crates/papers/out/papers");
+    assert!(program.exists(), "{} isn't there: build it with `rt run` in crates/papers", program.display());
     assert!(tasks.len() < 65536, "the program reads no more");
     let mut child =
         Command::new(&program).stdin(Stdio::piped()).stdout(Stdio::piped()).spawn().expect("the program runs");

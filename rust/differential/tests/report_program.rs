@@ -15,8 +15,8 @@ fn root() -> PathBuf {
 }
 
 fn program() -> PathBuf {
-    let program = root().join("target/bin/report");
-    assert!(program.exists(), "{} isn't there: build the crate `report` first", program.display());
+    let program = root().join("crates/report/out/report");
+    assert!(program.exists(), "{} isn't there: build it with `rt run` in crates/report", program.display());
     program
 }
 

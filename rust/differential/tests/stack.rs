@@ -18,7 +18,7 @@ fn program() -> PathBuf {
         .arg("-I")
         .arg(package.join("../../include"))
         .arg(package.join("tests/stack.c"))
-        .arg(package.join("../../target/staticlib/libhorncurlew.a"))
+        .arg(package.join("../../crates/horncurlew/out/libhorncurlew.a"))
         .output()
         .expect("the C compiler runs");
     assert!(compiled.status.success(), "{}", String::from_utf8_lossy(&compiled.stderr));

@@ -15,7 +15,7 @@ fn run(name: &str) -> Output {
         .arg("-I")
         .arg(package.join("../../include"))
         .arg(package.join("tests").join(name).with_extension("c"))
-        .arg(package.join("../../target/staticlib/libhorncurlew.a"))
+        .arg(package.join("../../crates/horncurlew/out/libhorncurlew.a"))
         .output()
         .expect("the C compiler runs");
     assert!(compiled.status.success(), "{}", String::from_utf8_lossy(&compiled.stderr));
