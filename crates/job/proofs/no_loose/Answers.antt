@@ -3,7 +3,6 @@ use native.Mathlib.Omega.{arith}
 use Prim.Native.Nat.{ℕ}
 use mathlib.Core.Path.{sym, subst}
 use mathlib.Core.List.{List}
-use borrow.Author.Tests.{not-true, not-false}
 use lib.Seq.{length-take-le}
 use Rattle.job.specs.Layout.{max_gates, max_outputs}
 use borrow.Author.Rules.{rules}
@@ -38,7 +37,7 @@ unfolding max_gates
 bounds-read-n c = omega (arith, c.loop-q.invariant.few)
 
 pub returns-then-not-read-n : goal.returns-then-not-read-n
-returns-then-not-read-n c = marking_stop c.loop-q.invariant c.loop-q-test.true (not-true _ c.if-not-read-n.true-raw)
+returns-then-not-read-n c = marking_stop c.loop-q.invariant c.loop-q-test.true c.if-not-read-n.true
 
 pub offset_bounds-job-q : goal.offset_bounds-job-q
 unfolding max_gates
@@ -56,7 +55,7 @@ loop-q-smaller-in-Unary c = omega (arith, c.loop-q-test.true)
 
 pub loop-q-preserved-in-Unary : goal.loop-q-preserved-in-Unary
 unfolding max_gates
-loop-q-preserved-in-Unary c = marking_unary c.loop-q.invariant c.loop-q-test.true (not-false _ c.if-not-read-n.false-raw) _ _ c.in-Unary.is (bounds-read-a c)
+loop-q-preserved-in-Unary c = marking_unary c.loop-q.invariant c.loop-q-test.true c.if-not-read-n.false _ _ c.in-Unary.is (bounds-read-a c)
 
 pub bounds-read-a-in-Binary : goal.bounds-read-a-in-Binary
 bounds-read-a-in-Binary c = search rules
@@ -69,7 +68,7 @@ loop-q-smaller c = omega (arith, c.loop-q-test.true)
 
 pub loop-q-preserved : goal.loop-q-preserved
 unfolding max_gates
-loop-q-preserved c = marking_binary c.loop-q.invariant c.loop-q-test.true (not-false _ c.if-not-read-n.false-raw) _ _ _ c.in-Binary.is (bounds-read-a-in-Binary c) (bounds-read-b c)
+loop-q-preserved c = marking_binary c.loop-q.invariant c.loop-q-test.true c.if-not-read-n.false _ _ _ c.in-Binary.is (bounds-read-a-in-Binary c) (bounds-read-b c)
 
 pub returns : goal.returns
 returns c = marking_end c.loop-q.invariant c.loop-q-test.false

@@ -1,7 +1,6 @@
 -- `reading::read_fault` meets its contract.
 use native.Mathlib.Omega.{arith}
 use mathlib.Core.Path.{refl, sym, ◌∙◌}
-use borrow.Author.Tests.{not-true, not-false}
 use Rattle.bits.specs.Field.{from}
 use Rattle.bits.proofs.Fields.{field_value, field_cut, field_lt, field_near}
 use Rattle.job.specs.Layout.{fault_kind_bits, line_bits, part_bits}
@@ -57,7 +56,7 @@ returns-then-not-fault_line_ok c =
     let third = sym c.read_field-3.ensures ∙ c.in-Value-read_field-2.is in
     let entry = entry_read c-args.s.now c-args.at 2 first second third in
     let fourth = field_value c-args.s.now _ 6 _ _ (sym c.read_field-4.ensures ∙ c.in-Value-read_field-3.is) in
-    (fault_outside c-args.inputs c-args.lines (from c-args.s.now c-args.at) entry fourth c.fault_of-fault.ensures (sym c.fault_line_ok.ensures ∙ not-true _ c.if-not-fault_line_ok.true-raw), omega arith)
+    (fault_outside c-args.inputs c-args.lines (from c-args.s.now c-args.at) entry fourth c.fault_of-fault.ensures (sym c.fault_line_ok.ensures ∙ c.if-not-fault_line_ok.true), omega arith)
 
 pub returns-then-not-fault_lines_ok : goal.returns-then-not-fault_lines_ok
 unfolding fault_kind_bits line_bits part_bits
@@ -68,8 +67,8 @@ returns-then-not-fault_lines_ok c =
     let third = sym c.read_field-3.ensures ∙ c.in-Value-read_field-2.is in
     let entry = entry_read c-args.s.now c-args.at 2 first second third in
     let fourth = field_value c-args.s.now _ 6 _ _ (sym c.read_field-4.ensures ∙ c.in-Value-read_field-3.is) in
-    let line = sym c.fault_line_ok.ensures ∙ not-false _ c.if-not-fault_line_ok.false-raw in
-    (fault_unlike c-args.inputs c-args.lines (from c-args.s.now c-args.at) entry fourth c.fault_of-fault.ensures line (sym c.fault_lines_ok.ensures ∙ not-true _ c.if-not-fault_lines_ok.true-raw), omega arith)
+    let line = sym c.fault_line_ok.ensures ∙ c.if-not-fault_line_ok.false in
+    (fault_unlike c-args.inputs c-args.lines (from c-args.s.now c-args.at) entry fourth c.fault_of-fault.ensures line (sym c.fault_lines_ok.ensures ∙ c.if-not-fault_lines_ok.true), omega arith)
 
 pub returns-then-not-part_ok : goal.returns-then-not-part_ok
 unfolding fault_kind_bits line_bits part_bits
@@ -80,9 +79,9 @@ returns-then-not-part_ok c =
     let third = sym c.read_field-3.ensures ∙ c.in-Value-read_field-2.is in
     let entry = entry_read c-args.s.now c-args.at 2 first second third in
     let fourth = field_value c-args.s.now _ 6 _ _ (sym c.read_field-4.ensures ∙ c.in-Value-read_field-3.is) in
-    let line = sym c.fault_line_ok.ensures ∙ not-false _ c.if-not-fault_line_ok.false-raw in
-    let pair = sym c.fault_lines_ok.ensures ∙ not-false _ c.if-not-fault_lines_ok.false-raw in
-    (fault_no_part c-args.inputs c-args.lines (from c-args.s.now c-args.at) entry fourth c.fault_of-fault.ensures line pair (sym c.part_ok.ensures ∙ not-true _ c.if-not-part_ok.true-raw), omega arith)
+    let line = sym c.fault_line_ok.ensures ∙ c.if-not-fault_line_ok.false in
+    let pair = sym c.fault_lines_ok.ensures ∙ c.if-not-fault_lines_ok.false in
+    (fault_no_part c-args.inputs c-args.lines (from c-args.s.now c-args.at) entry fourth c.fault_of-fault.ensures line pair (sym c.part_ok.ensures ∙ c.if-not-part_ok.true), omega arith)
 
 pub overflow_cast-entry : goal.overflow_cast-entry
 overflow_cast-entry c = omega (arith, field_lt c.args.s.now _ 6 _ _ (sym c.read_field-4.ensures ∙ c.in-Value-read_field-3.is))
@@ -96,7 +95,7 @@ returns c =
     let third = sym c.read_field-3.ensures ∙ c.in-Value-read_field-2.is in
     let entry = entry_read c-args.s.now c-args.at 2 first second third in
     let fourth = field_value c-args.s.now _ 6 _ _ (sym c.read_field-4.ensures ∙ c.in-Value-read_field-3.is) in
-    let line = sym c.fault_line_ok.ensures ∙ not-false _ c.if-not-fault_line_ok.false-raw in
-    let pair = sym c.fault_lines_ok.ensures ∙ not-false _ c.if-not-fault_lines_ok.false-raw in
+    let line = sym c.fault_line_ok.ensures ∙ c.if-not-fault_line_ok.false in
+    let pair = sym c.fault_lines_ok.ensures ∙ c.if-not-fault_lines_ok.false in
     let behind = entry_end c-args.s.now c-args.at 2 first second third in
-    (fault_found c-args.inputs c-args.lines (from c-args.s.now c-args.at) entry fourth c.fault_of-fault.ensures line pair (sym c.part_ok.ensures ∙ not-false _ c.if-not-part_ok.false-raw), omega (arith, behind, field_near c-args.s.now _ 6 _ _ (sym c.read_field-4.ensures ∙ c.in-Value-read_field-3.is)))
+    (fault_found c-args.inputs c-args.lines (from c-args.s.now c-args.at) entry fourth c.fault_of-fault.ensures line pair (sym c.part_ok.ensures ∙ c.if-not-part_ok.false), omega (arith, behind, field_near c-args.s.now _ 6 _ _ (sym c.read_field-4.ensures ∙ c.in-Value-read_field-3.is)))

@@ -2,7 +2,7 @@
 use native.Mathlib.Omega.{arith}
 use mathlib.Core.Path.{refl, sym, ◌∙◌}
 use Rattle.bits.proofs.Fields.{field_lt}
-use borrow.Author.Tests.{lt-ltb, le-ltb, not-true, not-false}
+use borrow.Author.Tests.{lt-ltb, le-ltb}
 use Rattle.job.specs.Layout.{gate_kind_bits, line_bits}
 use Rattle.reading.specs.Reading.{gate}
 use Rattle.reading.proofs.EntryFields.{entry_first, entry_second, entry_third, entry_read, entry_end}
@@ -32,7 +32,7 @@ pub returns-then-not-unary_lines_ok : goal.returns-then-not-unary_lines_ok
 unfolding gate gate_kind_bits line_bits
 returns-then-not-unary_lines_ok c =
     let c-args = c.args in
-    (simp (entry_read c-args.s.now c-args.at 3 (sym c.read_field.ensures ∙ c.in-Value.is) (sym c.read_field-2.ensures ∙ c.in-Value-read_field.is) (sym c.read_field-3.ensures ∙ c.in-Value-read_field-2.is), lt-ltb _ _ c.if-own-a.false, lt-ltb _ _ c.if-own-b.false, sym c.unary_lines_ok.ensures ∙ not-true _ c.if-not-unary_lines_ok.true-raw), omega arith)
+    (simp (entry_read c-args.s.now c-args.at 3 (sym c.read_field.ensures ∙ c.in-Value.is) (sym c.read_field-2.ensures ∙ c.in-Value-read_field.is) (sym c.read_field-3.ensures ∙ c.in-Value-read_field-2.is), lt-ltb _ _ c.if-own-a.false, lt-ltb _ _ c.if-own-b.false, sym c.unary_lines_ok.ensures ∙ c.if-not-unary_lines_ok.true), omega arith)
 
 pub overflow_cast-a : goal.overflow_cast-a
 overflow_cast-a c = omega (arith, field_lt c.args.s.now _ 7 _ _ (sym c.read_field-2.ensures ∙ c.in-Value-read_field.is))
@@ -44,4 +44,4 @@ pub returns : goal.returns
 unfolding gate gate_kind_bits line_bits
 returns c =
     let c-args = c.args in
-    (simp (entry_read c-args.s.now c-args.at 3 (sym c.read_field.ensures ∙ c.in-Value.is) (sym c.read_field-2.ensures ∙ c.in-Value-read_field.is) (sym c.read_field-3.ensures ∙ c.in-Value-read_field-2.is), lt-ltb _ _ c.if-own-a.false, lt-ltb _ _ c.if-own-b.false, sym c.unary_lines_ok.ensures ∙ not-false _ c.if-not-unary_lines_ok.false-raw, c.gate_of.ensures), entry_end c-args.s.now c-args.at 3 (sym c.read_field.ensures ∙ c.in-Value.is) (sym c.read_field-2.ensures ∙ c.in-Value-read_field.is) (sym c.read_field-3.ensures ∙ c.in-Value-read_field-2.is))
+    (simp (entry_read c-args.s.now c-args.at 3 (sym c.read_field.ensures ∙ c.in-Value.is) (sym c.read_field-2.ensures ∙ c.in-Value-read_field.is) (sym c.read_field-3.ensures ∙ c.in-Value-read_field-2.is), lt-ltb _ _ c.if-own-a.false, lt-ltb _ _ c.if-own-b.false, sym c.unary_lines_ok.ensures ∙ c.if-not-unary_lines_ok.false, c.gate_of.ensures), entry_end c-args.s.now c-args.at 3 (sym c.read_field.ensures ∙ c.in-Value.is) (sym c.read_field-2.ensures ∙ c.in-Value-read_field.is) (sym c.read_field-3.ensures ∙ c.in-Value-read_field-2.is))

@@ -3,7 +3,6 @@ use native.Mathlib.Omega.{arith}
 use native.Mathlib.Nat.{sub-zero}
 use Prim.Native.Nat.{ℕ}
 use mathlib.Core.Path.{refl, sym, ap, ◌∙◌}
-use borrow.Author.Tests.{not-true, not-false}
 use lib.ListN.{set}
 use Rattle.bits.specs.Answer.{Answer}
 use Rattle.bits.specs.Field.{from}
@@ -49,7 +48,7 @@ pub returns-then-not-no_loose : goal.returns-then-not-no_loose
 returns-then-not-no_loose c =
     let c-args = c.args in
     let read = c.loop-o.invariant.2.0 ∙ entries_end (λ i. output_line (lines c-args.before)) c-args.before.output_count c.loop-o.o c.loop-o.job.outputs (from c-args.s.now c.loop-o.c) c.loop-o-test.false in
-    c.refused-then-not-no_loose.ensures ∙ ap (λ (x : Answer (Parsed Job)). due (value_read x)) (sym (from_outputs_loose c-args.before (from c-args.s.now c-args.at) c.loop-o.job (from c-args.s.now c.loop-o.c) read c.loop-o.invariant.2.1 (sym c.no_loose.ensures ∙ not-true _ c.if-not-no_loose.true-raw)))
+    c.refused-then-not-no_loose.ensures ∙ ap (λ (x : Answer (Parsed Job)). due (value_read x)) (sym (from_outputs_loose c-args.before (from c-args.s.now c-args.at) c.loop-o.job (from c-args.s.now c.loop-o.c) read c.loop-o.invariant.2.1 (sym c.no_loose.ensures ∙ c.if-not-no_loose.true)))
 
 pub read_fault_count-requires : goal.read_fault_count-requires
 unfolding max_outputs
@@ -59,4 +58,4 @@ pub returns : goal.returns
 returns c =
     let c-args = c.args in
     let read = c.loop-o.invariant.2.0 ∙ entries_end (λ i. output_line (lines c-args.before)) c-args.before.output_count c.loop-o.o c.loop-o.job.outputs (from c-args.s.now c.loop-o.c) c.loop-o-test.false in
-    c.read_fault_count.ensures ∙ ap (λ (x : Answer (Parsed Job)). due (value_read x)) (sym (from_outputs_done c-args.before (from c-args.s.now c-args.at) c.loop-o.job (from c-args.s.now c.loop-o.c) read c.loop-o.invariant.2.1 (sym c.no_loose.ensures ∙ not-false _ c.if-not-no_loose.false-raw)))
+    c.read_fault_count.ensures ∙ ap (λ (x : Answer (Parsed Job)). due (value_read x)) (sym (from_outputs_done c-args.before (from c-args.s.now c-args.at) c.loop-o.job (from c-args.s.now c.loop-o.c) read c.loop-o.invariant.2.1 (sym c.no_loose.ensures ∙ c.if-not-no_loose.false)))
