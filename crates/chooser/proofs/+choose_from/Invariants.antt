@@ -1,0 +1,6 @@
+-- The measure of `chooser::choose_from` is the number of entries from the place on.
+use Rattle.std.proofs.Common.{length, ◌-◌}
+use Rattle.chooser.proofs.+choose_from.Given as goal
+
+abbrev pub decreases-choose_from : goal.decreases-choose_from
+decreases-choose_from l = length l.scan.now - l.from
