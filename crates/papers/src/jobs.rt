@@ -134,7 +134,8 @@ fn list_location(rt: &impl Print, line: &[u8], job: &[u8]) {
     let listed = words::decimals(&line[..slash], 3, b' ', &mut indices);
     let numbered = words::decimals(&line[..slash], 1, b':', &mut outputs);
     let read = words::decimals(&line[slash..], 1, b' ', &mut readings);
-    list_located(rt, 
+    list_located(
+        rt,
         line,
         job,
         &indices[..listed],
@@ -143,7 +144,14 @@ fn list_location(rt: &impl Print, line: &[u8], job: &[u8]) {
     );
 }
 
-fn list_located(rt: &impl Print, line: &[u8], job: &[u8], indices: &[u16], outputs: &[u16], readings: &[u16]) {
+fn list_located(
+    rt: &impl Print,
+    line: &[u8],
+    job: &[u8],
+    indices: &[u16],
+    outputs: &[u16],
+    readings: &[u16],
+) {
     let polarity = words::decimal(line, 2);
     let mut work = [0u16; WORK_PLACES];
     let located = locating::locate(
