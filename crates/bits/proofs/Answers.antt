@@ -1,20 +1,20 @@
 -- What an answer that gives a value says of its parts, and which answers give one (specs/Answer.antt, specs/Parser.antt).
 --
---   gives_same      equal answers give equal values
---   never_gives     a refusal gives nothing
---   refused_same    equal refusals have equal numbers
---   unless_gives    a test that did not refuse held
---   unless_true     a test that holds refuses nothing
---   unless_false    one that does not, refuses
---   onward_gives    both parts of `onward` gave
---   unless_onward   what goes on from a test goes on behind it
---   onward_onward   going on twice
+--   gives_same       equal answers give equal values
+--   never_gives      a refusal gives nothing
+--   refused_same     equal refusals have equal numbers
+--   unless_gives     a test that did not refuse held
+--   unless_true      a test that holds refuses nothing
+--   unless_false     one that does not, refuses
+--   onward_gives     both parts of `onward` gave
+--   unless_onward    what goes on from a test goes on behind it
+--   onward_onward    going on twice
 --   and_then_gives   both parts of `and_then` gave
---   check_then      a check that did not refuse held, and took nothing
---   Taken           what a field took off the front of a string of bits
---   field_gives     a field takes the bits of its value, which fits its width
---   field_then      the same of a field and what follows it
---   field_takes     the bits of a value that fits are taken as that value
+--   check_then       a check that did not refuse held, and took nothing
+--   Taken            what a field took off the front of a string of bits
+--   field_gives      a field takes the bits of its value, which fits its width
+--   field_then       the same of a field and what follows it
+--   field_takes      the bits of a value that fits are taken as that value
 use Prim.Native.Nat.{ℕ, ◌^◌, ◌≤◌, ◌<◌}
 use native.Mathlib.Nat.{mod-eq_of_lt, le-add_right}
 use native.Mathlib.Omega.{arith}

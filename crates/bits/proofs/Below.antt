@@ -1,8 +1,8 @@
 -- Numbers below a bound.
 --
---   lt_or_ge       a number is below another or not
---   each_below_lem     a test that holds of each number below a bound, by computation, holds of any
---   equal_below    two functions of two numbers below bounds are equal, by computation
+--   lt_or_ge          a number is below another or not
+--   each_below_lem    a test that holds of each number below a bound, by computation, holds of any
+--   equal_below       two functions of two numbers below bounds are equal, by computation
 use Prim.Native.Nat.{ℕ, zero, suc, ◌≤◌, ◌<◌, zero-le, suc-le-suc}
 use native.Mathlib.Nat.{not-suc-le-zero, eq-or-lt_of_le, le_of_suc-le-suc}
 use native.Mathlib.Omega.{arith}

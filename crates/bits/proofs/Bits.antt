@@ -4,16 +4,16 @@
 --   bits_of_split      the a + b bits of v are the a upper ones, then the b lower ones
 --   bits_of_mod        bits_of w v depends on the w lowest bits of v alone
 --   bits_of_join       the bits of a number put together from two parts are those of the parts
---   value_of_bits_of    the number in the w bits of v is v modulo 2 ^ w
---   AllBits           each element of a list is 0 or 1
+--   value_of_bits_of   the number in the w bits of v is v modulo 2 ^ w
+--   AllBits            each element of a list is 0 or 1
 --   value_of_lt        a number of w bits is below 2 ^ w
---   bits_of_value_of    the bits of the number that bits give are those bits
+--   bits_of_value_of   the bits of the number that bits give are those bits
 --   length_string_of   a byte holds eight bits
 --   drop_string_of     the string without its first i * 8 bits is that of the bytes without the first i
 --   bits_string_of     a string of bits has bits alone
---   drop_at_byte      the string from bit o of byte i on
+--   drop_at_byte       the string from bit o of byte i on
 --   bits_of_drop       the bits of a number without the first are its lower bits
---   take_window       w bits within the bits of a number are those of the number shifted
+--   take_window        w bits within the bits of a number are those of the number shifted
 use Prim.Native.Nat.{ℕ, zero, suc, ◌+◌, ◌*◌, ◌/◌, ◌%◌, ◌^◌, ◌<◌}
 use mathlib.Core.Path.{◌≡◌, refl, sym, ap, ap₂, ◌∙◌, subst}
 use mathlib.Core.List.{List, [], ◌∷◌, ◌++◌, append_assoc}

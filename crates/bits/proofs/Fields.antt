@@ -1,8 +1,8 @@
 -- Laws of a field at a place (specs/Field.antt), and of the parser that takes it off a string (specs/Parser.antt).
 --
---   length_from     how many bits there are from a place on
---   from_past       the string behind a field is the string without it
---   bits_from       there are bits alone from a place on
+--   length_from      how many bits there are from a place on
+--   from_past        the string behind a field is the string without it
+--   bits_from        there are bits alone from a place on
 --   field_at_cut     where a field has no room, it is cut
 --   field_at_value   where it has room, its value stands there
 --   field_at_far, field_at_short, field_at_window   the same for the tests and the arithmetic of the code

@@ -2,8 +2,8 @@
 --
 --   Table n f          the entries of f below n are 0 and 1
 --   Bytes s            the elements of s are below 256
---   get_d_zeros         zeros behind a list change no element, where 0 stands past its end
---   length_bytes_to     so many bytes are asked for, so many there are
+--   get_or_zeros       zeros behind a list change no element, where 0 stands past its end
+--   length_bytes_to    so many bytes are asked for, so many there are
 --   tabulate_more      one entry more
 --   length_tabulate    the number of entries
 --   tabulate_at        the entries of a list of entries
@@ -87,14 +87,14 @@ zeros zero k = refl
 zeros (suc n) zero = refl
 zeros (suc n) (suc k) = zeros n k
 
-pub get_d_zeros : (bits : List ℕ) (n k : ℕ) → get_or (bits ++ replicate n 0) k 0 ≡ get_or bits k 0
-get_d_zeros [] n k = zeros n k
-get_d_zeros (b ∷ bits) n zero = refl
-get_d_zeros (b ∷ bits) n (suc k) = get_d_zeros bits n k
+pub get_or_zeros : (bits : List ℕ) (n k : ℕ) → get_or (bits ++ replicate n 0) k 0 ≡ get_or bits k 0
+get_or_zeros [] n k = zeros n k
+get_or_zeros (b ∷ bits) n zero = refl
+get_or_zeros (b ∷ bits) n (suc k) = get_or_zeros bits n k
 
 at_eight : (bits : List ℕ) (k : ℕ) → k < 8 → get_or (eight bits) k 0 ≡ get_or bits k 0
 unfolding eight
-at_eight bits k h = get_or-take 8 (bits ++ replicate 8 0) k 0 h ∙ get_d_zeros bits 8 k
+at_eight bits k h = get_or-take 8 (bits ++ replicate 8 0) k 0 h ∙ get_or_zeros bits 8 k
 
 binary_eight : (bits : List ℕ) → Binary bits → Binary (eight bits)
 binary_eight bits h k =

@@ -1,12 +1,12 @@
 -- Laws of a string of bits and the bytes that hold it (specs/Bits.antt), and of spare bits (specs/Field.antt).
 --
---   spare_count         how many spare bits fill up the last byte of a string of so many bits
+--   spare_count          how many spare bits fill up the last byte of a string of so many bits
 --   string_of_bytes_of   the bytes of a string of bits hold that string, then its spare bits, which are zeros
---   bytes_bytes_of      the bytes of a string of bits are below 256
---   string_of_same      bytes that hold the same string are the same
---   zeros_spare        fewer than eight zeros are spare bits alone
---   spare_zeros        spare bits alone are fewer than eight zeros
---   bytes_of_spare      bytes that hold a string of bits and then spare bits alone are the bytes of that string
+--   bytes_bytes_of       the bytes of a string of bits are below 256
+--   string_of_same       bytes that hold the same string are the same
+--   zeros_spare          fewer than eight zeros are spare bits alone
+--   spare_zeros          spare bits alone are fewer than eight zeros
+--   bytes_of_spare       bytes that hold a string of bits and then spare bits alone are the bytes of that string
 use Prim.Native.Nat.{ℕ, zero, suc, ◌+◌, ◌-◌, ◌*◌, ◌/◌, ◌%◌, ◌^◌, ◌≤◌, ◌<◌}
 use native.Mathlib.Nat.{mod-eq_of_lt, zero-div, not-suc-le-zero, le_of_suc-le-suc}
 use native.Mathlib.Omega.{arith}

@@ -1,9 +1,9 @@
 -- A field within two bytes, from the number that they make (specs/Field.antt); a byte past the end is 0.
 --
---   two_bytes        the bits of two bytes in turn are those of the number that they make
---   take_before      bits of a string do not depend on what stands behind it
---   drop_two         the string from bit o of byte i on, where two bytes stand
---   window_zeros     zeros behind the bytes do not change the number
+--   two_bytes         the bits of two bytes in turn are those of the number that they make
+--   take_before       bits of a string do not depend on what stands behind it
+--   drop_two          the string from bit o of byte i on, where two bytes stand
+--   window_zeros      zeros behind the bytes do not change the number
 --   value_of_window   the field's value, from the number
 use Prim.Native.Nat.{ℕ, suc, ◌+◌, ◌*◌, ◌-◌, ◌/◌, ◌%◌, ◌^◌, ◌≤◌, ◌<◌}
 use mathlib.Core.Path.{◌≡◌, sym, ap, ap₂, ◌∙◌, subst}
@@ -15,7 +15,7 @@ use Rattle.bits.specs.Bits.{bits_of, string_of, value_of}
 use Rattle.bits.specs.Field.{window_at}
 use Rattle.bits.proofs.Bits.{bits_of_join, drop_at_byte, length_string_of, take_window, value_of_bits_of}
 use Rattle.bits.proofs.Bytes.{string_of_append}
-use Rattle.bits.proofs.Packed.{Bytes, get_d_zeros}
+use Rattle.bits.proofs.Packed.{Bytes, get_or_zeros}
 
 two_bytes : (x y : ℕ) (rest : List ℕ) → y < 256 → bits_of 8 x ++ (bits_of 8 y ++ rest) ≡ bits_of 16 (x * 256 + y) ++ rest
 two_bytes x y rest h =
@@ -47,7 +47,7 @@ drop_two s i o bytes h =
 
 window_zeros : (s : List ℕ) (n i : ℕ) → window_at (s ++ replicate n 0) i ≡ window_at s i
 unfolding window_at
-window_zeros s n i = rw (get_d_zeros s n i, get_d_zeros s n (i + 1))
+window_zeros s n i = rw (get_or_zeros s n i, get_or_zeros s n (i + 1))
 
 pub value_of_window : (s : List ℕ) (i o w : ℕ) → Bytes s → i * 8 + o + w ≤ length s * 8 → o + w ≤ 16
     → value_of (take w (drop (i * 8 + o) (string_of s))) ≡ window_at s i / 2 ^ (16 - (o + w)) % 2 ^ w
@@ -70,7 +70,7 @@ value_of_window s i o w bytes inside h =
     behind = string_of (drop (i + 1 + 1) padded)
 
     same : (k : ℕ) → get_or padded k 0 ≡ get_or s k 0
-    same k = get_d_zeros s 2 k
+    same k = get_or_zeros s 2 k
 
     long : i + 1 < length padded
     long = omega (arith, length-append s zeros)

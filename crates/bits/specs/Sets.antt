@@ -1,10 +1,10 @@
 -- Kept by the code: sets of numbers below 64, a number a bit of a word.
 --
 --   max_members   so many numbers a set may have
---   has          a number is in a set: that bit of the word is 1, bit 0 the lowest
---   lowest       the lowest member; of the empty set, `max_members`
---   later        the set without its lowest member
---   joined       the set with one member more
+--   has           a number is in a set: that bit of the word is 1, bit 0 the lowest
+--   lowest        the lowest member; of the empty set, `max_members`
+--   later         the set without its lowest member
+--   joined        the set with one member more
 use Rattle.std.specs.Prelude.{ℕ, zero, suc, ◌-◌, ◌/◌, ◌%◌, ◌^◌, Bool, cond, eqb, ltb}
 use Rattle.std.specs.Int.Bits.{bit_and, bit_or}
 use Rattle.std.specs.Int.Count.{count_trailing_zeros}

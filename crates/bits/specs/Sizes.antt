@@ -1,6 +1,6 @@
 -- Believed: the sizes of a table (document 01, "Tables").
 --
---   table_bytes     the bytes of a packed table of n inputs
+--   table_bytes      the bytes of a packed table of n inputs
 --   table_size_of    the entries of a table of n inputs, if a word holds their number
 --   table_bytes_of   the bytes of a packed table of so many entries
 use Rattle.std.specs.Prelude.{ℕ, ◌+◌, ◌/◌, ◌^◌, cond, ltb}

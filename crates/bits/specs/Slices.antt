@@ -1,7 +1,7 @@
 -- Believed: slices of a list, and the tests by which an operation on them makes sure of its places.
 --
---   slice      so many numbers from a place on
---   splice     a list with new numbers from a place on
+--   slice       so many numbers from a place on
+--   splice      a list with new numbers from a place on
 --   has_room    so many places from one on end within a size
 --   copy_fits   so many places from one on end within a size, and so do those that they are copied from
 use Rattle.std.specs.Prelude.{ℕ, ◌+◌, Bool, ◌&&◌, List, ◌++◌, leb, length, take, drop}

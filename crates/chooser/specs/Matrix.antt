@@ -2,12 +2,12 @@
 --
 --   max_rows        no more rows than that
 --   max_signature   no signature has more entries
---   cell           the number of a row at an entry
---   differ         two rows are to be told apart: their marks differ
---   fits           the rows are there, no more than a job has circuits, and every entry lies within a row
+--   cell            the number of a row at an entry
+--   differ          two rows are to be told apart: their marks differ
+--   fits            the rows are there, no more than a job has circuits, and every entry lies within a row
 --   signature_of    entries as a signature, the places past them 0
 --   choice_over     what the method chooses, over a relation of needed pairs
---   choice         the same where each row has a mark, and rows are to be told apart whose marks differ
+--   choice          the same where each row has a mark, and rows are to be told apart whose marks differ
 use Rattle.std.specs.Prelude.{ℕ, zero, suc, ◌-◌, ◌+◌, ◌*◌, Bool, not, cond, ◌&&◌, List, [], ◌∷◌, ◌++◌, leb, eqb, length, get_or}
 use Rattle.bits.specs.Bounds.{all_below}
 use Rattle.method.specs.Method.{agree, signature, first_pair}

@@ -1,6 +1,6 @@
 -- Kept by the code: the pairs of rows that are not told apart yet, as a set of rows for each row, and the method over them.
 --
---   pair_of       two rows are a pair
+--   pair_of      two rows are a pair
 --   base         the pairs before any entry is taken: two rows whose marks differ
 --   Counted      a set has the numbers below a bound
 --   Marked       the rows of each mark, of those below a bound

@@ -4,7 +4,7 @@
 --   length_passing               how many pass below one number more
 --   passing_more                 below more numbers, no fewer pass
 --   scan_has, scan_below         every index below N is looked at, and no other
---   length_scan_to                no more indices are listed than there are
+--   length_scan_to               no more indices are listed than there are
 --   length_all                   and as many, once no index has a higher order
 --   length_one                   with no input there is one index, of order 0
 --   pascal                       Pascal's rule: with one input more, an index has its bit and one order more, or has it not

@@ -1,12 +1,12 @@
 -- Believed: choosing a signature for listed circuits, and for a job (document 01, "Choosing" and "Refusal by operation"; document 02, CR 2 and
 -- 3).
 --
---   needed        which pairs of circuits a purpose needs told apart
+--   needed         which pairs of circuits a purpose needs told apart
 --   scan_order     "The order of an index is its number of ones. Indices are looked at by order, then by value."
 --   scan_entries   the entries, "looked at by order, index, then output"
 --   signature_in   the signature of the method
 --   alike_pair     the first needed pair with equal tables
---   finding       the signature, or the pair
+--   finding        the signature, or the pair
 --   chosen_from    what choosing finds and fills for listed circuits, given the length of the lent work
 --   chosen_of      the same for a job
 --   signature_of   entries as the signature that is answered

@@ -3,15 +3,15 @@
 --   max_places   the most coefficients of a circuit at one output
 --   max_entries  and at all outputs
 --   max_orders   the most orders of an index
---   Few         no number of an array is above the most coefficients
---   summed      each number of an array and the one before it
+--   Few          no number of an array is above the most coefficients
+--   summed       each number of an array and the one before it
 --   of_order     the indices of one order below a bound
 --   place_of     the place of an index in the order of looking
---   Placed      the indices stand at their places
---   Listed      a list stands at the start of an array, and so many places are taken
---   Filled      the counts are a job's, and its spectra lie within the work
+--   Placed       the indices stand at their places
+--   Listed       a list stands at the start of an array, and so many places are taken
+--   Filled       the counts are a job's, and its spectra lie within the work
 --   marks_of     the circuits' marks: their parts, or whether each is a faulty one
---   wanted      the pairs of counted circuits that a purpose needs told apart
+--   wanted       the pairs of counted circuits that a purpose needs told apart
 --   chosen_by    the answer that the method's choice gives
 --   decoded_of   the entries of a signature whose numbers are taken apart
 --   scan_codes   the entries in the order of looking, each as one number

@@ -1,7 +1,7 @@
 -- What choosing and locating come to where nothing is refused (Rattle.choosing, specs/Choosing.antt; Rattle.locating, specs/Locating.antt).
 --
 --   signature_returned   the entries of a signature, as many as it counts, are the list that it stands for
---   lengths_ok_lem           a list's indices and outputs are not refused beside as many readings
+--   lengths_ok_lem       a list's indices and outputs are not refused beside as many readings
 --   chosen_opened        what choosing finds and fills
 --   located_opened       locating's answer and fills
 use Prim.Native.Nat.{ℕ, ◌^◌, ◌≤◌}

@@ -4,7 +4,7 @@
 --   passing_none      where none passes, none is listed
 --   empty_none        where none is listed, none passes
 --   passing_first     none is listed, or the lowest that passes is listed first
---   each_of_lem           numbers that have one part, each of them
+--   each_of_lem       numbers that have one part, each of them
 --   location_none     where none passes, the location is nowhere
 --   nowhere_none      it is nowhere only where none passes
 --   location_part     where those that pass have one part, the location is that part, with the lowest of them

@@ -1,11 +1,11 @@
 -- Readings at a list, and rows that agree on it (Rattle.method, specs/Method.antt; Rattle.spectra, specs/Operations.antt).
 --
---   agree_same         rows agree on a list when their readings have the same numbers, as an equation of tests
---   agree_readings     rows that agree on a list have equal readings
---   readings_agree     rows with equal readings agree on it
+--   agree_same          rows agree on a list when their readings have the same numbers, as an equation of tests
+--   agree_readings      rows that agree on a list have equal readings
+--   readings_agree      rows with equal readings agree on it
 --   same_numbers_eq     equal lists have the same numbers
 --   same_numbers_ne     unequal ones do not
---   told_part          on a list that tells rows of different parts apart, rows with equal readings have one part
+--   told_part           on a list that tells rows of different parts apart, rows with equal readings have one part
 use Prim.Native.Nat.{ℕ, ◌<◌}
 use native.Mathlib.Nat.{eq-or-lt_of_le}
 use mathlib.Core.Path.{◌≡◌, refl, sym, ap, ◌∙◌}

@@ -1,7 +1,7 @@
 -- Rows of bytes that are packed tables (specs/Rows.antt, specs/Polynomial.antt).
 --
 --   row_packed           bytes whose bits are a table's entries where the mask is 1, and 0 elsewhere
---   bit_for               bit 7 − (m mod 8) of a byte
+--   bit_for              bit 7 − (m mod 8) of a byte
 --   entry_slice           an entry of the table at a place
 --   answered             the table of a kind's answers to the tables at two places
 --   gate_entries         each entry of the gate step, over any number of bytes, is the kind's answer, and each spare bit 0

@@ -5,7 +5,7 @@
 --   combined      byte i of a table of answers, for the tables at two places
 --   formOf        the polynomial of a row of four answers, over the bits of a mask
 --   kindForm      the polynomial of a kind of gate
---   pattern_of     every byte of the table of one of the first three inputs, spare bits not yet cut off
+--   pattern_of    every byte of the table of one of the first three inputs, spare bits not yet cut off
 --   alternating   byte i of the table of an input from the fourth on: eight copies of a bit of i
 use Rattle.std.specs.Prelude.{ℕ, ◌+◌, ◌*◌, ◌/◌, ◌%◌, ◌^◌, List, [], ◌∷◌, get_or}
 use Rattle.std.specs.Int.Bits.{bit_and, bit_xor}

@@ -1,7 +1,7 @@
 -- Believed: the values of an input and of bridged inputs (document 01, "Tables").
 --
 --   input_value   the value of an input, for an input number
---   bridged      the value that a bridge gives two inputs, for their own values
+--   bridged       the value that a bridge gives two inputs, for their own values
 use Rattle.std.specs.Prelude.{ℕ, ◌/◌, ◌%◌, ◌^◌, Bool, cond}
 use Rattle.gates.specs.Answers.{answer}
 

@@ -4,7 +4,7 @@
 --   bytes_of    its bytes in order
 --   word_step   the gate step of two words, byte by byte
 --   gate_step   rows in which the table at one place is the gate step of so many bytes at two others
---   Places     the two that are read end before the one that is written, and that one within the rows
+--   Places      the two that are read end before the one that is written, and that one within the rows
 use Rattle.std.specs.Prelude.{ℕ, ◌+◌, ◌≤◌, List, [], ◌∷◌, length}
 use Rattle.bits.specs.Packed.{tabulate}
 use Rattle.bits.specs.Slices.{splice}

@@ -5,9 +5,9 @@
 --   counts_told                                    the counts of a job that `read` tells
 --   length_bytes, length_refused                   the length that `write` tells, and its refusal
 --   rewritten_unread, rewritten_onward             a job rewritten: reading's refusals; what writing answers and leaves
---   told_by, choice_by                               what a verdict of choosing tells, and the answer with it
+--   told_by, choice_by                             what a verdict of choosing tells, and the answer with it
 --   verdict_done, verdict_alike, verdict_refused   each verdict
---   chosen_by_lem                                      what choosing answers and leaves
+--   chosen_by_lem                                  what choosing answers and leaves
 --   location_refused, located_by                   a refusal of locating; what locating answers and leaves
 use Prim.Native.Nat.{ℕ, zero, suc}
 use mathlib.Core.Path.{◌≡◌, refl, sym, ap, ap₂, ◌∙◌}

@@ -1,9 +1,9 @@
 -- Believed: what the exported operations answer: the document's number, 0 for success, and its values; unused places are 0.
 --
---   version                the version of the exported functions, structs and numbers
---   kind_of, purpose_of      0 is RM and isolating, any other number MRM and detecting
+--   version                 the version of the exported functions, structs and numbers
+--   kind_of, purpose_of     0 is RM and isolating, any other number MRM and detecting
 --   number_of               the number of an answer
---   Numbered, numbered     the number, and the lent memory at exit
+--   Numbered, numbered      the number, and the lent memory at exit
 --   job_of                  a job's counts
 --   rewritten_of            a job read, and written again
 --   chosen_at               what choosing answers and leaves for a job

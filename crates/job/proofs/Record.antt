@@ -1,6 +1,6 @@
 -- Laws of the record's numbers (specs/Record.antt).
 --
---   above          a number at least i that is not i is at least i + 1
+--   above           a number at least i that is not i is at least i + 1
 --   gate_of_rest    every kind from 7 on is BUF
 --   fault_of_rest   every kind from 3 on is an OR bridge
 use Prim.Native.Nat.{ℕ, suc, ◌≤◌}

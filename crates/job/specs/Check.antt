@@ -2,10 +2,10 @@
 -- writing share them. Test 19 is in Dependence.antt.
 --
 --   inputs_ok, .., part_ok              the tests 2, 3, 4, 20, 6, 18, 7, 8, 21
---   in_turn                            each of so many entries judged, one after the other
---   fault_judged                       the tests of one fault
---   checked                           the first refusal of a record, in the order of writing
---   Valid                             what holds of a record that is not refused
+--   in_turn                             each of so many entries judged, one after the other
+--   fault_judged                        the tests of one fault
+--   checked                             the first refusal of a record, in the order of writing
+--   Valid                               what holds of a record that is not refused
 use Rattle.std.specs.Prelude.{ℕ, zero, suc, ◌+◌, ◌≤◌, ◌<◌, ◌≡◌, Bool, true, ◌&&◌, leb, ltb}
 use Rattle.bits.specs.Answer.{Answer, unless, onward}
 use Rattle.bits.specs.Answer.Answer.{gives}

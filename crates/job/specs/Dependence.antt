@@ -3,9 +3,9 @@
 --   gates_of       the gates of a record, without unused entries
 --   reads_such     the gate that drives a line reads such a line
 --   reached_to     of each line below a line in turn: whether it is line k, or depends on it
---   depends       a line depends on another
+--   depends        a line depends on another
 --   output_lines   the lines that are outputs
---   loose         a line is no output, and no output depends on it
+--   loose          a line is no output, and no output depends on it
 --   none_loose     no gate's line is loose
 --   no_loose       the test 19, of a record
 use Rattle.std.specs.Prelude.{ℕ, ◌+◌, ◌-◌, Bool, true, false, not, ◌&&◌, ◌||◌, List, [], ◌∷◌, leb, ltb, eqb, length, get_or, take}

@@ -1,7 +1,7 @@
 -- Kept by the code: the lines that are marked in one pass over the gates, from the last down.
 --
---   is_marked        a line is an output, or some of the gates read it
---   each_read        every gate's line is an output, or a later gate reads it
+--   is_marked       a line is an output, or some of the gates read it
+--   each_read       every gate's line is an output, or a later gate reads it
 --   OutputsMarked   the lines that are outputs are marked, and no other
 use Rattle.std.specs.Prelude.{ℕ, suc, ◌+◌, ◌≡◌, Bool, false, ◌||◌, List, [], ◌∷◌, eqb, length, get_or, drop}
 use Rattle.bits.specs.Bounds.{each_below}

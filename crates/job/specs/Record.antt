@@ -3,10 +3,10 @@
 --   gate_kind, gate_a, gate_b      a gate's kind and lines as numbers; gate_of is the way back
 --   fault_kind, fault_a, fault_b   a fault's kind and lines as numbers; fault_of is the way back
 --   gate_at, output_at, fault_at   gate q, output o's line and fault i of a record, each counted from 0
---   part_at                      the part of fault i, counted from 0
---   lines                       the number of lines
---   empty_job                    the record with every entry unused
---   reset                       the record with its unused entries as reading leaves them
+--   part_at                        the part of fault i, counted from 0
+--   lines                          the number of lines
+--   empty_job                      the record with every entry unused
+--   reset                          the record with its unused entries as reading leaves them
 use Rattle.std.specs.Prelude.{ℕ, ◌+◌, Bool, true, false, List, [], ◌∷◌, get_or, take, replicate}
 use Rattle.std.proofs.lemmas.List.Edits.{sets}
 use Rattle.job.specs.Layout.{max_gates, max_outputs, max_faults}

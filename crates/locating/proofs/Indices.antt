@@ -1,6 +1,6 @@
 -- Numbers read at a list of entries that is lent as its indices and its outputs (specs/Scanning.antt).
 --
---   numbers_at_lem          number i of the numbers at the entries
+--   numbers_at_lem      number i of the numbers at the entries
 --   numbers_length      as many as the indices
 --   numbers_same        what is read at entries depends on these entries alone
 --   entries_below       indices and outputs below bounds are entries below both

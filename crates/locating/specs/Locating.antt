@@ -1,10 +1,10 @@
 -- Believed: locating a unit from its readings, among listed circuits and for a job (document 01, "Locating" and "Refusal by operation"; document 02, CR 2
 -- and 3). The list of entries is lent as two lists, its indices and its outputs.
 --
---   Location        a part with the lowest circuit, several with the lowest and their number, or none
---   agreeing        the circuits that agree with readings, in order
+--   Location         a part with the lowest circuit, several with the lowest and their number, or none
+--   agreeing         the circuits that agree with readings, in order
 --   each_of          every one of circuits has a part
---   location        the result that agreeing circuits give
+--   location         the result that agreeing circuits give
 --   lengths_ok       the test of 17
 --   prepared_by      the checks by a test of 17, and the work filled: operations that take what locating takes go on from there
 --   located_from     what locating answers and fills for listed circuits, given the length of the lent work

@@ -6,8 +6,8 @@
 --   numbers_at      the numbers of the work at a list of entries, from a place on
 --   work_numbers    a circuit's numbers at these entries, its row of the work
 --   work_agrees     they agree with readings
---   Within         a number of the work for each entry, from a place on
---   RowsIn         the rows of the counted circuits lie within the work, and the entries within a row
+--   Within          a number of the work for each entry, from a place on
+--   RowsIn          the rows of the counted circuits lie within the work, and the entries within a row
 use Rattle.std.specs.Prelude.{ℕ, ◌+◌, ◌*◌, ◌^◌, ◌≤◌, ◌<◌, ◌≡◌, Bool, true, cond, ◌&&◌, List, [], ◌∷◌, map, eqb, length, get_or}
 use Rattle.bits.specs.Bounds.{all_below}
 use Rattle.job.specs.Layout.{max_inputs, max_faults}

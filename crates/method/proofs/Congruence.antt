@@ -1,8 +1,8 @@
 -- What the method picks depends on the coefficients at the rows and entries looked at, and on the pairs that are needed, alone.
 --
 --   some_below_same   a test over the numbers below a bound depends on these numbers alone
---   agree_same       rows agree on a list or not by the coefficients at its entries
---   signature_same   the signature is the same for coefficients and needed pairs that are the same there
+--   agree_same        rows agree on a list or not by the coefficients at its entries
+--   signature_same    the signature is the same for coefficients and needed pairs that are the same there
 use Prim.Native.Nat.{ℕ, zero, suc, ◌<◌}
 use native.Mathlib.Nat.{lt_trans}
 use native.Mathlib.Omega.{arith}

@@ -6,9 +6,9 @@
 --   some_pair_none      one that fails of all pairs fails of each needed pair
 --   some_some_pair      it holds of some pair if it holds of one needed pair
 --   none_some_pair      it fails of all pairs if it fails of each needed pair
---   full_all           a full list tells every needed pair apart
---   all_full           a list that tells every needed pair apart is full
---   full_some          of a list that isn't full, some needed pair agrees on it
+--   full_all            a full list tells every needed pair apart
+--   all_full            a list that tells every needed pair apart is full
+--   full_some           of a list that isn't full, some needed pair agrees on it
 use Prim.Native.Nat.{ℕ, zero, suc, ◌<◌}
 use native.Mathlib.Nat.{not-suc-le-zero, eq-or-lt_of_le, le_of_suc-le-suc}
 use native.Mathlib.Omega.{arith}

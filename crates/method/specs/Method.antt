@@ -1,14 +1,14 @@
 -- Believed: the method of choosing (document 01, "Choosing"), over any matrix of coefficients (a row a circuit, an entry of any type), any number of
 -- rows, any scan order and any relation of needed pairs.
 --
---   agree       two rows have equal coefficients at every entry of a list
---   tells       "A set of coefficients tells two circuits apart when one of them differs."
+--   agree        two rows have equal coefficients at every entry of a list
+--   tells        "A set of coefficients tells two circuits apart when one of them differs."
 --   some_below   a test holds of some number below a bound
---   useful      an entry tells apart a needed pair that a list doesn't
---   full        a list tells apart every needed pair
---   takes       "One is taken when it tells apart a needed pair that those taken before don't."
---   drops       "Then, from the last taken to the first, one is dropped if the rest still tell all needed pairs apart."
---   signature   "The signature keeps the order of taking."
+--   useful       an entry tells apart a needed pair that a list doesn't
+--   full         a list tells apart every needed pair
+--   takes        "One is taken when it tells apart a needed pair that those taken before don't."
+--   drops        "Then, from the last taken to the first, one is dropped if the rest still tell all needed pairs apart."
+--   signature    "The signature keeps the order of taking."
 --   first_pair   "the first such pair, by lower number, then by higher"
 use Rattle.std.specs.Prelude.{ℕ, zero, suc, ◌-◌, Bool, true, false, not, cond, ◌&&◌, ◌||◌, List, [], ◌∷◌, ◌++◌, eqb, length, take, drop}
 

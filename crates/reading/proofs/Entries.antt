@@ -1,7 +1,7 @@
 -- Laws of reading entry by entry (specs/Reading.antt).
 --
 --   entries_end, entries_stop, entries_next   what the entries from entry i on give: where none is left, where the next is refused, where it is read
---   from_gates_stop, from_gates_done            what a job gives from its gates on, once they are refused or read
+--   from_gates_stop, from_gates_done          what a job gives from its gates on, once they are refused or read
 --   from_outputs_stop, from_outputs_loose, from_outputs_done   the same for its outputs, where a gate is loose and where none is
 --   from_faults_stop, from_faults_done          the same for its faults
 use Prim.Native.Nat.{ℕ, suc, ◌+◌, ◌-◌, ◌≤◌, ◌<◌}

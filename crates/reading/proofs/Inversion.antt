@@ -1,12 +1,12 @@
 -- What bytes that read as a record say of it: the parser of specs/Reading.antt read backwards.
 --
 --   EntryTaken, entry_fields_gives   what the three fields of an entry took off the front of a string of bits
---   GateTaken, gate_gives           what a gate took, and the tests that it passed
+--   GateTaken, gate_gives            what a gate took, and the tests that it passed
 --   OutputTaken, output_line_gives   the same for an output line
---   FaultTaken, fault_gives         the same for a fault
---   Chain                           entries taken one behind the other, each as a relation says
---   EntriesTaken, entries_gives     what a run of entries took, and the list that it left
---   chain_each                      what holds of each entry taken holds of each entry of the list
+--   FaultTaken, fault_gives          the same for a fault
+--   Chain                            entries taken one behind the other, each as a relation says
+--   EntriesTaken, entries_gives      what a run of entries took, and the list that it left
+--   chain_each                       what holds of each entry taken holds of each entry of the list
 --   sets_front, sets_at, sets_taken   the list that a run left has the entries taken in front
 --   Parts, reading_parts            what a whole job took, and the tests that it passed
 use Prim.Native.Nat.{ℕ, zero, suc, ◌+◌, ◌-◌, ◌^◌, ◌≤◌, ◌<◌}

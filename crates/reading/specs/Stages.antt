@@ -2,7 +2,7 @@
 --
 --   gate_told, output_told, fault_told   what stands where a gate, an output line or a fault is due
 --   gate_end, output_end, fault_end      the place behind it
---   Near                              a place before so many bits
+--   Near                                 a place before so many bits
 use Rattle.std.specs.Prelude.{ℕ, ◌^◌, ◌≤◌, List}
 use Rattle.bits.specs.Answer.{Answer, number}
 use Rattle.bits.specs.Answer.Answer.{refused}

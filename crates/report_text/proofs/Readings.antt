@@ -1,8 +1,8 @@
 -- What is read off the filled work are the circuits' readings (specs/Text.antt, specs/Putting.antt).
 --
---   row_readings         the numbers of a circuit's row at a list of entries are its readings
---   lines_same           equal numbers give equal lines
---   work_text_lem            the text printed from the work is the job's
+--   row_readings          the numbers of a circuit's row at a list of entries are its readings
+--   lines_same            equal numbers give equal lines
+--   work_text_lem         the text printed from the work is the job's
 use Prim.Native.Nat.{ℕ, zero, suc, ◌+◌, ◌^◌, ◌<◌}
 use native.Mathlib.Omega.{arith}
 use mathlib.Core.Path.{◌≡◌, refl, ap, ap₂}

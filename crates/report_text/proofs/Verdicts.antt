@@ -4,7 +4,7 @@
 --   printed_done                          and what is known of a report
 --   count_inside                          a signature counts no more entries than it has
 --   taken_length                          and so many are taken
---   exit_text, verdict_printed             what a verdict prints, by what the call answers and leaves
+--   exit_text, verdict_printed            what a verdict prints, by what the call answers and leaves
 --   refused_printed                       the line of a refusal
 use Prim.Native.Nat.{ℕ, zero, suc, ◌≤◌}
 use native.Mathlib.Omega.{arith}

@@ -1,10 +1,10 @@
 -- Kept by the code: what the functions write that put text into lent bytes.
 --
---   Puts         a text stands from a place on, and all else is as it was; the answer is the place after it
---   Room         there is room for a text from a place on
+--   Puts          a text stands from a place on, and all else is as it was; the answer is the place after it
+--   Room          there is room for a text from a place on
 --   work_text     the text of a job, its circuits' numbers read off the work
 --   verdict_text  the text of a verdict
---   Printable    it can be printed from the work
+--   Printable     it can be printed from the work
 use Rattle.std.specs.Prelude.{ℕ, ◌+◌, ◌≤◌, ◌≡◌, List, ◌++◌, length, take}
 use Rattle.bits.specs.Answer.{number}
 use Rattle.bits.specs.Slices.{splice}

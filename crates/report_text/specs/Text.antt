@@ -1,6 +1,6 @@
 -- Believed: the text of the report program (document 01, "The report program"; document 02, CR 2).
 --
---   decimal        a number's digits
+--   decimal         a number's digits
 --   numbers_text    numbers, each behind a space: "One space parts the words of a line"
 --   entries_text    so for entries
 --   counts_line, signature_line, circuit_line, refused_line, alike_line   the lines, "every line ends with a newline"
@@ -8,7 +8,7 @@
 --   job_text        the text of a job that has a signature
 --   report_text     the text for the bytes of a job
 --   max_text        no text is longer
---   reported       what is written where
+--   reported        what is written where
 use Rattle.std.specs.Prelude.{ℕ, zero, suc, ◌+◌, ◌*◌, ◌/◌, ◌%◌, cond, List, [], ◌∷◌, ◌++◌, leb, ltb, length}
 use Rattle.bits.specs.Answer.{Answer, Fills, leaves}
 use Rattle.bits.specs.Answer.Answer.{gives, refused}

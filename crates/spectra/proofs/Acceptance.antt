@@ -2,10 +2,10 @@
 --
 --   same_numbers_refl    a list has the numbers that it has
 --   same_numbers_true    lists with the same numbers are equal
---   undone_table        of a table's spectrum the table is recovered
---   undone_spectrum     a table's spectrum is accepted
---   undone_only         what is accepted is the spectrum of the recovered table
---   recovered_bits      the recovered table's entries are 0 or 1
+--   undone_table         of a table's spectrum the table is recovered
+--   undone_spectrum      a table's spectrum is accepted
+--   undone_only          what is accepted is the spectrum of the recovered table
+--   recovered_bits       the recovered table's entries are 0 or 1
 use Prim.Native.Nat.{ℕ, ◌^◌, ◌<◌}
 use mathlib.Core.Path.{◌≡◌, refl, sym, ap, ap₂, ◌∙◌}
 use mathlib.Core.Bool.{true, true≢false}

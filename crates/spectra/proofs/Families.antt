@@ -1,11 +1,11 @@
 -- The spectra of listed circuits (specs/Listed.antt), and operations on them from their tables (specs/Operations.antt).
 --
 --   length_family_spectra   as many numbers as there are places
---   work_place             work place (c × outputs + o) × N + j holds coefficient j of circuit c at output o
---   work_entry             which is the place of an entry's code among those of circuit c
---   spectra_same           families whose entries are the same have the same spectra
---   rows_family            the spectra of tables, row after row, are those of their family
---   Fits                   what the checks of tables leave
+--   work_place              work place (c × outputs + o) × N + j holds coefficient j of circuit c at output o
+--   work_entry              which is the place of an entry's code among those of circuit c
+--   spectra_same            families whose entries are the same have the same spectra
+--   rows_family             the spectra of tables, row after row, are those of their family
+--   Fits                    what the checks of tables leave
 --   checked_fits, fits_checked   tables that pass the checks
 --   unchecked, checked     an operation from tables: it is refused, or goes on
 --   table_family_valid     the family of tables that pass is valid

@@ -1,21 +1,21 @@
 -- The loop that fills memory with the spectra of tables, row after row (the function `transform_rows`).
 --
 --   length_row_spectra   the spectra of r rows have r * 2 ^ n numbers
---   row_within          row r of rows that lie within a list lies within it
---   row_place           the same of a size that equals another
---   row_slice           a row as it is lent
---   row_whole           the one row of a table is the table
---   Filling             the spectra of the rows below r are put, and the sizes are those of a spectrum and of a table
---   filling_start       nothing is put yet
---   filling_length      the memory is as long as before
---   filling_place       there is room for one spectrum more, in the size that the code has
---   filling_inside      the same of the memory as it is now
---   filling_ends        a slice that is lent begins before its end
---   filling_slice       the slice of the memory that is lent has 2 ^ n places
---   row_bytes_lem           the row that is lent has the bytes of a table
---   filling_next        one spectrum more is put
---   filling_lent        the same, as the memory and the row are lent
---   filling_end         all are put
+--   row_within           row r of rows that lie within a list lies within it
+--   row_place            the same of a size that equals another
+--   row_slice            a row as it is lent
+--   row_whole            the one row of a table is the table
+--   Filling              the spectra of the rows below r are put, and the sizes are those of a spectrum and of a table
+--   filling_start        nothing is put yet
+--   filling_length       the memory is as long as before
+--   filling_place        there is room for one spectrum more, in the size that the code has
+--   filling_inside       the same of the memory as it is now
+--   filling_ends         a slice that is lent begins before its end
+--   filling_slice        the slice of the memory that is lent has 2 ^ n places
+--   row_bytes_lem        the row that is lent has the bytes of a table
+--   filling_next         one spectrum more is put
+--   filling_lent         the same, as the memory and the row are lent
+--   filling_end          all are put
 use Prim.Native.Nat.{ℕ, suc, ◌+◌, ◌-◌, ◌*◌, ◌^◌, ◌≤◌, ◌<◌}
 use native.Mathlib.Nat.{le_antisymm, le_of_eq, zero-mul, zero-add, suc-mul, mul-le-mul_right, le_trans}
 use native.Mathlib.Numerals.{add-one}

@@ -1,11 +1,11 @@
 -- Laws of sums (`sum_to` of specs/Spectrum.antt) and of lists of entries. All are stated over the number of terms.
 --
---   sum_to_ext       terms that are equal give equal sums
---   sum_to_add       a sum of a + b terms is that of the first a and that of the b from a on
---   sum_to_plus      the sum of f + g is the sum of the sums
---   sum_to_zero      terms that are all 0 have the sum 0
---   sum_to_le        n terms that are at most 1 have a sum of at most n
---   sum_to_mod       modulo 2, each term may be taken modulo 2
+--   sum_to_ext      terms that are equal give equal sums
+--   sum_to_add      a sum of a + b terms is that of the first a and that of the b from a on
+--   sum_to_plus     the sum of f + g is the sum of the sums
+--   sum_to_zero     terms that are all 0 have the sum 0
+--   sum_to_le       n terms that are at most 1 have a sum of at most n
+--   sum_to_mod      modulo 2, each term may be taken modulo 2
 --   tabulate_add    a list of a + b entries is that of the first a, then that of the b from a on
 --   pow_double      2 ^ (n + 1) is 2 ^ n twice
 --   term            term t of the sum of coefficient j in polarity k

@@ -1,11 +1,11 @@
 -- Believed: the coefficients of listed circuits, and where they stand in the work (document 01, "Spectra", "Choosing" and "Words of demand 3"; document 02,
 -- CR 2).
 --
---   Entry           "A signature entry is an index and an output"
+--   Entry            "A signature entry is an index and an output"
 --   coef_of          the coefficient of a circuit at an entry
 --   readings_of      "A circuit's readings for a list are its coefficients at the list's indices, in list order"
 --   family_spectra   the spectra of all listed circuits
---   places          as many numbers as they are
+--   places           as many numbers as they are
 --   indices_of, outputs_of   the indices and the outputs of entries
 --   entries_at       the entries that indices and outputs stand for, an index and an output each
 use Rattle.std.specs.Prelude.{ℕ, ◌*◌, ◌^◌, List, [], ◌∷◌, map}

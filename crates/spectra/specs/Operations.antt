@@ -2,7 +2,7 @@
 --
 --   table_ok         12: a packed table of n inputs has (N+7) div 8 bytes and spare bits 0
 --   polarity_ok      13
---   at              number j of a list
+--   at               number j of a list
 --   tables_ok        12, of the tables of counted circuits that stand one after the other
 --   tables_checked   2 and 12 of these
 --   from_tables      an operation on listed circuits, from their tables

@@ -1,9 +1,9 @@
 -- Kept by the code: parities of numbers as a packed table (document 01, "Spectra").
 --
 --   parity_at    entry m: the parity of number (m xor k)
---   Closed      an index below a size stays below it, xor k
---   Packs       a table that has room for the parities of the numbers
---   Lent        what undoing in lent memory asks of it, of the numbers and of the polarity
+--   Closed       an index below a size stays below it, xor k
+--   Packs        a table that has room for the parities of the numbers
+--   Lent         what undoing in lent memory asks of it, of the numbers and of the polarity
 use Rattle.std.specs.Prelude.{ℕ, ◌+◌, ◌/◌, ◌%◌, ◌^◌, ◌≤◌, ◌<◌, ◌≡◌, List, length}
 use Rattle.std.specs.Int.Bits.{bit_xor}
 use Rattle.job.specs.Layout.{max_inputs}

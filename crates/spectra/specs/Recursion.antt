@@ -2,8 +2,8 @@
 -- a table of three inputs in one byte, whose spectrum is the sum of those of its two halves, each with zeros in the place of the other.
 --
 --   entries_from   the table of the entries from one on
---   Most          every number of a list is at most m
---   combined      the MRM spectrum of a table from those of its two halves
+--   Most           every number of a list is at most m
+--   combined       the MRM spectrum of a table from those of its two halves
 --   all_reduced    numbers as the kind has them
 --   byte_entry    entry t mod 8 of a byte, the first its highest bit
 --   byte_sums     the MRM spectrum of a byte's eight entries in polarity k, sum by sum
@@ -11,11 +11,11 @@
 --   half_sums     their spectra, one after the other; `half_rows` has the first i
 --   eight_from    eight numbers of a list, from a place on
 --   eight_sums    the sums of two rows of eight
---   SumsFit      each of them fits a u16
---   Summed       the sums are those for the three lowest bits of the polarity, where there is a leaf
---   Asks         what the transform asks, of so many places of memory and so many bytes of tables
---   LeafAsks     what a leaf asks: what the transform of three inputs does, in some polarity
---   LeafMade     what a leaf makes, in whatever polarity that is
+--   SumsFit       each of them fits a u16
+--   Summed        the sums are those for the three lowest bits of the polarity, where there is a leaf
+--   Asks          what the transform asks, of so many places of memory and so many bytes of tables
+--   LeafAsks      what a leaf asks: what the transform of three inputs does, in some polarity
+--   LeafMade      what a leaf makes, in whatever polarity that is
 use Rattle.std.specs.Prelude.{ℕ, ◌+◌, ◌≤◌, ◌-◌, ◌*◌, ◌/◌, ◌%◌, ◌^◌, ◌<◌, List, ◌++◌, [], ◌∷◌, length, get_or, ◌≡◌}
 use Rattle.bits.specs.Blocks.{block}
 use Rattle.bits.specs.Packed.{entry, tabulate}

@@ -1,7 +1,7 @@
 -- Believed: Reed-Muller (RM) and modified Reed-Muller (MRM) spectra (document 01, "Spectra"). A table is a function from entry number to entry.
 --
 --   inside t j             the set bits of t are all set in j
---   sum_to n f              f 0 + f 1 + .. + f (n − 1)
+--   sum_to n f             f 0 + f 1 + .. + f (n − 1)
 --   coefficient            coefficient j of a table of n inputs in polarity k, of either kind
 --   spectrum               all of them, from index 0 on
 --   recovered              entry m of the table whose RM coefficients in polarity k are given modulo 2

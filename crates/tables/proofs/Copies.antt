@@ -10,7 +10,7 @@
 --   good_room, good_put   so for the good circuit, which is a batch by itself
 --   single_put       the tables of one faulty circuit, over the good circuit's
 --   first_room       there is room for the good circuit's tables where there is for all
---   step_fits_lem        so their bytes fit a word
+--   step_fits_lem    so their bytes fit a word
 --   tables_put       the tables of all circuits are put
 --   Putting          the tables of the first faulty circuits are put, and the good circuit's rows stand
 --   putting_start    none is put yet

@@ -2,12 +2,12 @@
 --
 --   fixed_by_other   a fault leaves the lines that are not its own
 --   fixed_by_bit     a fault keeps bits
---   fixes           a valid fault fixes lines of the circuit
---   fixing_bits     the fixing of any circuit keeps bits
---   fixing_other    a circuit leaves the lines that the test finds not fixed
---   given           what a fault gives the lines that it fixes
---   fixed_value     a fixed line has its level, or the bridge's value, whatever it would have by itself
---   fixed_table     the table of a fixed line, from the good circuit's rows
+--   fixes            a valid fault fixes lines of the circuit
+--   fixing_bits      the fixing of any circuit keeps bits
+--   fixing_other     a circuit leaves the lines that the test finds not fixed
+--   given            what a fault gives the lines that it fixes
+--   fixed_value      a fixed line has its level, or the bridge's value, whatever it would have by itself
+--   fixed_table      the table of a fixed line, from the good circuit's rows
 use Prim.Native.Nat.{ℕ, zero, suc, ◌^◌, ◌<◌}
 use native.Mathlib.Omega.{arith}
 use mathlib.Core.Path.{◌≡◌, refl, sym, ap, ◌∙◌}

@@ -1,6 +1,6 @@
 -- The polynomials of the kinds of gates, worked out kind after kind (specs/Sizes.antt).
 --
---   kind_of_lem        the gate of a kind's number has the kind
+--   kind_of_lem    the gate of a kind's number has the kind
 --   Forming        those of the first kinds are worked out
 --   forming_none   none yet
 --   forming_next   one more

@@ -1,13 +1,13 @@
 -- Laws of the room that the rows have (specs/Work.antt): what the functions that fill rows require, and that the places of rows fit a word.
 --
---   lines_most       the lines of a valid job are no more than those of the largest circuit
---   line_index       so each of them is an index of an array of lines
---   fault_number     the circuits of a batch without the good one have faults of the job
---   fault_index      a fault's number is an index of the record's faults
+--   lines_most        the lines of a valid job are no more than those of the largest circuit
+--   line_index        so each of them is an index of an array of lines
+--   fault_number      the circuits of a batch without the good one have faults of the job
+--   fault_index       a fault's number is an index of the record's faults
 --   table_bytes_most  no table has more bytes than that of the most inputs
---   bytes_some       each has one
---   row_order        a row before another ends before it
---   times_some       a factor of a product that fits a word fits one
+--   bytes_some        each has one
+--   row_order         a row before another ends before it
+--   times_some        a factor of a product that fits a word fits one
 --   good_sound, faulty_sound   where there are rows for a batch, a batch is sound
 --   wide_kept, wide_fewer      so for rows of the same length, and for fewer circuits
 --   wide_bytes, sound_bytes    the shape has the table's bytes, one or more (wide_some, sound_some)

@@ -1,6 +1,6 @@
 -- Laws of the values of lines (specs/Circuit.antt, specs/Work.antt).
 --
---   get_d_all         a test that passes at the default and at each element passes at an element read
+--   get_or_all       a test that passes at the default and at each element passes at an element read
 --   answer_bit       an answer is 0 or 1
 --   cond_bit         a choice of two bits is a bit
 --   own_bit          the value that a line has by itself is 0 or 1
@@ -34,10 +34,10 @@ abbrev all : {A : Type 0} → (A → Bool) → List A → Bool
 all p [] = true
 all p (x ∷ xs) = p x && all p xs
 
-get_d_all : {A : Type 0} (p : A → Bool) (xs : List A) (d : A) → p d ≡ true → all p xs ≡ true → (i : ℕ) → p (get_or xs i d) ≡ true
-get_d_all p [] d h a i = h
-get_d_all p (x ∷ xs) d h a zero = and_l (p x) (all p xs) a
-get_d_all p (x ∷ xs) d h a (suc i) = get_d_all p xs d h (and_r (p x) (all p xs) a) i
+get_or_all : {A : Type 0} (p : A → Bool) (xs : List A) (d : A) → p d ≡ true → all p xs ≡ true → (i : ℕ) → p (get_or xs i d) ≡ true
+get_or_all p [] d h a i = h
+get_or_all p (x ∷ xs) d h a zero = and_l (p x) (all p xs) a
+get_or_all p (x ∷ xs) d h a (suc i) = get_or_all p xs d h (and_r (p x) (all p xs) a) i
 
 abbrev is_bit : ℕ → Bool
 is_bit v = ltb v 2
@@ -46,7 +46,7 @@ pub answer_bit : (kind x y : ℕ) → answer kind x y < 2
 unfolding answer answers
 answer_bit kind x y =
     ltb-true (answer kind x y) 2
-    (get_d_all is_bit (get_or answers kind []) 0 refl (get_d_all (all is_bit) answers [] refl refl kind) (2 * x + y))
+    (get_or_all is_bit (get_or answers kind []) 0 refl (get_or_all (all is_bit) answers [] refl refl kind) (2 * x + y))
 
 pub cond_bit : (t : Bool) (x y : ℕ) → x < 2 → y < 2 → cond t x y < 2
 cond_bit true x y h k = h

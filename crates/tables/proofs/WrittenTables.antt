@@ -1,7 +1,7 @@
 -- Tables worked out in rows, and put into lent memory (specs/Work.antt, specs/Operations.antt).
 --
---   length_table        a circuit's table at an output has table_bytes bytes
---   length_circuit      its tables have as many for each output
+--   length_table         a circuit's table at an output has table_bytes bytes
+--   length_circuit       its tables have as many for each output
 --   length_tables_to     the tables of c circuits have c times as many
 --   wide_one, wide_block   the lent rows have room for the good circuit and one more, or as many as fit a block
 --   all_tables_room     all tables of a valid job are no more bytes than those of the most circuits at the most outputs

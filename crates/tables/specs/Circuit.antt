@@ -1,6 +1,6 @@
 -- Believed: the tables of a circuit (document 01, "Tables"; document 02, CR 2).
 --
---   Fixing         what the readers of a line see, where the line by itself would have a value
+--   Fixing          what the readers of a line see, where the line by itself would have a value
 --   values_to       the values of the lines below a line, for one input number, as everyone reads them
 --   fixed_by        the lines that a fault fixes, and at what
 --   circuit_entry   entry m of the table of circuit c at output o

@@ -1,7 +1,7 @@
 -- Believed: the listed circuits as tables (document 01, "Tables" and "Words of demand 3"; document 02, CR 2 and 3). What follows from a job's tables alone, its spectra, signatures
 -- and locations, is said of a family, which is a term of ours.
 --
---   Family       how many inputs, circuits and outputs there are, the part of a circuit, and the entry of a circuit and an output at an input number
+--   Family        how many inputs, circuits and outputs there are, the part of a circuit, and the entry of a circuit and an output at an input number
 --   part_of       the part of a job's circuit
 --   family_of     the family of a job's circuits
 --   same_tables   two circuits have equal tables

@@ -6,7 +6,7 @@
 --   counts_of     the job's counts, and the parts of its circuits
 --   part_in       the part of a circuit, from a list of parts
 --   tables_of     the tables of all its circuits, with these
---   delivered    what the second operation answers and leaves
+--   delivered     what the second operation answers and leaves
 use Rattle.std.specs.Prelude.{ℕ, ◌+◌, ◌*◌, List, ◌∷◌, map, leb, ltb, length, get_or, replicate}
 use Rattle.bits.specs.Answer.{Answer, Fills, leaves, unless, onward}
 use Rattle.bits.specs.Answer.Answer.{gives, refused}

@@ -2,9 +2,9 @@
 --
 --   shape_of       the inputs, the bytes, and the bits of each byte that are entries
 --   shape_within   so, with no bytes where no word holds the number of entries
---   Room          there is room for a table at a place
---   Space         so for tables side by side
---   Below         there is room for a table at a place, and two tables stand before it
+--   Room           there is room for a table at a place
+--   Space          so for tables side by side
+--   Below          there is room for a table at a place, and two tables stand before it
 --   noForm, Formed   the polynomials of the kinds of gates
 --   fixed_row      the table that a fault gives the lines that it fixes, from the rows of the good circuit
 use Rattle.std.specs.Prelude.{ℕ, ◌+◌, ◌*◌, ◌^◌, ◌≤◌, ◌<◌, ◌≡◌, List, length, get_or}

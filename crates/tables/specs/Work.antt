@@ -9,24 +9,24 @@
 --   gate_number   the gate that drives a line, or 0
 --   is_fixed      whether a fault fixes a line
 --   fixes_line    whether a circuit's fault does
---   FixedIn      for each line the set of the columns whose faults fix it
+--   FixedIn       for each line the set of the columns whose faults fix it
 --   good_fix, fault_fix   the fixings of the good circuit and of a fault
---   Unfixed      a fixing leaves a line as it is
---   Fixes        the lines that a fault fixes are lines of the circuit
---   LineRoom     what working out a line's block asks for
+--   Unfixed       a fixing leaves a line as it is
+--   Fixes         the lines that a fault fixes are lines of the circuit
+--   LineRoom      what working out a line's block asks for
 --   line_block    the rows with that block
---   Wide         a valid job, its shape, and rows for the good circuit and so many circuits side by side
---   Sound        so for a batch of circuits, which stands behind the good circuit's rows if it is not the good circuit itself
---   Good         the first rows are the good circuit's tables
+--   Wide          a valid job, its shape, and rows for the good circuit and so many circuits side by side
+--   Sound         so for a batch of circuits, which stands behind the good circuit's rows if it is not the good circuit itself
+--   Good          the first rows are the good circuit's tables
 --   side_table    the table of a line in a column of the batch
---   Side         the blocks of the first lines are their tables in each circuit of the batch, and the good circuit's rows stand
---   Made         so for the lines before one; its own block has its tables in the columns that are not in a set, and those of the set fix it
---   Asked        lines of the circuit, as those whose tables are asked for
+--   Side          the blocks of the first lines are their tables in each circuit of the batch, and the good circuit's rows stand
+--   Made          so for the lines before one; its own block has its tables in the columns that are not in a set, and those of the set fix it
+--   Asked         lines of the circuit, as those whose tables are asked for
 --   tables_at     the tables of a circuit at some lines, one after the other
 --   tables_from   so for a batch of circuits
 --   asked_row     the row of a batch's column at one of some lines
 --   rows_at       its rows at these lines, one after the other
---   RowsThere    a batch's rows at these lines lie within so many bytes
+--   RowsThere     a batch's rows at these lines lie within so many bytes
 use Rattle.std.specs.Prelude.{ℕ, zero, suc, ◌+◌, ◌-◌, ◌*◌, ◌^◌, ◌≤◌, ◌<◌, ◌≡◌, Bool, true, false, cond, ◌&&◌, ◌||◌, List, eqb, ltb, length, get_or}
 use Rattle.bits.specs.Packed.{tabulate, packed}
 use Rattle.bits.specs.Sets.{has}

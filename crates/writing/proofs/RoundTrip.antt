@@ -1,11 +1,11 @@
 -- Reading and writing a job undo each other (document 01, "Job layout").
 --
 --   bits_job_bits     the string of a job has bits alone
---   written_read     writing a record that was read gives the very bytes
---   written_room     writing such a record is refused for want of memory alone, and else fills in the very bytes
---   read_written     reading the bytes of a record gives the record, its unused entries reset
---   read_filled      so reading what writing filled in gives that
---   reset_read       a record that was read has its unused entries reset
+--   written_read      writing a record that was read gives the very bytes
+--   written_room      writing such a record is refused for want of memory alone, and else fills in the very bytes
+--   read_written      reading the bytes of a record gives the record, its unused entries reset
+--   read_filled       so reading what writing filled in gives that
+--   reset_read        a record that was read has its unused entries reset
 use Prim.Native.Nat.{ℕ, suc, ◌+◌, ◌-◌, ◌^◌, ◌≤◌, ◌<◌, suc-le-suc}
 use native.Mathlib.Nat.{add-zero, zero-add, le_trans}
 use native.Mathlib.Omega.{arith}

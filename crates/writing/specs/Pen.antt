@@ -1,12 +1,12 @@
 -- Kept by the code: bits put one field after the other into lent bytes.
 --
---   inked        the string of bits put so far: whole bytes, and the bits that wait for their byte to be full
+--   inked         the string of bits put so far: whole bytes, and the bits that wait for their byte to be full
 --   inked_bytes   the bytes that hold it
---   filled       memory whose start is filled
---   Ready        a pen whose waiting bits are fewer than a byte, with room for more bits
---   Puts         what putting bits does to the bytes and the pen
---   EntryFits    a kind and two lines that fit their fields
---   AllFit       numbers that fit fields of a width
+--   filled        memory whose start is filled
+--   Ready         a pen whose waiting bits are fewer than a byte, with room for more bits
+--   Puts          what putting bits does to the bytes and the pen
+--   EntryFits     a kind and two lines that fit their fields
+--   AllFit        numbers that fit fields of a width
 use Rattle.std.specs.Prelude.{ℕ, ◌+◌, ◌*◌, ◌^◌, ◌≤◌, ◌<◌, ◌≡◌, List, ◌++◌, length, get_or, take, drop}
 use Rattle.bits.specs.Bits.{bits_of, string_of, bytes_of}
 use Rattle.job.specs.Layout.{line_bits}

@@ -1,9 +1,9 @@
 -- Believed: writing a job (document 01, "Job layout" and "Refusal by operation"; document 02, CR 2 and 3).
 --
 --   gate_bits, fault_bits   the bits of one gate, of one fault
---   job_bits               the string of bits of a job, without its spare bits
---   written               what writing answers and fills, given the length of the lent memory
---   written_told           what the operation's answer stands for
+--   job_bits                the string of bits of a job, without its spare bits
+--   written                 what writing answers and fills, given the length of the lent memory
+--   written_told            what the operation's answer stands for
 use Rattle.std.specs.Prelude.{ℕ, ◌-◌, List, [], ◌∷◌, ◌++◌, leb, length, take}
 use Rattle.bits.specs.Answer.{Answer, Fills, number, unless, onward}
 use Rattle.bits.specs.Answer.Answer.{gives, refused}

@@ -1,4 +1,4 @@
--- The measure of `chooser::choose_from` is the number of entries from the place on.
+-- `chooser::choose_from` meets its contract. Its measure is the number of entries from the place on.
 use Rattle.std.proofs.Common.{length, ◌-◌}
 use Rattle.chooser.proofs.+choose_from.Given as goal
 

@@ -5,7 +5,6 @@ use native.Mathlib.Nat.{le_of_lt}
 use lib.Dec.{lit<}
 use Rattle.chooser.specs.Matrix.{max_signature, zeros}
 use Rattle.chooser.proofs.Cells.{count_within, place_fits}
-use Prim.Native.Nat.{◌-◌}
 use mathlib.Core.Path.{refl}
 use lib.ListN.{length}
 use borrow.Author.Count.{falls}

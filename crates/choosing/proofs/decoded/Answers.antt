@@ -1,6 +1,5 @@
 -- `choosing::decoded` meets its contract: a number taken apart a turn.
--- the numbers, each taken apart
-use Prim.Native.Nat.{ℕ, ◌-◌, ◌/◌, ◌%◌, ◌^◌}
+use Prim.Native.Nat.{ℕ, ◌/◌, ◌%◌, ◌^◌}
 use native.Mathlib.Nat.{zero-div, zero-mod}
 use native.Mathlib.Omega.{arith}
 use Prim.Native.Nat.{◌≤◌}
@@ -60,6 +59,7 @@ loop-i-preserved c = (
   filled_more c.loop-i.invariant.1 _ c.loop-i-test.true refl,
 )
 
+-- the numbers, each taken apart
 parts : (f : ℕ → ℕ) (codes l : List ℕ) (i : ℕ) → f 0 ≡ 0 → length codes ≡ max_signature → Written zeros 0 max_signature (λ p. f (get_or codes p 0)) l i → max_signature ≤ i → l ≡ map f codes
 parts f codes l i z long w h =
     filled_all w (length-replicate max_signature 0) h ∙ ap (λ (k : ℕ). tabulate k (λ p. f (get_or codes p 0))) (sym long) ∙ decoded_map f codes z

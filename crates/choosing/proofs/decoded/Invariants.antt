@@ -1,5 +1,4 @@
 -- `choosing::decoded` meets its contract: a number taken apart a turn.
--- the numbers, each taken apart
 use Prim.Native.Nat.{◌-◌, ◌/◌, ◌%◌, ◌^◌}
 use lib.ListN.{get_or, replicate}
 use Rattle.bits.proofs.Splice.{Written}

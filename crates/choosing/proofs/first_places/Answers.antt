@@ -1,6 +1,5 @@
 -- `choosing::first_places` meets its contract.
 use native.Mathlib.Omega.{arith}
-use Prim.Native.Nat.{◌-◌}
 use mathlib.Core.Path.{sym}
 use borrow.Author.Count.{falls}
 use lib.Dec.{lit<}

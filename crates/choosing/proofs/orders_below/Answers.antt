@@ -1,7 +1,6 @@
 -- `choosing::orders_below` meets its contract.
 use native.Mathlib.Nat.{lt_of_lt_of_le}
 use native.Mathlib.Omega.{arith}
-use Prim.Native.Nat.{◌-◌}
 use mathlib.Core.Path.{refl}
 use borrow.Author.Count.{falls}
 use Rattle.job.specs.Layout.{max_inputs}

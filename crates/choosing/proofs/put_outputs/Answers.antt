@@ -1,5 +1,4 @@
 -- `choosing::put_outputs` meets its contract: an entry a turn.
-use Prim.Native.Nat.{◌-◌}
 use native.Mathlib.Nat.{lt_of_lt_of_le}
 use native.Mathlib.Omega.{arith}
 use mathlib.Core.Path.{refl, ap, ◌∙◌}

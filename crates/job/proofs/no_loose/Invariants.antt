@@ -1,5 +1,4 @@
 -- `job::no_loose` meets its contract.
--- the record's array of outputs
 use Rattle.job.proofs.Marking.{Marking}
 use Rattle.job.proofs.no_loose.Given as goal
 

@@ -1,6 +1,5 @@
 -- `agrees` meets its contract: the numbers passed are the readings.
 use native.Mathlib.Omega.{arith}
-use Prim.Native.Nat.{◌-◌}
 use borrow.Author.Count.{falls}
 use Rattle.locating.proofs.Comparison.{compared_none, compared_stop, compared_more, compared_all}
 use Rattle.locating.proofs.agrees.Goals as goal

@@ -1,5 +1,4 @@
 -- `locate` meets its contract: the tables are delivered, or reading refuses.
--- the memory that is lent for the tables
 use Prim.Native.Nat.{ℕ}
 use mathlib.Core.Path.{refl, sym, ◌∙◌}
 use mathlib.Core.List.{List}
@@ -12,6 +11,7 @@ use Rattle.locating.proofs.Families.{located_unread, located_delivered}
 use Rattle.locating.proofs.locate.Goals as goal
 use Rattle.locating.proofs.locate.Goals.{In-Done}
 
+-- the memory that is lent for the tables
 abbrev zeros : List ℕ
 zeros = replicate 8192 0
 

@@ -1,5 +1,4 @@
 -- `locate_tables` meets its contract: the work is prepared, and its rows are scanned.
--- the work is prepared
 use Rattle.locating.proofs.Preparation.{Prepared, prepared_done}
 use Rattle.locating.proofs.Answers.{sought_refused, sought_rows, sought_done}
 use Rattle.locating.proofs.locate_tables.Goals as goal
@@ -11,6 +10,7 @@ enum_known-outcome c = c.in-Refused.in-Refused-own.keys1
 pub enum_told-1 : goal.enum_told-1
 enum_told-1 c = c.in-Done.in-Done-own.keys2
 
+-- the work is prepared
 ready : (c : In-Done) → let a = c.args in Prepared a.counts a.tables.now a.kind a.polarity a.indices.now a.outputs.now c.lengths_ok-paired.result a.work.now c.prepare-outcome.new.work
 ready c = let a = c.args in prepared_done a.counts a.tables.now a.kind a.polarity a.indices.now a.outputs.now c.lengths_ok-paired.result a.work.now c.prepare-outcome.result c.prepare-outcome.ensures c.in-Done.is
 

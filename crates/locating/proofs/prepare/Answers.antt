@@ -1,8 +1,4 @@
 -- `prepare` meets its contract: each way out is one law.
--- the checks of the tables are passed
--- the size is the number of coefficients
--- the indices are below the number of coefficients
--- the outputs are below their number
 use Prim.Native.Nat.{◌^◌}
 use mathlib.Core.Bool.{true}
 use mathlib.Core.Path.{◌≡◌, sym, ap, ◌∙◌}
@@ -27,9 +23,11 @@ returns-in-Refused c = let a = c.args in prepared_unchecked a.counts a.tables.no
 pub enum_told-1 : goal.enum_told-1
 enum_told-1 c = c.in_default.in_default-own.keys2
 
+-- the checks of the tables are passed
 passed : (c : After-table_size-size) → let a = c.args in tables_checked a.counts a.tables.now ≡ gives tt
 passed c = sym c.check_tables-checked.ensures ∙ ap outcome c.in_default.is
 
+-- the size is the number of coefficients
 sized : (c : After-table_size-size) → c.table_size-size.result ≡ 2 ^ c.args.counts.inputs
 sized c = table_size_exact (inputs_few (checked_fits c.args.counts c.args.tables.now (passed c)).few) c.table_size-size.ensures
 
@@ -39,12 +37,14 @@ returns-then-size-polarity c = let a = c.args in prepared_polarity a.counts a.ta
 pub returns-then-not-all_below : goal.returns-then-not-all_below
 returns-then-not-all_below c = let a = c.args in prepared_index a.counts a.tables.now a.kind a.polarity a.indices.now a.outputs.now a.paired a.work.now (passed (goal.at.returns-then-not-all_below c).After-table_size-size) (sized (goal.at.returns-then-not-all_below c).After-table_size-size) c.if-size-polarity.false (sym c.all_below.ensures ∙ not-true c.all_below.result c.if-not-all_below.true-raw)
 
+-- the indices are below the number of coefficients
 indices_below : (c : Else-not-all_below) → all_below c.table_size-size.result c.args.indices.now ≡ true
 indices_below c = sym c.all_below.ensures ∙ not-false c.all_below.result c.if-not-all_below.false-raw
 
 pub returns-then-not-all_below-2 : goal.returns-then-not-all_below-2
 returns-then-not-all_below-2 c = let a = c.args in prepared_output a.counts a.tables.now a.kind a.polarity a.indices.now a.outputs.now a.paired a.work.now (passed (goal.at.returns-then-not-all_below-2 c).After-table_size-size) (sized (goal.at.returns-then-not-all_below-2 c).After-table_size-size) c.if-size-polarity.false (indices_below (goal.at.returns-then-not-all_below-2 c).Else-not-all_below) (sym c.all_below-2.ensures ∙ not-true c.all_below-2.result c.if-not-all_below-2.true-raw)
 
+-- the outputs are below their number
 outputs_below : (c : Else-not-all_below-2) → all_below c.args.counts.outputs c.args.outputs.now ≡ true
 outputs_below c = sym c.all_below-2.ensures ∙ not-false c.all_below-2.result c.if-not-all_below-2.false-raw
 

@@ -1,9 +1,6 @@
 -- `scan` meets its contract: what is kept of the agreeing rows passed.
--- the size is the number of coefficients
--- what owning the counts tells of their array
--- there is a part for every circuit
 use native.Mathlib.Omega.{arith}
-use Prim.Native.Nat.{◌+◌, ◌-◌, ◌^◌, ◌≤◌}
+use Prim.Native.Nat.{◌+◌, ◌^◌, ◌≤◌}
 use mathlib.Core.Path.{◌≡◌, sym, ◌∙◌}
 use borrow.Author.Count.{falls}
 use lib.ListN.{length}
@@ -15,12 +12,15 @@ use Rattle.locating.proofs.Scans.{scanned_none, scanned_lowest, scanned_count, s
 use Rattle.locating.proofs.scan.Goals as goal
 use Rattle.locating.proofs.scan.Goals.{After-table_size-size, Start, then-agrees, else-agrees}
 
+-- the size is the number of coefficients
 sized : (c : After-table_size-size) → c.table_size-size.result ≡ 2 ^ c.args.counts.inputs
 sized c = table_size_exact (inputs_few c.requires.0.inputs_few) c.table_size-size.ensures
 
+-- what owning the counts tells of their array
 parts-long : (c : Start) → length c.args.counts.parts ≡ 64
 parts-long c = c.well_formed.1.0.1.1.1.1.1.1.0.1.0.1
 
+-- there is a part for every circuit
 parts-enough : (c : Start) → c.args.counts.faults + 1 ≤ length c.args.counts.parts
 unfolding max_faults
 parts-enough c = omega (arith, parts-long c, c.requires.0.faults_few)

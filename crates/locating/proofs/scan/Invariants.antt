@@ -1,7 +1,4 @@
 -- `scan` meets its contract: what is kept of the agreeing rows passed.
--- the size is the number of coefficients
--- what owning the counts tells of their array
--- there is a part for every circuit
 use Prim.Native.Nat.{◌-◌, ◌*◌}
 use Rattle.tables.specs.Operations.{part_in}
 use Rattle.spectra.specs.Listed.{entries_at}

@@ -2,7 +2,6 @@
 use Prim.Native.Nat.{◌*◌, ◌+◌, ◌-◌, ◌≤◌}
 use mathlib.Core.Path.{◌≡◌}
 use Rattle.bits.specs.Field.{from, max_width}
-use Rattle.job.specs.Record.{lines}
 use Rattle.reading.specs.Reading.{fault, entries_from, with_faults}
 use Rattle.reading.proofs.read_faults.Given as goal
 

@@ -2,7 +2,6 @@
 use Prim.Native.Nat.{◌*◌, ◌+◌, ◌-◌, ◌≤◌}
 use mathlib.Core.Path.{◌≡◌}
 use Rattle.bits.specs.Field.{from, max_width}
-use Rattle.job.specs.Record.{lines}
 use Rattle.reading.specs.Reading.{output_line, entries_from, with_outputs}
 use Rattle.reading.proofs.read_outputs.Given as goal
 

@@ -1,4 +1,4 @@
--- The measure of `report_text::put_decimal` is the number.
+-- `report_text::put_decimal` meets its contract. Its measure is the number.
 use Rattle.report_text.proofs.+put_decimal.Given as goal
 
 abbrev pub decreases-put_decimal : goal.decreases-put_decimal

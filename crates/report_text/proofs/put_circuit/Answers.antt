@@ -1,5 +1,4 @@
 -- `report_text::put_circuit` meets its contract.
--- so many coefficients an output
 use native.Mathlib.Omega.{arith}
 use mathlib.Core.Path.{◌≡◌, sym}
 use Prim.Native.Nat.{◌^◌}
@@ -15,6 +14,7 @@ use Rattle.report_text.proofs.Texts.{room_same, puts_same}
 use Rattle.report_text.proofs.put_circuit.Goals as goal
 use Rattle.report_text.proofs.put_circuit.Goals.{After-table_size-size}
 
+-- so many coefficients an output
 sized : (c : After-table_size-size) → c.table_size-size.result ≡ 2 ^ c.args.counts.inputs
 sized c = table_size_exact (inputs_few c.requires.0.inputs_few) c.table_size-size.ensures
 

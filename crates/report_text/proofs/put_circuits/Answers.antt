@@ -1,6 +1,6 @@
 -- `report_text::put_circuits` meets its contract.
 use native.Mathlib.Omega.{arith}
-use Prim.Native.Nat.{◌-◌, ◌+◌}
+use Prim.Native.Nat.{◌+◌}
 use borrow.Author.Count.{falls}
 use Rattle.spectra.specs.Listed.{entries_at}
 use Rattle.locating.specs.Scanning.{work_numbers}

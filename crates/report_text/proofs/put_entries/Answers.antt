@@ -1,6 +1,5 @@
 -- `report_text::put_entries` meets its contract.
 use native.Mathlib.Omega.{arith}
-use Prim.Native.Nat.{◌-◌}
 use borrow.Author.Count.{falls}
 use Rattle.report_text.proofs.Pieces.{begun_none, begun_room, begun_more, begun_all, entries_grow}
 use Rattle.report_text.proofs.put_entries.Goals as goal

@@ -1,6 +1,6 @@
 -- `report_text::put_row` meets its contract.
 use native.Mathlib.Omega.{arith}
-use Prim.Native.Nat.{◌-◌, ◌+◌, ◌*◌}
+use Prim.Native.Nat.{◌+◌, ◌*◌}
 use lib.ListN.{get_or}
 use borrow.Author.Count.{falls}
 use Rattle.report_text.proofs.Pieces.{begun_none, begun_room, begun_more, begun_all, row_grows}

@@ -1,6 +1,5 @@
 -- `spectra::fill` meets its contract: each way out is one law.
--- the checks are passed
-use Prim.Native.Nat.{ℕ, ◌*◌, ◌^◌, ◌<◌, ◌≤◌}
+use Prim.Native.Nat.{ℕ, ◌*◌, ◌<◌, ◌≤◌}
 use native.Mathlib.Nat.{le_of_eq}
 use mathlib.Core.Path.{◌≡◌, sym, ap, subst, ◌∙◌}
 use lib.ListN.{length}
@@ -24,6 +23,7 @@ returns-in-Refused c = let a = c.args in filled_unchecked a.counts a.tables.now 
 pub enum_told-1 : goal.enum_told-1
 enum_told-1 c = c.in_default.in_default-own.keys2
 
+-- the checks are passed
 passed : (c : In_default) → let a = c.args in tables_checked a.counts a.tables.now ≡ gives tt
 passed c = sym c.check_tables-checked.ensures ∙ ap outcome c.in_default.is
 

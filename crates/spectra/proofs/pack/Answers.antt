@@ -1,5 +1,4 @@
 -- `spectra::pack` meets its contract. The loop has written one byte for each turn.
-use Prim.Native.Nat.{◌-◌}
 use native.Mathlib.Omega.{arith}
 use borrow.Author.Count.{falls}
 use Rattle.bits.proofs.Splice.{written_length}

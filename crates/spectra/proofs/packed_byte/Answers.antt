@@ -1,5 +1,5 @@
 -- `spectra::packed_byte` meets its contract. The loop has put one parity for each turn into the byte.
-use Prim.Native.Nat.{◌+◌, ◌-◌}
+use Prim.Native.Nat.{◌+◌}
 use native.Mathlib.Omega.{arith}
 use borrow.Author.Count.{falls}
 use Rattle.spectra.proofs.Parities.{digits_none, digits_twice, digits_fits, digits_more, digits_all, parity_bit}

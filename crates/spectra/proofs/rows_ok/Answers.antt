@@ -1,6 +1,5 @@
 -- `rows_ok_lem` meets its contract: the rows passed are tables.
 use native.Mathlib.Omega.{arith}
-use Prim.Native.Nat.{◌-◌}
 use borrow.Author.Count.{falls}
 use Rattle.bits.proofs.TableSizes.{table_bytes_exact, fifteen_few}
 use Rattle.spectra.proofs.TableTests.{rows_other, rows_small, testing_start, testing_place, testing_stop, testing_next, testing_end}

@@ -1,5 +1,4 @@
 -- `spectra::same` meets its contract. The loop has found one number the same for each turn.
-use Prim.Native.Nat.{◌-◌}
 use native.Mathlib.Omega.{arith}
 use borrow.Author.Count.{falls}
 use Rattle.spectra.proofs.Recovery.{comparing_none, comparing_stop, comparing_more, comparing_all, same_lengths}

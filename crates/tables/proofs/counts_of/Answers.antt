@@ -1,6 +1,5 @@
 -- `tables::counts_of` meets its contract.
--- what owning a record tells of its array
-use Prim.Native.Nat.{ℕ, ◌-◌}
+use Prim.Native.Nat.{ℕ}
 use native.Mathlib.Omega.{arith}
 use mathlib.Core.Path.{◌≡◌, ap}
 use mathlib.Core.List.{List}
@@ -11,6 +10,7 @@ use Rattle.tables.proofs.Parts.{part_entry, parts_written}
 use Rattle.tables.proofs.counts_of.Goals as goal
 use Rattle.tables.proofs.counts_of.Goals.{Start}
 
+-- what owning a record tells of its array
 faults-long : (c : Start) → length c.args.job.faults ≡ 63
 faults-long c = c.well_formed.0.1.1.1.1.1.1.1.1.0.1.0.1
 

@@ -1,5 +1,4 @@
 -- `tables::counts_of` meets its contract.
--- what owning a record tells of its array
 use Prim.Native.Nat.{◌-◌}
 use mathlib.Core.List.{map}
 use lib.ListN.{get_or}

@@ -1,5 +1,4 @@
 -- `tables::put_column` meets its contract: each turn puts the row of one line behind those of the lines before.
-use Prim.Native.Nat.{◌-◌}
 use native.Mathlib.Omega.{arith}
 use Rattle.tables.proofs.Blocks.{placed_offset, placed_place, placed_all}
 use Rattle.tables.proofs.Copies.{row_place, row_offset, row_start, rows_none, rows_more}

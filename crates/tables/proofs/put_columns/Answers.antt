@@ -1,5 +1,4 @@
 -- `tables::put_columns` meets its contract: each turn puts the tables of one circuit behind those before.
-use Prim.Native.Nat.{◌-◌}
 use native.Mathlib.Omega.{arith}
 use Rattle.tables.proofs.Blocks.{placed_none, placed_one, placed_width, placed_offset, placed_place, placed_more, placed_all}
 use Rattle.tables.proofs.Copies.{length_rows}

@@ -1,5 +1,4 @@
 -- `tables::put_faults` meets its contract: each turn puts the tables of one batch, and the good circuit's rows stand.
-use Prim.Native.Nat.{◌-◌}
 use native.Mathlib.Omega.{arith}
 use Rattle.job.specs.Layout.{max_inputs, max_gates, max_faults}
 use Rattle.tables.specs.Work.{block_bytes}

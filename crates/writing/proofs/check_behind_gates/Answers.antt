@@ -1,6 +1,4 @@
 -- `writing::check_behind_gates` meets its contract.
--- the record has room for its outputs
--- what the call says of the record's outputs
 use Prim.Native.Nat.{◌≤◌}
 use mathlib.Core.Path.{◌≡◌, sym, ap, ◌∙◌}
 use native.Mathlib.Omega.{arith}
@@ -14,6 +12,7 @@ use Rattle.writing.proofs.Checks.{outputs_lent}
 use Rattle.writing.proofs.check_behind_gates.Goals as goal
 use Rattle.writing.proofs.check_behind_gates.Goals.{After-check_outputs, Start}
 
+-- the record has room for its outputs
 room : (c : Start) → c.args.job.output_count ≤ 4 → c.args.job.output_count ≤ length c.args.job.outputs
 room c few = let long : length c.args.job.outputs ≡ 4 = c.well_formed.0.1.1.1.1.1.1.0.1.0.1 in omega arith
 
@@ -30,6 +29,7 @@ slice_bounds-outputs-end c = room c.before.before.before.before.before.before c.
 pub slice_bounds-check_outputs-end : goal.slice_bounds-check_outputs-end
 slice_bounds-check_outputs-end c = sym (length-take-le c.args.job.output_count c.args.job.outputs (room c.before.before.before.before.before.before.before c.if-count-gt-MAX_OUTPUTS.false))
 
+-- what the call says of the record's outputs
 outputs-told : (c : After-check_outputs) → outcome c.check_outputs.result ≡ outputs_checked c.args.job c.args.job.output_count 0
 outputs-told c = c.check_outputs.ensures ∙ outputs_lent c.args.job (room c.before.before.before.before.before.before.before.before c.if-count-gt-MAX_OUTPUTS.false)
 

@@ -1,6 +1,4 @@
 -- `writing::put_faults` meets its contract.
--- what owning a record tells of its array
-use Prim.Native.Nat.{◌-◌, ◌≤◌}
 use mathlib.Core.Path.{◌≡◌}
 use native.Mathlib.Omega.{arith}
 use lib.ListN.{length}
@@ -15,6 +13,7 @@ use Rattle.writing.proofs.Entries.{fault_same, entries_none, entries_ready, entr
 use Rattle.writing.proofs.put_faults.Goals as goal
 use Rattle.writing.proofs.put_faults.Goals.{Start}
 
+-- what owning a record tells of its array
 faults-long : (c : Start) → length c.args.job.faults ≡ max_faults
 unfolding max_faults
 faults-long c = c.well_formed.1.1.0.1.1.1.1.1.1.1.1.0.1.0.1

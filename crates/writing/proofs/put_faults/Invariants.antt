@@ -1,5 +1,4 @@
 -- `writing::put_faults` meets its contract.
--- what owning a record tells of its array
 use Prim.Native.Nat.{◌-◌, ◌≤◌}
 use lib.ListN.{take}
 use Rattle.writing.specs.Writing.{fault_bits, all_bits}

@@ -1,6 +1,4 @@
 -- `writing::put_gates` meets its contract.
--- what owning a record tells of its array
-use Prim.Native.Nat.{◌-◌, ◌≤◌}
 use mathlib.Core.Path.{◌≡◌}
 use native.Mathlib.Omega.{arith}
 use lib.ListN.{length}
@@ -13,6 +11,7 @@ use Rattle.writing.proofs.Entries.{entry_same, entries_none, entries_ready, entr
 use Rattle.writing.proofs.put_gates.Goals as goal
 use Rattle.writing.proofs.put_gates.Goals.{Start}
 
+-- what owning a record tells of its array
 gates-long : (c : Start) → length c.args.job.gates ≡ max_gates
 unfolding max_gates
 gates-long c = c.well_formed.1.1.0.1.1.1.1.0.1.0.1

@@ -1,5 +1,4 @@
 -- `writing::put_gates` meets its contract.
--- what owning a record tells of its array
 use Prim.Native.Nat.{◌-◌, ◌≤◌}
 use lib.ListN.{take}
 use Rattle.writing.specs.Writing.{gate_bits, all_bits}

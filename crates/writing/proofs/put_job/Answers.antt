@@ -1,6 +1,4 @@
 -- `writing::put_job` meets its contract.
--- the record has room for its outputs
--- what room there is once each part is put
 use Prim.Native.Nat.{◌-◌, ◌≤◌}
 use mathlib.Core.Path.{◌≡◌, sym, ◌∙◌}
 use native.Mathlib.Omega.{arith}
@@ -17,12 +15,14 @@ use Rattle.writing.proofs.Entries.{from_gate_count, from_gates, from_output_coun
 use Rattle.writing.proofs.put_job.Goals as goal
 use Rattle.writing.proofs.put_job.Goals.{After-put_faults-last, After-put_field-counts, After-put_field-faults, After-put_field-inputs, After-put_field-less, After-put_gates-gates, After-put_outputs-outputs, Start}
 
+-- the record has room for its outputs
 outputs-long : (c : Start) → c.args.job.output_count ≤ length c.args.job.outputs
 unfolding max_outputs
 outputs-long c =
     let long : length c.args.job.outputs ≡ max_outputs = c.well_formed.1.0.1.1.1.1.1.1.0.1.0.1 in
     omega arith
 
+-- what room there is once each part is put
 past-inputs : (c : After-put_field-inputs) → Ready c.put_field-inputs.new.out c.put_field-inputs.result (from_gate_count c.args.job)
 unfolding job_bits input_count_bits
 past-inputs c = ready_after (from_gate_count c.args.job) (start_ready (job_bits c.args.job) c.requires.1) c.put_field-inputs.ensures

@@ -1,5 +1,4 @@
 -- `chooser::pairs::apart` meets its contract: what the first rows have in both lists is joined.
-use Prim.Native.Nat.{◌-◌}
 use native.Mathlib.Omega.{arith}
 use borrow.Author.Count.{falls}
 use Rattle.chooser.specs.Matrix.{max_rows}

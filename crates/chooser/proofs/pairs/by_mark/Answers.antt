@@ -1,5 +1,4 @@
 -- `chooser::pairs::by_mark` meets its contract: the first rows are in the sets of their marks.
-use Prim.Native.Nat.{◌-◌}
 use native.Mathlib.Nat.{lt_of_lt_of_le}
 use native.Mathlib.Omega.{arith}
 use mir.Syntax.{w8}

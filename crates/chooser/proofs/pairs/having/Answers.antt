@@ -5,7 +5,6 @@ use mathlib.Core.Bool.{cond}
 use lib.Dec.{eqb}
 use Rattle.bits.specs.Sets.{joined}
 use Rattle.bits.proofs.Membership.{later_less}
-use Rattle.chooser.specs.Matrix.{cell}
 use Rattle.chooser.proofs.Refinement.{gathering_start, gathering_row, gathering_next, gathering_end}
 use Rattle.chooser.proofs.pairs.having.Goals as goal
 

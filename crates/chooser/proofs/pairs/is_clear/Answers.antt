@@ -3,7 +3,6 @@ use native.Mathlib.Omega.{arith}
 use mathlib.Core.Path.{sym, ◌∙◌}
 use Rattle.bits.specs.Sets.{max_members}
 use Rattle.bits.proofs.Membership.{later_less}
-use Rattle.chooser.specs.Matrix.{cell}
 use Rattle.chooser.proofs.Clearness.{clearing_all, clearing_row, clearing_below, clearing_next, clearing_none, clearing_stop, partner_there}
 use Rattle.chooser.proofs.Soundness.{listed_within}
 use Rattle.chooser.proofs.pairs.is_clear.Goals as goal

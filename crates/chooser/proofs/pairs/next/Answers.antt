@@ -1,5 +1,4 @@
 -- `chooser::pairs::next` meets its contract: the entries passed are clear.
-use Prim.Native.Nat.{◌-◌}
 use native.Mathlib.Numerals.{add-one-le}
 use mathlib.Core.Path.{sym}
 use mir.Syntax.{w16}

@@ -1,5 +1,4 @@
 -- `chooser::pairs::pair_others` meets its contract: the first rows are paired with those of other marks.
-use Prim.Native.Nat.{◌-◌}
 use native.Mathlib.Nat.{lt_of_lt_of_le}
 use native.Mathlib.Omega.{arith}
 use mir.Syntax.{w8}

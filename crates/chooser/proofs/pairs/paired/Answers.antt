@@ -1,5 +1,4 @@
 -- `chooser::pairs::paired` meets its contract: the sets of the first rows are joined.
-use Prim.Native.Nat.{◌-◌}
 use native.Mathlib.Omega.{arith}
 use borrow.Author.Count.{falls}
 use Rattle.chooser.specs.Matrix.{max_rows}

@@ -1,5 +1,4 @@
 -- `gates::step::paired_words` meets its contract. The loop has written two words for each turn.
-use Prim.Native.Nat.{◌-◌}
 use native.Mathlib.Omega.{arith}
 use mathlib.Core.Path.{sym}
 use Rattle.bits.proofs.Splice.{written_none, written_length}

@@ -1,5 +1,4 @@
 -- `gates::step::single_bytes` meets its contract. The loop has written one byte for each turn, and the tables that it reads stand before all that it writes.
-use Prim.Native.Nat.{◌-◌}
 use native.Mathlib.Omega.{arith}
 use mathlib.Core.Path.{ap₂, ◌∙◌}
 use borrow.Author.Count.{falls}

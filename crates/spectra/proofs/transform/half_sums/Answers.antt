@@ -1,5 +1,4 @@
 -- `spectra::transform::half_sums` meets its contract: the rows of the first half bytes are written.
-use Prim.Native.Nat.{◌-◌}
 use native.Mathlib.Omega.{arith}
 use borrow.Author.Count.{falls}
 use Rattle.spectra.proofs.HalfBytes.{summing_start, summing_room, summing_next, summing_end}

@@ -1,5 +1,4 @@
 -- `spectra::transform::parities` meets its contract. The loop has reduced one number for each turn.
-use Prim.Native.Nat.{◌-◌}
 use native.Mathlib.Omega.{arith}
 use borrow.Author.Count.{falls}
 use Rattle.spectra.specs.declared.Kind.TheVariants.{Rm}

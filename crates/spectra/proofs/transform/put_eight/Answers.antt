@@ -1,5 +1,4 @@
 -- `spectra::transform::put_eight` meets its contract. The loop has written one number for each turn.
-use Prim.Native.Nat.{◌-◌}
 use native.Mathlib.Omega.{arith}
 use mathlib.Core.Path.{refl}
 use borrow.Author.Count.{falls}

@@ -1,6 +1,5 @@
 -- `transform_rows` meets its contract: the spectra of the rows passed stand at the start of the memory.
 use native.Mathlib.Omega.{arith}
-use Prim.Native.Nat.{◌-◌}
 use borrow.Author.Count.{falls}
 use Rattle.bits.proofs.TableSizes.{table_size_exact, table_bytes_exact}
 use Rattle.job.proofs.Sizes.{inputs_few}

@@ -1,8 +1,7 @@
 -- `tables::evaluator::work_out` meets its contract: each turn works out the tables of one line.
-use Prim.Native.Nat.{◌+◌, ◌-◌, ◌<◌}
+use Prim.Native.Nat.{◌+◌, ◌<◌}
 use native.Mathlib.Omega.{arith}
 use mathlib.Core.Path.{◌≡◌, refl, sym, subst, ◌∙◌}
-use mathlib.Core.Logic.{⊎_elim}
 use borrow.Author.Count.{falls}
 use lib.ListN.{length}
 use Rattle.gates.proofs.Answers.{kind_lt}

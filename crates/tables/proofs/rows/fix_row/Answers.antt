@@ -3,7 +3,6 @@
 use Prim.Native.Nat.{ℕ}
 use mathlib.Core.Path.{sym, ap, ◌∙◌}
 use mathlib.Core.Bool.{Bool, cond}
-use mathlib.Core.Logic.{⊎_elim}
 use Rattle.tables.proofs.ShapedRows.{fixed_stuck, fixed_bridge, low_fits, high_fits}
 use Rattle.tables.proofs.rows.fix_row.Goals as goal
 use Rattle.tables.proofs.rows.fix_row.Goals.{then-level, else-level}

@@ -1,7 +1,6 @@
 -- `tables::rows::input_block` meets its contract: bytes of one pattern for the first three inputs, else bytes that alternate.
 use native.Mathlib.Omega.{arith}
 use mathlib.Core.Path.{sym, ap, ◌∙◌}
-use mathlib.Core.Logic.{⊎_elim}
 use Rattle.gates.specs.Polynomial.{pattern_of}
 use Rattle.gates.proofs.Tables.{pattern_rest}
 use Rattle.tables.proofs.ShapedRows.{pattern_block, alternate_block}

@@ -1,5 +1,4 @@
 -- `tables::rows::forms_of` meets its contract: each turn works out the polynomial of one kind.
-use Prim.Native.Nat.{◌-◌}
 use native.Mathlib.Omega.{arith}
 use borrow.Author.Count.{falls}
 use Rattle.tables.proofs.Polynomials.{forming_none, forming_next, forming_all}

@@ -1,9 +1,8 @@
 -- `tables::rows::shape_of` meets its contract: the arms give the mask.
 use native.Mathlib.Omega.{arith}
 use mathlib.Core.Path.{◌≡◌, sym, ap, ◌∙◌}
-use mathlib.Core.Logic.{⊎_elim}
 use Rattle.gates.specs.Polynomial.{mask_of}
-use Rattle.gates.proofs.Masks.{at_least_three, mask_rest}
+use Rattle.gates.proofs.Masks.{mask_rest}
 use Rattle.tables.proofs.rows.shape_of.Goals as goal
 use Rattle.tables.proofs.rows.shape_of.Goals.{in-0, in-1, in-2, in_default}
 use Rattle.tables.proofs.rows.shape_of.Goals.{Joined-inputs}
