@@ -14,13 +14,13 @@ const WORK_PLACES: usize = MAX_ROWS * MAX_ENTRIES;
 const ALL_TABLES_BYTES: usize = MAX_ROWS * MAX_TABLE_BYTES;
 
 // Writes the answer to a line about the job; nothing where it is no task.
-pub fn answer(line: &[u8], job: &[u8]) {
+pub fn answer(rt: &impl Print, line: &[u8], job: &[u8]) {
     match words::letter(line, 0) {
-        b't' => list_tables(job),
-        b'i' => list_choice(line, job, Purpose::Isolating),
-        b'd' => list_choice(line, job, Purpose::Detecting),
-        b'l' => list_location(line, job),
-        b'f' => list_fault(line, job),
+        b't' => list_tables(rt, job),
+        b'i' => list_choice(rt, line, job, Purpose::Isolating),
+        b'd' => list_choice(rt, line, job, Purpose::Detecting),
+        b'l' => list_location(rt, line, job),
+        b'f' => list_fault(rt, line, job),
         _ => (),
     }
 }
@@ -64,69 +64,69 @@ fn row_of(row: usize, size: usize, places: usize) -> Row
     Row { start, end }
 }
 
-fn list_tables(job: &[u8]) {
+fn list_tables(rt: &impl Print, job: &[u8]) {
     let mut packed = [0u8; ALL_TABLES_BYTES];
     let delivery = tables::tables(job, &mut packed);
     let outcome = delivery.outcome;
     match outcome {
-        Outcome::Done => list_circuits(&packed, delivery.counts),
-        Outcome::Refused(cause) => listing::refusal(cause),
+        Outcome::Done => list_circuits(rt, &packed, delivery.counts),
+        Outcome::Refused(cause) => listing::refusal(rt, cause),
     }
 }
 
 // The line of the counts, then a line for each circuit and output.
-fn list_circuits(packed: &[u8], counts: Counts) {
-    listing::counts(counts.inputs, counts.gates, counts.faults);
+fn list_circuits(rt: &impl Print, packed: &[u8], counts: Counts) {
+    listing::counts(rt, counts.inputs, counts.gates, counts.faults);
     let circuits = bits::least(counts.faults, MAX_FAULTS) + 1;
     let mut c = 0;
     while c < circuits {
-        list_circuit(packed, counts, c);
+        list_circuit(rt, packed, counts, c);
         c += 1;
     }
 }
 
-fn list_circuit(packed: &[u8], counts: Counts, circuit: usize) {
+fn list_circuit(rt: &impl Print, packed: &[u8], counts: Counts, circuit: usize) {
     let outputs = counts.outputs;
     let mut o = 0;
     while o < outputs {
-        list_table(packed, counts, circuit, o);
+        list_table(rt, packed, counts, circuit, o);
         o += 1;
     }
 }
 
-fn list_table(packed: &[u8], counts: Counts, circuit: usize, output: usize) {
+fn list_table(rt: &impl Print, packed: &[u8], counts: Counts, circuit: usize, output: usize) {
     let number = row_number(counts.outputs, circuit, output);
     let row = row_of(number, bits::table_bytes(counts.inputs), packed.len());
     let start = row.start;
     let end = row.end;
-    listing::circuit(circuit, &packed[start..end]);
+    listing::circuit(rt, circuit, &packed[start..end]);
 }
 
-fn list_choice(line: &[u8], job: &[u8], purpose: Purpose) {
+fn list_choice(rt: &impl Print, line: &[u8], job: &[u8], purpose: Purpose) {
     let polarity = words::decimal(line, 2);
     let mut work = [0u16; WORK_PLACES];
     let chosen = choosing::choose(job, purpose, words::kind(line), polarity, &mut work);
-    list_chosen(chosen);
+    list_chosen(rt, chosen);
 }
 
-fn list_chosen(chosen: Chosen) {
+fn list_chosen(rt: &impl Print, chosen: Chosen) {
     let verdict = chosen.verdict;
     let signature = chosen.signature;
     match verdict {
-        Verdict::Done => list_signature(signature),
-        Verdict::Alike(a, b) => listing::pair(b"refused 15", a, b),
-        Verdict::Refused(cause) => listing::refusal(cause),
+        Verdict::Done => list_signature(rt, signature),
+        Verdict::Alike(a, b) => listing::pair(rt, b"refused 15", a, b),
+        Verdict::Refused(cause) => listing::refusal(rt, cause),
     }
 }
 
-fn list_signature(signature: Signature) {
+fn list_signature(rt: &impl Print, signature: Signature) {
     let indices = signature.indices;
     let outputs = signature.outputs;
-    listing::entries(b"signature", &indices, &outputs, signature.count);
+    listing::entries(rt, b"signature", &indices, &outputs, signature.count);
 }
 
 // Entries, a slash and readings follow the polarity: an index is a word's start, an output stands behind a colon.
-fn list_location(line: &[u8], job: &[u8]) {
+fn list_location(rt: &impl Print, line: &[u8], job: &[u8]) {
     let slash = words::place_of(line, 0, b'/');
     let mut indices = [0u16; MAX_ENTRIES];
     let mut outputs = [0u16; MAX_ENTRIES];
@@ -135,6 +135,7 @@ fn list_location(line: &[u8], job: &[u8]) {
     let numbered = words::decimals(&line[..slash], 1, b':', &mut outputs);
     let read = words::decimals(&line[slash..], 1, b' ', &mut readings);
     list_located(
+        rt,
         line,
         job,
         &indices[..listed],
@@ -143,7 +144,14 @@ fn list_location(line: &[u8], job: &[u8]) {
     );
 }
 
-fn list_located(line: &[u8], job: &[u8], indices: &[u16], outputs: &[u16], readings: &[u16]) {
+fn list_located(
+    rt: &impl Print,
+    line: &[u8],
+    job: &[u8],
+    indices: &[u16],
+    outputs: &[u16],
+    readings: &[u16],
+) {
     let polarity = words::decimal(line, 2);
     let mut work = [0u16; WORK_PLACES];
     let located = locating::locate(
@@ -156,49 +164,49 @@ fn list_located(line: &[u8], job: &[u8], indices: &[u16], outputs: &[u16], readi
         &mut work,
     );
     match located {
-        Located::Part(part, c) => listing::pair(b"part", part, c),
-        Located::Several(c, count) => listing::pair(b"several", c, count),
-        Located::Nowhere => listing::name(b"none"),
-        Located::Refused(cause) => listing::refusal(cause),
+        Located::Part(part, c) => listing::pair(rt, b"part", part, c),
+        Located::Several(c, count) => listing::pair(rt, b"several", c, count),
+        Located::Nowhere => listing::name(rt, b"none"),
+        Located::Refused(cause) => listing::refusal(rt, cause),
     }
 }
 
 // The entries at which a circuit is not as the good one.
-fn list_fault(line: &[u8], job: &[u8]) {
+fn list_fault(rt: &impl Print, line: &[u8], job: &[u8]) {
     let mut packed = [0u8; ALL_TABLES_BYTES];
     let delivery = tables::tables(job, &mut packed);
     let outcome = delivery.outcome;
     match outcome {
         Outcome::Done => {
             let end = delivery.bytes;
-            list_filled(line, delivery.counts, &packed[..end])
+            list_filled(rt, line, delivery.counts, &packed[..end])
         }
-        Outcome::Refused(cause) => listing::refusal(cause),
+        Outcome::Refused(cause) => listing::refusal(rt, cause),
     }
 }
 
-fn list_filled(line: &[u8], counts: Counts, packed: &[u8]) {
+fn list_filled(rt: &impl Print, line: &[u8], counts: Counts, packed: &[u8]) {
     let polarity = words::decimal(line, 2);
     let mut work = [0u16; WORK_PLACES];
     let outcome = spectra::fill(counts, packed, words::kind(line), polarity, &mut work);
     match outcome {
-        Outcome::Done => list_unlike(&work, counts, words::decimal(line, 3)),
-        Outcome::Refused(cause) => listing::refusal(cause),
+        Outcome::Done => list_unlike(rt, &work, counts, words::decimal(line, 3)),
+        Outcome::Refused(cause) => listing::refusal(rt, cause),
     }
 }
 
-fn list_unlike(work: &[u16], counts: Counts, circuit: usize) {
+fn list_unlike(rt: &impl Print, work: &[u16], counts: Counts, circuit: usize) {
     let outputs = counts.outputs;
-    listing::put(b"detects");
+    listing::put(rt, b"detects");
     let mut o = 0;
     while o < outputs {
-        list_unlike_at(work, counts, circuit, o);
+        list_unlike_at(rt, work, counts, circuit, o);
         o += 1;
     }
-    listing::name(b"");
+    listing::name(rt, b"");
 }
 
-fn list_unlike_at(work: &[u16], counts: Counts, circuit: usize, output: usize) {
+fn list_unlike_at(rt: &impl Print, work: &[u16], counts: Counts, circuit: usize, output: usize) {
     let size = bits::table_size(counts.inputs);
     let good = row_of(row_number(counts.outputs, 0, output), size, work.len());
     let faulty = row_of(
@@ -210,5 +218,5 @@ fn list_unlike_at(work: &[u16], counts: Counts, circuit: usize, output: usize) {
     let to = good.end;
     let start = faulty.start;
     let end = faulty.end;
-    listing::unlike(&work[from..to], &work[start..end], output);
+    listing::unlike(rt, &work[from..to], &work[start..end], output);
 }

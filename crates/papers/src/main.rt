@@ -14,15 +14,19 @@
 #![tactic(auto)]
 
 ghost use Rattle.std.specs.Prelude.{◌≤◌, length};
+ghost use Rattle.std.specs.Counts.{IsPrefixLen as Within};
 
 use job::{MAX_FAULTS, MAX_INPUTS, MAX_JOB_BYTES, MAX_OUTPUTS};
-use libc::STDIN_FILENO;
+use std::io::{Read, Stdin};
 
 mod jobs;
 mod listing;
 mod records;
 mod table;
 mod words;
+
+// As much of the input is read.
+const MAX_TEXT_BYTES: usize = 65536;
 
 // One byte more than the longest job, so that a longer one is seen to be longer.
 const MAX_INPUT_BYTES: usize = MAX_JOB_BYTES + 1;
@@ -35,20 +39,42 @@ const MAX_TABLE_BYTES: usize = MAX_ENTRIES / 8;
 // A table for the good circuit and each fault, at each output.
 const MAX_ROWS: usize = (MAX_FAULTS + 1) * MAX_OUTPUTS;
 
-fn main() {
-    let mut text = io::large_buffer();
-    let n = io::read_full(STDIN_FILENO, &mut text);
-    answer_lines(&text[..n]);
+fn main(rt: HostRuntime) {
+    let mut text = [0u8; MAX_TEXT_BYTES];
+    let n = read_full(rt.stdin(), &mut text);
+    answer_lines(&rt, &text[..n]);
+}
+
+// Reads until `buf` is full, the input ends or a read fails, and answers how many bytes stand at its start.
+fn read_full(stdin: Stdin, buf: &mut [u8]) -> usize
+    ensures { Within result buf.new }
+{
+    let mut done = 0;
+    while done < buf.len() {
+        let count = read_once(stdin, &mut buf[done..]);
+        if count == 0 {
+            return done;
+        }
+        done += count;
+    }
+    done
+}
+
+// One read, of no bytes where it fails.
+fn read_once(mut stdin: Stdin, buf: &mut [u8]) -> usize
+    ensures { Within result buf.new }
+{
+    stdin.read(buf).unwrap_or(0)
 }
 
 // Each line of the text in turn, with the text from the last job on.
-fn answer_lines(text: &[u8]) {
+fn answer_lines(rt: &impl Print, text: &[u8]) {
     let mut job = 0;
     let mut at = 0;
     while at < text.len() {
         let end = words::place_of(text, at, b'\n');
         job = last_job(text, at, job);
-        answer_line(&text[at..end], &text[job..]);
+        answer_line(rt, &text[at..end], &text[job..]);
         at = end + 1;
     }
 }
@@ -66,20 +92,20 @@ fn last_job(text: &[u8], at: usize, job: usize) -> usize
 }
 
 // Writes the answer to a line. Its first letter tells its first word from the others.
-fn answer_line(line: &[u8], from_job: &[u8]) {
+fn answer_line(rt: &impl Print, line: &[u8], from_job: &[u8]) {
     match words::letter(line, 0) {
-        b'#' => listing::name(line),
-        b's' => table::list_spectra(line),
-        b'u' => table::list_undone(line),
-        b'r' => records::list_written(line),
-        _ => answer_job(line, from_job),
+        b'#' => listing::name(rt, line),
+        b's' => table::list_spectra(rt, line),
+        b'u' => table::list_undone(rt, line),
+        b'r' => records::list_written(rt, line),
+        _ => answer_job(rt, line, from_job),
     }
 }
 
 // The job is the first line of the text from it on.
-fn answer_job(line: &[u8], from_job: &[u8]) {
+fn answer_job(rt: &impl Print, line: &[u8], from_job: &[u8]) {
     let end = words::place_of(from_job, 0, b'\n');
     let mut job = [0u8; MAX_INPUT_BYTES];
     let n = words::bytes(&from_job[..end], 1, &mut job);
-    jobs::answer(line, &job[..n]);
+    jobs::answer(rt, line, &job[..n]);
 }

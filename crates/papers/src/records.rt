@@ -11,7 +11,7 @@ const MAX_NUMBERS: usize = 16;
 
 // The line gives the number of bytes lent, and the record: inputs, gates, outputs, the four output lines, faults; then the first gate and the first
 // fault, each as its kind, line a and line b, the fault with its part. The other entries are unused.
-pub fn list_written(line: &[u8]) {
+pub fn list_written(rt: &impl Print, line: &[u8]) {
     let mut numbers = [0u8; MAX_NUMBERS];
     words::bytes(line, 1, &mut numbers);
     let mut job = job::empty_job();
@@ -22,7 +22,7 @@ pub fn list_written(line: &[u8]) {
     job.fault_count = numbers[8];
     job.gates[0] = gate_entry(numbers[9], numbers[10], numbers[11]);
     job.faults[0] = fault_entry(numbers[12], numbers[13], numbers[14], numbers[15]);
-    write(job, numbers[0]);
+    write(rt, job, numbers[0]);
 }
 
 fn gate_entry(kind: u8, a: u8, b: u8) -> GateEntry {
@@ -38,12 +38,12 @@ fn fault_entry(kind: u8, a: u8, b: u8, part: u8) -> FaultEntry {
     }
 }
 
-fn write(job: Job, room: u8) {
+fn write(rt: &impl Print, job: Job, room: u8) {
     let mut out = [0u8; ROOM];
     let end = bits::least(room as usize, ROOM);
     let written = writing::write(job, &mut out[..end]);
     match written {
-        Written::Bytes(count) => listing::number(b"bytes", count),
-        Written::Refused(cause) => listing::refusal(cause),
+        Written::Bytes(count) => listing::number(rt, b"bytes", count),
+        Written::Refused(cause) => listing::refusal(rt, cause),
     }
 }

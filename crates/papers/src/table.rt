@@ -4,38 +4,38 @@ use bits::Outcome;
 use spectra::Kind;
 
 // The RM and the MRM spectrum of the table that the line gives.
-pub fn list_spectra(line: &[u8]) {
+pub fn list_spectra(rt: &impl Print, line: &[u8]) {
     let mut table = [0u8; MAX_TABLE_BYTES];
     let count = words::bytes(line, 3, &mut table);
-    list_spectrum(b"rm", line, &table[..count], Kind::Rm);
-    list_spectrum(b"mrm", line, &table[..count], Kind::Mrm);
+    list_spectrum(rt, b"rm", line, &table[..count], Kind::Rm);
+    list_spectrum(rt, b"mrm", line, &table[..count], Kind::Mrm);
 }
 
-fn list_spectrum(word: &[u8], line: &[u8], table: &[u8], kind: Kind) {
+fn list_spectrum(rt: &impl Print, word: &[u8], line: &[u8], table: &[u8], kind: Kind) {
     let inputs = words::decimal(line, 1);
     let polarity = words::decimal(line, 2);
     let mut numbers = [0u16; MAX_ENTRIES];
     let outcome = spectra::spectrum(inputs, table, kind, polarity, &mut numbers);
     match outcome {
-        Outcome::Done => listing::numbers(word, &numbers, bits::table_size(inputs)),
-        Outcome::Refused(cause) => listing::refusal(cause),
+        Outcome::Done => listing::numbers(rt, word, &numbers, bits::table_size(inputs)),
+        Outcome::Refused(cause) => listing::refusal(rt, cause),
     }
 }
 
 // The table of the spectrum that the line gives.
-pub fn list_undone(line: &[u8]) {
+pub fn list_undone(rt: &impl Print, line: &[u8]) {
     let mut numbers = [0u16; MAX_ENTRIES];
     let count = words::decimals(line, 4, b' ', &mut numbers);
-    list_table(line, &numbers[..count]);
+    list_table(rt, line, &numbers[..count]);
 }
 
-fn list_table(line: &[u8], numbers: &[u16]) {
+fn list_table(rt: &impl Print, line: &[u8], numbers: &[u16]) {
     let inputs = words::decimal(line, 2);
     let polarity = words::decimal(line, 3);
     let mut table = [0u8; MAX_TABLE_BYTES];
     let outcome = spectra::undo(inputs, numbers, words::kind(line), polarity, &mut table);
     match outcome {
-        Outcome::Done => listing::bytes(b"table", &table, bits::table_bytes(inputs)),
-        Outcome::Refused(cause) => listing::refusal(cause),
+        Outcome::Done => listing::bytes(rt, b"table", &table, bits::table_bytes(inputs)),
+        Outcome::Refused(cause) => listing::refusal(rt, cause),
     }
 }

@@ -1,6 +1,6 @@
 // Reading: the words of a line, as numbers and as bytes. A place behind a line's end counts as its end.
 ghost use Rattle.std.specs.Prelude.{◌+◌, ◌<◌, ◌≤◌, length};
-ghost use Rattle.io.specs.Counts.{IsPrefixLen as Within};
+ghost use Rattle.std.specs.Counts.{IsPrefixLen as Within};
 
 use spectra::Kind;
 

@@ -10,13 +10,16 @@ use mathlib.Core.Path.{◌≡◌, sym, subst}
 use mathlib.Core.List.{List}
 use borrow.Author.Tests.{le-leb}
 use lib.ListN.{length, replicate, length-append, length-replicate}
-use Rattle.io.specs.Counts.{IsPrefixLen}
-use Rattle.io.proofs.Counting.{prefix_len_of_le}
+use lib.Seq.{length-take-le}
+use Rattle.std.specs.Counts.{IsPrefixLen}
 use Rattle.report_text.specs.Text.{reported, max_text}
 use Rattle.report_text.specs.declared.Reported.{Reported}
 use Rattle.report_text.specs.declared.Reported.TheVariants.{Written}
 use Rattle.report.specs.Program.{Printed, program_report}
 use Rattle.report.specs.Buffers.{Whole}
+
+prefix_len_of_le : (n : ℕ) (xs : List ℕ) → n ≤ length xs → IsPrefixLen n xs
+prefix_len_of_le n xs h = (h, sym (length-take-le n xs h))
 
 abbrev AllThere : Printed → Type 0
 AllThere p = Whole p.answer p.text

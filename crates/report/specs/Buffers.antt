@@ -3,7 +3,7 @@
 --   Found  so many bytes as were read are there
 --   Whole  a text was made, and all of it is there
 use Rattle.std.specs.Prelude.{ℕ, List}
-use Rattle.io.specs.Counts.{IsPrefixLen}
+use Rattle.std.specs.Counts.{IsPrefixLen}
 use Rattle.report.specs.declared.Input.{Input}
 use Rattle.report.specs.declared.Input.TheVariants.{Bytes, Unreadable}
 use Rattle.report_text.specs.declared.Reported.{Reported}

@@ -3,8 +3,7 @@
 --   program_work    "lends work of 32768 numbers"
 --   Printed         how long the text is, and the bytes at whose start it stands
 --   program_report  the report of the bytes, with that work
-use Rattle.std.specs.Prelude.{ℕ}
-use mathlib.Core.List.{List, replicate}
+use Rattle.std.specs.Prelude.{ℕ, List, replicate}
 use Rattle.report_text.specs.Text.{Report, reported}
 use Rattle.report_text.specs.declared.Reported.{Reported}
 

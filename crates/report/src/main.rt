@@ -8,8 +8,8 @@ ghost use Rattle.report.specs.Program.{program_report};
 ghost use Rattle.report.specs.Buffers.{Whole, Found};
 
 use job::MAX_JOB_BYTES;
-use libc::{STDERR_FILENO, STDIN_FILENO, STDOUT_FILENO};
 use report_text::{MAX_TEXT, Reported};
+use std::io::{Read, Stdin};
 
 // "reads one byte beyond the longest job", so that a longer input is seen to be longer.
 const MAX_INPUT_BYTES: usize = MAX_JOB_BYTES + 1;
@@ -21,22 +21,22 @@ enum Input {
     Unreadable,
 }
 
-fn main() {
+fn main(rt: HostRuntime) {
     let mut input = [0u8; MAX_INPUT_BYTES];
-    let found = read_input(&mut input);
+    let found = read_input(rt.stdin(), &mut input);
     match found {
-        Input::Bytes(count) => print_report(&input[..count]),
-        Input::Unreadable => complain(b"report: standard input can't be read\n"),
+        Input::Bytes(count) => print_report(&rt, &input[..count]),
+        Input::Unreadable => complain(&rt, "report: standard input can't be read\n"),
     }
 }
 
 // Reads until the input ends or `buf` is full.
-fn read_input(buf: &mut [u8]) -> Input
+fn read_input(stdin: Stdin, buf: &mut [u8]) -> Input
     ensures { Found result buf.new }
 {
     let mut done = 0;
     while done < buf.len() {
-        let found = read_once(&mut buf[done..]);
+        let found = read_once(stdin, &mut buf[done..]);
         let Input::Bytes(count) = found else {
             return Input::Unreadable;
         };
@@ -48,21 +48,20 @@ fn read_input(buf: &mut [u8]) -> Input
     Input::Bytes(done)
 }
 
-// One read, of no bytes at the input's end. (`io::read_full` doesn't tell an end from a read that fails.)
-fn read_once(buf: &mut [u8]) -> Input
+// One read, of no bytes at the input's end.
+fn read_once(mut stdin: Stdin, buf: &mut [u8]) -> Input
     ensures { Found result buf.new }
 {
-    let got = libc::read(STDIN_FILENO, buf);
-    if got < 0 {
-        return Input::Unreadable;
+    match stdin.read(buf) {
+        Ok(count) => Input::Bytes(count),
+        Err(_) => Input::Unreadable,
     }
-    Input::Bytes(io::count(got, buf))
 }
 
-fn print_report(bytes: &[u8]) {
+fn print_report(rt: &(impl Print + Eprint), bytes: &[u8]) {
     let mut text = [0u8; MAX_TEXT];
     let reported = job_report(bytes, &mut text);
-    print(&text, reported);
+    print(rt, &text, reported);
 }
 
 // The program's text for these bytes, to the start of `out`: "lends work of 32768 numbers".
@@ -74,17 +73,17 @@ fn job_report(bytes: &[u8], out: &mut [u8]) -> Reported
 }
 
 // Writes the text, which is all there: there was room for the longest one.
-fn print(text: &[u8], reported: Reported)
+fn print(rt: &(impl Print + Eprint), text: &[u8], reported: Reported)
     requires { Whole reported text.now }
 {
     if let Reported::Written(length) = reported {
-        if !io::write_all(STDOUT_FILENO, &text[..length]) {
-            complain(b"report: standard output can't be written\n");
+        if rt.write_all(&text[..length]).is_err() {
+            complain(rt, "report: standard output can't be written\n");
         }
     }
 }
 
 // Says on standard error what failed.
-fn complain(line: &[u8]) {
-    io::write_all(STDERR_FILENO, line);
+fn complain(rt: &impl Eprint, line: &str) {
+    let _ = rt.eprint(line);
 }
