@@ -57,8 +57,8 @@ fn paired_words(
     polynomial: Polynomial,
 ) -> usize
     requires { Places x y to count rows.old }
-    ensures upper_bound { (result ≤ count) × (count < result + 16) }
-    ensures rows_after { rows.new ≡ gate_step polynomial x y to result rows.old }
+    ensures nearly_all { (result ≤ count) × (count < result + 16) }
+    ensures stepped { rows.new ≡ gate_step polynomial x y to result rows.old }
 {
     let mut done = 0;
     while 2 * WORD <= count - done {

@@ -8,5 +8,5 @@ use Rattle.gates.proofs.step.combine_bytes.Goals as goal
 pub returns : goal.returns
 returns c =
     let a = c.args in let done = c.paired_words-done.result in
-    c.last_bytes.ensures ∙ ap (gate_step a.polynomial (a.x + done) (a.y + done) (a.to + done) (a.count - done)) c.paired_words-done.ensures.rows_after
-    ∙ step_joined a.polynomial a.x a.y a.to a.count done a.rows.now c.requires c.paired_words-done.ensures.upper_bound.0
+    c.last_bytes.ensures ∙ ap (gate_step a.polynomial (a.x + done) (a.y + done) (a.to + done) (a.count - done)) c.paired_words-done.ensures.stepped
+    ∙ step_joined a.polynomial a.x a.y a.to a.count done a.rows.now c.requires c.paired_words-done.ensures.nearly_all.0

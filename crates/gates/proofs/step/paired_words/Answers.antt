@@ -29,4 +29,4 @@ loop-done-preserved c =
     rw (sym c.two_words.ensures) at (step_more a.polynomial a.x a.y c.requires.0 c.requires.1 c.loop-done.invariant 16 (omega arith))
 
 pub returns : goal.returns
-returns c = record { upper_bound = (c.loop-done.invariant.within, omega arith); rows_after = c.loop-done.invariant.so_far }
+returns c = record { nearly_all = (c.loop-done.invariant.within, omega arith); stepped = c.loop-done.invariant.so_far }
