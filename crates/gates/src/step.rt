@@ -5,7 +5,8 @@
 // the first is written, since the compiler can't know that the tables that are read end before the one that is written.
 ghost use Rattle.std.specs.Prelude.{◌≡◌, ◌+◌, ◌≤◌, ◌<◌, length, get_or};
 ghost use Rattle.bits.specs.Slices.{splice};
-ghost use Rattle.gates.specs.Polynomial.{step};
+ghost use Rattle.bits.specs.Packed.{tabulate};
+ghost use Rattle.gates.specs.Polynomial.{step, combined};
 ghost use Rattle.gates.specs.Words.{word_of, bytes_of, word_step, gate_step, Places};
 
 use crate::Polynomial;
@@ -33,8 +34,8 @@ pub(crate) fn combine_bytes(
     count: usize,
     polynomial: Polynomial,
 )
-    requires { Places x y to count rows.old }
-    ensures { rows.new ≡ gate_step polynomial x y to count rows.old }
+    requires { (x + count ≤ to) × (y + count ≤ to) × (to + count ≤ length rows.old) }
+    ensures { rows.new ≡ splice rows.old to (tabulate count (combined polynomial x y rows.old)) }
 {
     let done = paired_words(rows, x, y, to, count, polynomial);
     last_bytes(
