@@ -6,7 +6,7 @@
 --   refused, passed         a test that the code negates
 --   kept, put               a list is left as it is where a test fails, and is what was put where it passes
 --   fitted                  where a test passes, the list is what was put
---   and_then                what is left of two tests when the first passes
+--   and_then_lem            what is left of two tests when the first passes
 --   copy_outside, copy_second   the test of a copy, by its two sides
 --   copy_fits_lem               it passes where there is room for what is copied, and it ends within its source
 use Prim.Native.Nat.{ℕ, ◌+◌, ◌-◌, ◌≤◌, ◌<◌}
@@ -52,15 +52,15 @@ module _ (new rows : List ℕ) where
   pub fitted : {t : Bool} {out : List ℕ} → t ≡ true → out ≡ cond t new rows → out ≡ new
   fitted e p = p ∙ ap (λ (t : Bool). cond t new rows) e
 
-pub and_then : {a b v : Bool} → a ≡ true → b ≡ v → a && b ≡ v
-and_then {a} {b} p q = ap (λ (t : Bool). t && b) p ∙ q
+pub and_then_lem : {a b v : Bool} → a ≡ true → b ≡ v → a && b ≡ v
+and_then_lem {a} {b} p q = ap (λ (t : Bool). t && b) p ∙ q
 
 module _ (to at count size rows : ℕ) where
   pub copy_outside : has_room size to count ≡ false → copy_fits to at count size rows ≡ false
   copy_outside e = ap (λ (t : Bool). t && has_room rows at count) e
 
   pub copy_second : {v : Bool} → has_room size to count ≡ true → has_room rows at count ≡ v → copy_fits to at count size rows ≡ v
-  copy_second room e = and_then room e
+  copy_second room e = and_then_lem room e
 
   pub copy_fits_lem : to + count ≤ size → at + count ≤ rows → copy_fits to at count size rows ≡ true
   copy_fits_lem h k = copy_second (room_fits size to count h) (room_fits rows at count k)

@@ -1,12 +1,12 @@
 -- Kept by the code: the gate step over packed bytes, a gate's answers as a polynomial over xor and and.
 --
---   keepOf        the bits of each of its bytes that are entries
---   step          eight answers, for two bytes of eight entries each
---   combined      byte i of a table of answers, for the tables at two places
---   formOf        the polynomial of a row of four answers, over the bits of a mask
---   kindForm      the polynomial of a kind of gate
---   pattern_of    every byte of the table of one of the first three inputs, spare bits not yet cut off
---   alternating   byte i of the table of an input from the fourth on: eight copies of a bit of i
+--   mask_of           the bits of each of its bytes that are entries
+--   step              eight answers, for two bytes of eight entries each
+--   combined          byte i of a table of answers, for the tables at two places
+--   polynomial_of     the polynomial of a row of four answers, over the bits of a mask
+--   kind_polynomial   the polynomial of a kind of gate
+--   pattern_of        every byte of the table of one of the first three inputs, spare bits not yet cut off
+--   alternating       byte i of the table of an input from the fourth on: eight copies of a bit of i
 use Rattle.std.specs.Prelude.{ℕ, ◌+◌, ◌*◌, ◌/◌, ◌%◌, ◌^◌, List, [], ◌∷◌, get_or}
 use Rattle.std.specs.Int.Bits.{bit_and, bit_xor}
 use Rattle.gates.specs.Answers.{answers}

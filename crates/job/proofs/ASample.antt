@@ -1,7 +1,7 @@
 -- Small circuits, by computation: has one a loose gate, and which test refuses it first (specs/Dependence.antt, specs/Check.antt).
 --
 --   chain           the output's own gate is not loose, nor is one that it reads through others
---   left-over       a gate that drives nothing is
+--   left_over       a gate that drives nothing is
 --   output_input    where the output is an input, every gate is
 --   input_alone     and without gates there is none
 --   unused_input    an input that nobody reads is allowed

@@ -5,7 +5,7 @@
 --   Room           there is room for a table at a place
 --   Space          so for tables side by side
 --   Below          there is room for a table at a place, and two tables stand before it
---   noForm, Formed   the polynomials of the kinds of gates
+--   no_polynomial, Formed   the polynomials of the kinds of gates
 --   fixed_row      the table that a fault gives the lines that it fixes, from the rows of the good circuit
 use Rattle.std.specs.Prelude.{ℕ, ◌+◌, ◌*◌, ◌^◌, ◌≤◌, ◌<◌, ◌≡◌, List, length, get_or}
 use Rattle.bits.specs.Packed.{packed, entry}
