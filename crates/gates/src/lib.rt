@@ -3,7 +3,7 @@
 //
 // A row of four answers becomes a polynomial over bytes, constant ^ (first & x) ^ (second & y) ^ (both & x & y), once
 // for each kind of gate: reading the constant table in the loop over bytes would write it to the stack each time. The
-// loop is one for all kinds (`combine_bytes`), and the only place that a faster gate step would change. The polynomial
+// step is one for all kinds (`step::combine_bytes`), and the only place that a faster one would change. The polynomial
 // is cut to the bits that are entries, so that spare bits come out 0 whatever the operands hold.
 #![tactic(auto)]
 
