@@ -13,5 +13,5 @@ returns c =
     let room : a.to + a.count ≤ length a.rows.now = leb-true _ _ (sym c.has_room.ensures ∙ c.if-not-has_room.false) in
     let part : length (take (a.to + a.count - a.to) (drop a.to a.rows.now)) ≡ a.count = simp (length-take, length-drop) (omega arith) in
     let filled : c.fill.new.self ≡ tabulate a.count (λ (i : ℕ). a.byte) =
-        c.fill.ensures.after (λ y h. h) ∙ ap (λ (k : ℕ). replicate k a.byte) part ∙ sym (tabulate_constant a.count a.byte) in
+    c.fill.ensures.after (λ y h. h) ∙ ap (λ (k : ℕ). replicate k a.byte) part ∙ sym (tabulate_constant a.count a.byte) in
     grind (arith, common_steps, filled, length_tabulate)
