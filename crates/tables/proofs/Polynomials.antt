@@ -20,7 +20,6 @@ use Rattle.gates.specs.Polynomial.{kind_polynomial}
 use Rattle.gates.specs.declared.Polynomial.{Polynomial}
 use Rattle.gates.proofs.Answers.{kind_lt}
 use Rattle.tables.specs.Sizes.{no_polynomial, Formed}
-use Rattle.tables.specs.declared.rows.Polynomials.{Polynomials}
 
 pub kind_of_lem : (kind : ℕ) → kind < 8 → gate_kind (gate_of kind 0 0) ≡ kind
 kind_of_lem kind h = equal_below (λ kind _. gate_kind (gate_of kind 0 0)) (λ kind _. kind) 8 1 tt kind 0 h (omega arith)
@@ -45,9 +44,9 @@ module _ (mask : ℕ) where
             ∙ ap (λ (g : Gate). kind_polynomial (gate_kind g) mask) is ∙ ap (λ (k : ℕ). kind_polynomial k mask) (kind_of_lem kind h));
       }
 
-  pub forming_all : (polynomials : Polynomials) (kind : ℕ) → Forming mask polynomials.of kind → 8 ≤ kind → Formed mask polynomials
+  pub forming_all : (polynomials : List Polynomial) (kind : ℕ) → Forming mask polynomials kind → 8 ≤ kind → Formed mask polynomials
   forming_all polynomials kind w h = record { polynomial = λ k l. w.done k (omega arith) }
 
 -- the polynomial of a gate's kind
-pub form_read : (mask : ℕ) (polynomials : Polynomials) → Formed mask polynomials → (g : Gate) {kind : ℕ} → kind ≡ gate_kind g → get_or polynomials.of kind no_polynomial ≡ kind_polynomial (gate_kind g) mask
-form_read mask polynomials formed g e = ap (λ (k : ℕ). get_or polynomials.of k no_polynomial) e ∙ formed.polynomial (gate_kind g) (kind_lt g)
+pub form_read : (mask : ℕ) (polynomials : List Polynomial) → Formed mask polynomials → (g : Gate) {kind : ℕ} → kind ≡ gate_kind g → get_or polynomials kind no_polynomial ≡ kind_polynomial (gate_kind g) mask
+form_read mask polynomials formed g e = ap (λ (k : ℕ). get_or polynomials k no_polynomial) e ∙ formed.polynomial (gate_kind g) (kind_lt g)

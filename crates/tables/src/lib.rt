@@ -15,8 +15,9 @@ ghost use Rattle.tables.specs.Work.{block_bytes, Wide, Sound, Good, Asked, table
 
 use bits::{Outcome, Refusal};
 use evaluator::{Batch, MAX_LINES};
+use gates::Polynomial;
 use job::{Job, MAX_FAULTS, MAX_INPUTS, MAX_OUTPUTS};
-use rows::{Polynomials, Shape};
+use rows::{KINDS, Shape};
 
 mod evaluator;
 mod rows;
@@ -90,11 +91,8 @@ fn counts_of(job: Job) -> Counts
     ensures { result ≡ counts_of job }
 {
     let mut parts = [0u8; MAX_CIRCUITS];
-    let mut i = 0;
-    while i < MAX_FAULTS {
-        let entry = job.faults[i];
+    for (i, entry) in job.faults.iter().enumerate() {
         parts[1 + i] = entry.part;
-        i += 1;
     }
     Counts {
         inputs: job.inputs as usize,
@@ -169,11 +167,9 @@ fn put_column(
     requires { RowsThere batch bytes asked.now (length rows.now) × (column < batch.count) × (to + length asked.now * bytes ≤ length out.old) }
     ensures { out.new ≡ splice out.old to (rows_at batch bytes asked.now rows.now column) }
 {
-    let mut p = 0;
-    while p < asked.len() {
-        let at = evaluator::block_place(batch, asked[p] as usize, bytes) + column * bytes;
+    for (p, line) in asked.iter().enumerate() {
+        let at = batch.block_place(*line as usize, bytes) + column * bytes;
         bits::copy(out, to + p * bytes, rows, at, bytes);
-        p += 1;
     }
 }
 
@@ -182,12 +178,9 @@ fn put_columns(out: &mut [u8], to: usize, rows: &[u8], asked: &[u8], batch: Batc
     requires { RowsThere batch bytes asked.now (length rows.now) × (to + batch.count * (length asked.now * bytes) ≤ length out.old) }
     ensures { out.new ≡ splice out.old to (block batch.count (rows_at batch bytes asked.now rows.now)) }
 {
-    let count = batch.count;
-    let mut i = 0;
-    while i < count {
+    for i in 0..batch.count {
         let step = asked.len() * bytes;
         put_column(out, to + i * step, rows, asked, batch, i, bytes);
-        i += 1;
     }
 }
 
@@ -197,7 +190,7 @@ fn put_batch(
     to: usize,
     rows: &mut [u8],
     job: Job,
-    polynomials: Polynomials,
+    polynomials: [Polynomial; KINDS],
     asked: &[u8],
     batch: Batch,
     shape: Shape,
@@ -214,7 +207,7 @@ fn put_good(
     out: &mut [u8],
     rows: &mut [u8],
     job: Job,
-    polynomials: Polynomials,
+    polynomials: [Polynomial; KINDS],
     asked: &[u8],
     shape: Shape,
 )
@@ -263,7 +256,7 @@ fn put_faults(
     out: &mut [u8],
     rows: &mut [u8],
     job: Job,
-    polynomials: Polynomials,
+    polynomials: [Polynomial; KINDS],
     asked: &[u8],
     shape: Shape,
 )
@@ -277,7 +270,7 @@ fn put_faults(
     let base = job.inputs as usize + job.gate_count as usize;
     let mut done = 0;
     while done < faults {
-        let count = bits::least(most, faults - done);
+        let count = most.min(faults - done);
         let first = done + 1;
         let batch = Batch { base, first, count };
         put_batch(
