@@ -32,21 +32,6 @@ module _ (mask : ℕ) where
   pub forming_none : Forming mask (replicate 8 no_polynomial) 0
   forming_none = record { whole = length-replicate 8 no_polynomial; done = below_none (λ (k : ℕ). get_or (replicate 8 no_polynomial) k no_polynomial ≡ kind_polynomial k mask) }
 
-  pub forming_next : (of : List Polynomial) (kind : ℕ) (gate : Gate) (polynomial : Polynomial) → Forming mask of kind → kind < 8 → gate ≡ gate_of kind 0 0
-      → polynomial ≡ kind_polynomial (gate_kind gate) mask → Forming mask (set of kind polynomial) (kind + 1)
-  forming_next of kind gate polynomial w h is e =
-      record {
-        whole = length-set of kind polynomial ∙ w.whole;
-        done =
-            below_more (λ (k : ℕ). get_or (set of kind polynomial) k no_polynomial ≡ kind_polynomial k mask) kind
-            (λ k l. get_or-set_other of kind k polynomial no_polynomial (λ (e : k ≡ kind). absurd (omega arith)) ∙ w.done k l)
-            (get_or-set_same of kind polynomial no_polynomial (omega (arith, w.whole)) ∙ e
-            ∙ ap (λ (g : Gate). kind_polynomial (gate_kind g) mask) is ∙ ap (λ (k : ℕ). kind_polynomial k mask) (kind_of_lem kind h));
-      }
-
-  pub forming_all : (polynomials : List Polynomial) (kind : ℕ) → Forming mask polynomials kind → 8 ≤ kind → Formed mask polynomials
-  forming_all polynomials kind w h = record { polynomial = λ k l. w.done k (omega arith) }
-
 -- the polynomial of a gate's kind
 pub form_read : (mask : ℕ) (polynomials : List Polynomial) → Formed mask polynomials → (g : Gate) {kind : ℕ} → kind ≡ gate_kind g → get_or polynomials kind no_polynomial ≡ kind_polynomial (gate_kind g) mask
 form_read mask polynomials formed g e = ap (λ (k : ℕ). get_or polynomials k no_polynomial) e ∙ formed.polynomial (gate_kind g) (kind_lt g)
