@@ -6,13 +6,12 @@
 --   forming_next   one more
 --   forming_all    all
 --   form_read      the polynomial of a gate's kind
-use Prim.Native.Nat.{ℕ, ◌+◌, ◌≤◌, ◌<◌}
+use Prim.Native.Nat.{ℕ, ◌<◌}
 use native.Mathlib.Omega.{arith}
 use mathlib.Core.Path.{◌≡◌, ap, ◌∙◌}
 use mathlib.Core.List.{List}
-use borrow.Author.Count.{below_none, below_more}
-use lib.ListN.{length, get_or, set, replicate, length-set, length-replicate}
-use lib.Seq.{get_or-set_same, get_or-set_other}
+use borrow.Author.Count.{below_none}
+use lib.ListN.{length, get_or, replicate, length-replicate}
 use Rattle.bits.proofs.Below.{equal_below}
 use Rattle.job.specs.Record.{gate_kind, gate_of}
 use Rattle.job.specs.declared.Gate.{Gate}

@@ -44,7 +44,12 @@ pub(crate) fn shape_of(inputs: usize) -> Shape
 pub(crate) fn polynomials_of(mask: u8) -> [Polynomial; KINDS]
     ensures { Formed mask result }
 {
-    let none = Polynomial { constant: 0, first: 0, second: 0, both: 0 };
+    let none = Polynomial {
+        constant: 0,
+        first: 0,
+        second: 0,
+        both: 0,
+    };
     let mut polynomials = [none; KINDS];
     for (kind, polynomial) in polynomials.iter_mut().enumerate() {
         *polynomial = gates::polynomial_of(job::gate_of(kind, 0, 0), mask);

@@ -7,4 +7,3 @@ use Rattle.tables.proofs.counts_of.Given as goal
 
 abbrev pub invariant-loop-i : goal.invariant-loop-i
 invariant-loop-i l = Written l.initial.parts 1 63 (λ k. get_or (map (λ (e : FaultEntry). e.part) l.entry-items) k 0) l.parts l.i
-

@@ -6,4 +6,3 @@ use Rattle.tables.proofs.put_column.Given as goal
 
 abbrev pub invariant-loop-p : goal.invariant-loop-p
 invariant-loop-p l = Placed l.initial.out l.to (length l.asked) l.bytes (asked_row l.batch l.bytes l.asked l.rows l.column) l.out l.p
-

@@ -7,4 +7,3 @@ use Rattle.tables.proofs.put_columns.Given as goal
 
 abbrev pub invariant-loop-i : goal.invariant-loop-i
 invariant-loop-i l = Placed l.initial.out l.to l.batch.count (length l.asked * l.bytes) (rows_at l.batch l.bytes l.asked l.rows) l.out l.i
-

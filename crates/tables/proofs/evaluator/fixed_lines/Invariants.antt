@@ -4,4 +4,3 @@ use Rattle.tables.proofs.evaluator.fixed_lines.Given as goal
 
 abbrev pub invariant-loop-i : goal.invariant-loop-i
 invariant-loop-i l = FixedTo l.job l.first l.i-end l.i l.fixed
-

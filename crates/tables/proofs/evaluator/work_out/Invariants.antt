@@ -6,4 +6,3 @@ use Rattle.tables.proofs.evaluator.work_out.Given as goal
 
 abbrev pub invariant-loop-line : goal.invariant-loop-line
 invariant-loop-line l = (length l.rows ≡ length l.initial.rows) × Side l.job l.batch l.line l.rows
-
