@@ -57,7 +57,7 @@ pub const MAX_JOB_BYTES: usize = (COUNT_BITS
     / 8;
 
 // The six kinds of gate that read two lines.
-#[derive(Clone, Copy)]
+#[derive(Clone, Copy, Debug, PartialEq, Eq)]
 pub enum BinaryKind {
     And,
     Or,
@@ -68,21 +68,21 @@ pub enum BinaryKind {
 }
 
 // The two kinds that read one line.
-#[derive(Clone, Copy)]
+#[derive(Clone, Copy, Debug, PartialEq, Eq)]
 pub enum UnaryKind {
     Buf,
     Not,
 }
 
 // "A record's gate kind can only be one of the eight": a unary gate has one line.
-#[derive(Clone, Copy)]
+#[derive(Clone, Copy, Debug, PartialEq, Eq)]
 pub enum Gate {
     Unary(UnaryKind, u8),
     Binary(BinaryKind, u8, u8),
 }
 
 // "A fault is either a line stuck at a level or a bridge of two inputs."
-#[derive(Clone, Copy)]
+#[derive(Clone, Copy, Debug, PartialEq, Eq)]
 pub enum Fault {
     // The line and its level.
     Stuck(u8, bool),
@@ -218,20 +218,20 @@ pub fn part_ok(part: usize) -> bool
     part <= MAX_PART
 }
 
-#[derive(Clone, Copy)]
+#[derive(Clone, Copy, Debug, PartialEq, Eq)]
 pub struct GateEntry {
     pub gate: Gate,
 }
 
 // A fault, and the part that is mended for it.
-#[derive(Clone, Copy)]
+#[derive(Clone, Copy, Debug, PartialEq, Eq)]
 pub struct FaultEntry {
     pub fault: Fault,
     pub part: u8,
 }
 
 // Entries past a count are unused.
-#[derive(Clone, Copy)]
+#[derive(Clone, Copy, Debug, PartialEq, Eq)]
 pub struct Job {
     pub inputs: u8,
     pub gate_count: u8,
@@ -266,7 +266,7 @@ pub fn empty_job() -> Job
 const MARKS: usize = 256 + MAX_GATES;
 
 // For each line whether it is in use.
-#[derive(Clone, Copy)]
+#[derive(Clone, Copy, Debug, PartialEq, Eq)]
 struct Marks {
     of: [bool; MARKS],
 }
