@@ -1,10 +1,6 @@
 -- Undoing a spectrum, as the code does it (specs/Operations.antt, specs/Parities.antt).
 --
---   Comparing              what a loop has done after i turns: the first i numbers of two lists are the same
---   comparing_none         nothing compared yet
---   comparing_stop         two numbers that differ: the lists are not the same
---   comparing_more         one number more
---   comparing_all          all numbers: the lists are the same
+--   same_pointwise         `==` compares number by number
 --   same_lengths           lists that are not of one length are not the same
 --   few_entries            the entries of a table fit a usize, with room for spare bits
 --   packs_numbers          a lent table has room for the parities of the numbers
@@ -13,30 +9,31 @@
 --   compares               the numbers are compared with the recovered table's spectrum
 --   entries_most           no table has more entries than that of the most inputs
 --   lent_of                memory of the right sizes is lent
---   undo_low, undo_high, undo_polarity, undo_count, undo_none, undo_memory, undo_done   undoing's ways out: 2 twice, 13, 14 twice, 10, success
+--   inputs_some, inputs_most, inputs_lent   a valid number of inputs, by its test
+--   undo_unfit, undo_polarity, undo_count, undo_none, undo_memory, undo_done   undoing's ways out: 2, 13, 14 twice, 10, success
 use Prim.Native.Nat.{ℕ, suc, ◌+◌, ◌/◌, ◌%◌, ◌^◌, ◌≤◌, ◌<◌}
 use native.Mathlib.Omega.{arith}
 use native.Mathlib.Nat.{le_trans, lt_of_le_of_lt}
-use native.Mathlib.Numerals.{add-one}
 use mathlib.Core.Path.{◌≡◌, refl, sym, ap, ◌∙◌}
 use mathlib.Core.Bool.{Bool, true, false, ◌&&◌}
-use mathlib.Core.List.{List, [], ◌∷◌}
-use borrow.Author.Tests.{eq-eqb, ne_eqb, le-leb, lt-leb, lt-ltb, le-ltb}
-use lib.Dec.{eqb, lit<}
+use mathlib.Core.List.{List, [], ◌∷◌, ◌++◌}
+use borrow.Author.Tests.{leb-true, le-leb, lt-leb, lt-ltb, le-ltb}
+use lib.Dec.{leb, eqb, lit<}
+use lib.Pointwise.{pointwise}
 use lib.Bits.{bit_xor, xor_lt, xor_zero_r}
-use lib.ListN.{length, drop, drop_of_length-le}
+use lib.ListN.{length, drop}
 use lib.Pow.{pow_pos, pow_mono}
-use lib.Seq.{drop-cons}
 use Rattle.bits.specs.Answer.{Answer, leaves}
 use Rattle.bits.specs.Answer.Answer.{gives, refused}
 use Rattle.bits.specs.Packed.{packed, entry}
 use Rattle.bits.proofs.Packed.{entry_packed, packed_ext, length_packed}
-use Rattle.bits.proofs.Tests.{and_i}
+use Rattle.bits.proofs.Tests.{and_l, and_r, and_i}
 use Rattle.job.specs.Check.{inputs_ok}
 use Rattle.job.proofs.Sizes.{most_inputs, inputs_few}
 use Rattle.job.specs.Layout.{max_inputs}
 use Rattle.bits.specs.Sizes.{table_bytes, table_size_of}
 use Rattle.bits.specs.Slices.{splice}
+use Rattle.bits.proofs.Splice.{splice_start}
 use Rattle.bits.proofs.TableSizes.{table_size_exact}
 use Rattle.tables.proofs.Answers.{kept, put}
 use Rattle.spectra.specs.Operations.{table_ok, at, spectrum_of, same_numbers, is_spectrum, undone_of}
@@ -52,46 +49,24 @@ use Rattle.spectra.proofs.PackedTables.{packed_whole}
 
 -- ---- comparing
 
-pub record Comparing (a b : List ℕ) (i : ℕ) : Type 0 where
-  pub within : i ≤ length a
-  pub lengths : length a ≡ length b
-  pub rest : same_numbers a b ≡ same_numbers (drop i a) (drop i b)
+-- what `==` says of two slices
+pub same_pointwise : (a b : List ℕ) → pointwise eqb a b ≡ same_numbers a b
+unfolding same_numbers
+same_pointwise [] [] = refl
+same_pointwise [] (y ∷ b) = refl
+same_pointwise (x ∷ a) [] = refl
+same_pointwise (x ∷ a) (y ∷ b) = ap (λ (t : Bool). eqb x y && t) (same_pointwise a b)
 
 and-false : (t : Bool) → t && false ≡ false
 and-false true = refl
 and-false false = refl
 
-pub same_lengths : (a b : List ℕ) → (length a ≡ length b → ⊥) → false ≡ same_numbers a b
+same_lengths : (a b : List ℕ) → (length a ≡ length b → ⊥) → false ≡ same_numbers a b
 unfolding same_numbers
 same_lengths [] [] h = absurd (h refl)
 same_lengths [] (y ∷ b) h = refl
 same_lengths (x ∷ a) [] h = refl
 same_lengths (x ∷ a) (y ∷ b) h = rw (← same_lengths a b (λ e. h (ap suc e))) (sym (and-false (eqb x y)))
-
-module _ {a b : List ℕ} where
-  pub comparing_none : length a ≡ length b → Comparing a b 0
-  comparing_none e = record { within = omega arith; lengths = e; rest = refl }
-
-  module _ {i : ℕ} (w : Comparing a b i) where
-    next : i < length a → same_numbers (drop i a) (drop i b) ≡ eqb (at a i) (at b i) && same_numbers (drop (suc i) a) (drop (suc i) b)
-    unfolding same_numbers
-    next h = rw (drop-cons a i 0 h, drop-cons b i 0 (omega (arith, w.lengths)))
-
-    pub comparing_stop : i < length a → (at a i ≡ at b i → ⊥) → false ≡ same_numbers a b
-    comparing_stop h d = sym (w.rest ∙ next h ∙ rw (ne_eqb (at a i) (at b i) d))
-
-    pub comparing_more : i < length a → at a i ≡ at b i → Comparing a b (i + 1)
-    comparing_more h e =
-        record {
-          within = omega arith;
-          lengths = w.lengths;
-          rest = w.rest ∙ next h ∙ rw (eq-eqb (at a i) (at b i) e, add-one);
-        }
-
-    pub comparing_all : length a ≤ i → true ≡ same_numbers a b
-    unfolding same_numbers
-    comparing_all h =
-        sym (w.rest ∙ rw (drop_of_length-le a {i = i} h, drop_of_length-le b {i = i} (omega (arith, w.lengths))))
 
 -- ---- recovering
 
@@ -168,6 +143,15 @@ module _ {n k : ℕ} {numbers table sums : List ℕ} (l : Lent n k numbers table
 
 -- ---- the ways out
 
+pub inputs_some : {n : ℕ} → inputs_ok n ≡ true → 1 ≤ n
+inputs_some {n} h = leb-true 1 n (and_l (leb 1 n) (leb n max_inputs) h)
+
+pub inputs_most : {n : ℕ} → inputs_ok n ≡ true → n ≤ max_inputs
+inputs_most {n} h = leb-true n max_inputs (and_r (leb 1 n) (leb n max_inputs) h)
+
+pub inputs_lent : {n k : ℕ} {numbers table sums : List ℕ} → Lent n k numbers table sums → inputs_ok n ≡ true
+inputs_lent {n} l = and_i (le-leb 1 n l.some) (le-leb n max_inputs l.few)
+
 no_spectrum : (kind : Kind) (n k : ℕ) (numbers : List ℕ) → (length numbers ≡ 2 ^ n → ⊥) → false ≡ is_spectrum kind n k numbers
 unfolding is_spectrum
 no_spectrum kind n k numbers d =
@@ -187,44 +171,39 @@ module _ (n : ℕ) (numbers : List ℕ) (kind : Kind) (k : ℕ) (out : List ℕ)
   abbrev Refuses : ℕ → Type 0
   Refuses number = record { answer = refused number; memory = out } ≡ leaves (undone_of n numbers kind k (length out)) out
 
-  pub undo_low : n < 1 → Refuses 2
+  pub undo_unfit : inputs_ok n ≡ false → Refuses 2
   unfolding undone_of
-  undo_low h = kept (undone_of n numbers kind k (length out)) 2 out (simp (lt-leb 1 n h))
+  undo_unfit h = kept (undone_of n numbers kind k (length out)) 2 out (simp h)
 
-  module _ (low : 1 ≤ n) where
-    pub undo_high : max_inputs < n → Refuses 2
+  module _ (inputs : inputs_ok n ≡ true) where
+    high : n ≤ max_inputs
+    high = inputs_most inputs
+
+    pub undo_polarity : {size : ℕ} → size ≡ table_size_of n → size ≤ k → Refuses 13
     unfolding undone_of
-    undo_high h = kept (undone_of n numbers kind k (length out)) 2 out (simp (le-leb 1 n low, lt-leb n max_inputs h))
+    undo_polarity told h = kept (undone_of n numbers kind k (length out)) 13 out (simp (inputs, le-ltb k (2 ^ n) (rw (table_size_exact (inputs_few high) told) at h)))
 
-    module _ (high : n ≤ max_inputs) where
-      inputs : inputs_ok n ≡ true
-      inputs = and_i (le-leb 1 n low) (le-leb n max_inputs high)
+    pub undo_none : k < 2 ^ n → false ≡ is_spectrum kind n k numbers → Refuses 14
+    unfolding undone_of
+    undo_none h e = kept (undone_of n numbers kind k (length out)) 14 out (simp (inputs, lt-ltb k (2 ^ n) h, sym e))
 
-      pub undo_polarity : {size : ℕ} → size ≡ table_size_of n → size ≤ k → Refuses 13
+    pub undo_count : {size : ℕ} → size ≡ table_size_of n → k < size → (length numbers ≡ size → ⊥) → Refuses 14
+    undo_count told h d = let e = table_size_exact (inputs_few high) told in undo_none (rw e at h) (no_spectrum kind n k numbers (λ q. d (q ∙ sym e)))
+
+    module _ (h : k < 2 ^ n) (e : true ≡ is_spectrum kind n k numbers) {table : List ℕ} (t : table ≡ packed (2 ^ n) (recovered n k (at numbers))) where
+      length_undone : length table ≡ table_bytes n
+      length_undone = ap length t ∙ length_packed (2 ^ n) (recovered n k (at numbers))
+
+      pub undo_memory : length out < length table → Refuses 10
       unfolding undone_of
-      undo_polarity told h = kept (undone_of n numbers kind k (length out)) 13 out (simp (inputs, le-ltb k (2 ^ n) (rw (table_size_exact (inputs_few high) told) at h)))
+      undo_memory l =
+          kept (undone_of n numbers kind k (length out)) 10 out
+          (simp (inputs, lt-ltb k (2 ^ n) h, sym e, lt-leb (table_bytes n) (length out) (omega (arith, length_undone))))
 
-      pub undo_none : k < 2 ^ n → false ≡ is_spectrum kind n k numbers → Refuses 14
+      pub undo_done : {front : List ℕ} → length table ≤ length out → front ≡ table
+          → record { answer = gives tt; memory = front ++ drop (length table) out } ≡ leaves (undone_of n numbers kind k (length out)) out
       unfolding undone_of
-      undo_none h e = kept (undone_of n numbers kind k (length out)) 14 out (simp (inputs, lt-ltb k (2 ^ n) h, sym e))
-
-      pub undo_count : {size : ℕ} → size ≡ table_size_of n → k < size → (length numbers ≡ size → ⊥) → Refuses 14
-      undo_count told h d = let e = table_size_exact (inputs_few high) told in undo_none (rw e at h) (no_spectrum kind n k numbers (λ q. d (q ∙ sym e)))
-
-      module _ (h : k < 2 ^ n) (e : true ≡ is_spectrum kind n k numbers) {table : List ℕ} (t : table ≡ packed (2 ^ n) (recovered n k (at numbers))) where
-        length_undone : length table ≡ table_bytes n
-        length_undone = ap length t ∙ length_packed (2 ^ n) (recovered n k (at numbers))
-
-        pub undo_memory : length out < length table → Refuses 10
-        unfolding undone_of
-        undo_memory l =
-            kept (undone_of n numbers kind k (length out)) 10 out
-            (simp (inputs, lt-ltb k (2 ^ n) h, sym e, lt-leb (table_bytes n) (length out) (omega (arith, length_undone))))
-
-        pub undo_done : {after : List ℕ} → length table ≤ length out → after ≡ splice out 0 table
-            → record { answer = gives tt; memory = after } ≡ leaves (undone_of n numbers kind k (length out)) out
-        unfolding undone_of
-        undo_done {after} l p =
-            put (undone_of n numbers kind k (length out)) tt (packed (2 ^ n) (recovered n k (at numbers))) out after
-            (simp (inputs, lt-ltb k (2 ^ n) h, sym e, le-leb (table_bytes n) (length out) (omega (arith, length_undone))))
-            (p ∙ ap (splice out 0) t)
+      undo_done {front} l p =
+          put (undone_of n numbers kind k (length out)) tt (packed (2 ^ n) (recovered n k (at numbers))) out (front ++ drop (length table) out)
+          (simp (inputs, lt-ltb k (2 ^ n) h, sym e, le-leb (table_bytes n) (length out) (omega (arith, length_undone))))
+          (ap (λ (s : List ℕ). s ++ drop (length table) out) p ∙ sym (splice_start out table) ∙ ap (splice out 0) t)

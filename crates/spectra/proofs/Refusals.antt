@@ -1,6 +1,6 @@
 -- What the operations on tables answer and leave, case by case (specs/Operations.antt, specs/Rows.antt).
 --
---   tables_low, tables_high, tables_wrong, tables_right   the checks of tables: 2 twice, 12, none
+--   tables_unfit, tables_wrong, tables_right   the checks of tables: 2, 12, none
 --   filled_unchecked, filled_polarity, filled_memory, filled_done   the spectra of tables: 2 or 12, 13, 10, success
 --   rows_room               the places of tables that pass the checks are a number
 --   spectrum_left           the spectrum of a table is what is left of one row
@@ -40,21 +40,17 @@ use Rattle.spectra.proofs.TableTests.{rows_few}
 -- ---- the checks of tables
 
 module _ (counts : Counts) (s : List ℕ) where
-  pub tables_low : counts.inputs < 1 → refused 2 ≡ tables_checked counts s
+  pub tables_unfit : inputs_ok counts.inputs ≡ false → refused 2 ≡ tables_checked counts s
   unfolding tables_checked
-  tables_low h = simp (lt-leb 1 counts.inputs h)
+  tables_unfit h = simp h
 
-  pub tables_high : 1 ≤ counts.inputs → max_inputs < counts.inputs → refused 2 ≡ tables_checked counts s
+  pub tables_wrong : inputs_ok counts.inputs ≡ true → tables_ok counts s ≡ false → refused 12 ≡ tables_checked counts s
   unfolding tables_checked
-  tables_high h l = simp (le-leb 1 counts.inputs h, lt-leb counts.inputs max_inputs l)
+  tables_wrong h e = simp (h, e)
 
-  pub tables_wrong : 1 ≤ counts.inputs → counts.inputs ≤ max_inputs → tables_ok counts s ≡ false → refused 12 ≡ tables_checked counts s
+  pub tables_right : inputs_ok counts.inputs ≡ true → tables_ok counts s ≡ true → gives tt ≡ tables_checked counts s
   unfolding tables_checked
-  tables_wrong h l e = simp (le-leb 1 counts.inputs h, le-leb counts.inputs max_inputs l, e)
-
-  pub tables_right : 1 ≤ counts.inputs → counts.inputs ≤ max_inputs → tables_ok counts s ≡ true → gives tt ≡ tables_checked counts s
-  unfolding tables_checked
-  tables_right h l e = simp (le-leb 1 counts.inputs h, le-leb counts.inputs max_inputs l, e)
+  tables_right h e = simp (h, e)
 
 -- ---- the spectra of tables
 
