@@ -1,4 +1,4 @@
--- Adding the sums of the lower half to those of the upper half, number by number (specs/Recursion.antt).
+-- Combining the spectra of two halves, number by number (specs/Recursion.antt).
 --
 --   written_after     numbers that a loop has not yet written are as they were
 --   Combining         what the loop has done after i turns: the first i sums are written
@@ -8,18 +8,17 @@
 --   combining_all     all sums: the halves are combined
 use Prim.Native.Nat.{ℕ, ◌+◌, ◌-◌, ◌^◌, ◌≤◌, ◌<◌}
 use native.Mathlib.Omega.{arith}
-use native.Mathlib.Nat.{zero-add, le_of_eq}
-use mathlib.Core.Path.{◌≡◌, refl, sym, ap, ◌∙◌}
-use mathlib.Core.List.{List, ◌++◌}
-use lib.ListN.{length, get_or, take, drop, set, length-append, length-take}
-use lib.Seq.{get_or-append-add, get_or-drop}
+use mathlib.Core.Path.{◌≡◌, sym, ap, ap₂, ◌∙◌}
+use mathlib.Core.List.{List, ◌++◌, append-nil}
+use lib.ListN.{length, get_or, take, drop, set, length-append, length-take, drop_of_length-le}
+use lib.Seq.{get_or-append-add, get_or-drop, get_or-take}
 use mir.Syntax.{w16}
 use mir.Val.{Fits}
 use Rattle.bits.specs.Packed.{tabulate}
 use Rattle.bits.proofs.Packed.{length_tabulate}
 use Rattle.bits.specs.Slices.{splice}
-use Rattle.bits.proofs.Splice.{Written, written_none, filled_more, filled_all}
-use Rattle.spectra.specs.Recursion.{Most, added_to}
+use Rattle.bits.proofs.Splice.{Written, written_none, written_more, written_before, written_all}
+use Rattle.spectra.specs.Recursion.{Most, combined}
 
 splice_after : (rows : List ℕ) (to : ℕ) (new : List ℕ) (j : ℕ) → to ≤ length rows → to + length new ≤ j → get_or (splice rows to new) j 0 ≡ get_or rows j 0
 splice_after rows to new j h l =
@@ -37,22 +36,37 @@ written_after {start} {to} {count} {f} {rows} {i} w j l =
     ap (λ (s : List ℕ). get_or s j 0) w.so_far
     ∙ splice_after start to (tabulate i f) j (omega (arith, w.room)) (rw length_tabulate l)
 
-abbrev pub Combining : List ℕ → List ℕ → List ℕ → ℕ → Type 0
-Combining lower start out i = Written start 0 (length start) (λ n. get_or lower n 0 + get_or start n 0) out i
+-- the sum that belongs into the upper half
+abbrev sum_at : ℕ → List ℕ → ℕ → ℕ
+sum_at half start n = get_or (take half start) n 0 + get_or (drop half start) n 0
 
-module _ (lower : List ℕ) {start : List ℕ} where
-  pub combining_none : Combining lower start start 0
-  combining_none = written_none (le_of_eq (zero-add (length start)))
+abbrev pub Combining : ℕ → List ℕ → List ℕ → ℕ → Type 0
+Combining half start out i = Written start half half (λ n. get_or (take half start) n 0 + get_or (drop half start) n 0) out i
 
-  module _ {out : List ℕ} {i : ℕ} (w : Combining lower start out i) where
-    as_before : get_or out i 0 ≡ get_or start i 0
-    as_before = written_after w i (le_of_eq (zero-add i))
+module _ {half : ℕ} {start : List ℕ} where
+  pub combining_none : half + half ≡ length start → Combining half start start 0
+  combining_none e = written_none (omega arith)
 
-    pub combining_fits : Most (2 ^ 14) lower → Most (2 ^ 14) start → Fits w16 (get_or lower i 0 + get_or out i 0)
-    combining_fits few most = omega (arith, few i, most i, as_before)
+  module _ {out : List ℕ} {i : ℕ} (w : Combining half start out i) (h : i < half) where
+    lower : get_or out i 0 ≡ get_or (take half start) i 0
+    lower = written_before w i h ∙ sym (get_or-take half start i 0 h)
 
-    pub combining_more : i < length start → Combining lower start (set out i (get_or lower i 0 + get_or out i 0)) (i + 1)
-    combining_more h = filled_more w (get_or lower i 0 + get_or out i 0) h (ap (λ (x : ℕ). get_or lower i 0 + x) as_before)
+    upper : get_or out (half + i) 0 ≡ get_or (drop half start) i 0
+    upper = written_after w (half + i) (omega arith) ∙ sym (get_or-drop half start i 0)
 
-    pub combining_all : length start ≤ i → out ≡ added_to lower start
-    combining_all h = filled_all w refl h
+    pub combining_fits : Most (2 ^ 14) start → Fits w16 (get_or out i 0 + get_or out (half + i) 0)
+    combining_fits small =
+        let a : get_or out i 0 ≡ get_or start i 0 = written_before w i h in
+        let b : get_or out (half + i) 0 ≡ get_or start (half + i) 0 = written_after w (half + i) (omega arith) in
+        omega (arith, small i, small (half + i))
+
+    pub combining_more : Combining half start (set out (half + i) (get_or out i 0 + get_or out (half + i) 0)) (i + 1)
+    combining_more = written_more w (get_or out i 0 + get_or out (half + i) 0) h (ap₂ ◌+◌ lower upper)
+
+  pub combining_all : {out : List ℕ} {i : ℕ} → Combining half start out i → half + half ≡ length start → half ≤ i
+      → out ≡ combined half (take half start) (drop half start)
+  combining_all w e h =
+      written_all w h
+      ∙ ap (λ (l : List ℕ). take half start ++ tabulate half (sum_at half start) ++ l)
+      (drop_of_length-le start {i = half + length (tabulate half (sum_at half start))} (rw length_tabulate (omega arith)))
+      ∙ append-nil (take half start ++ tabulate half (sum_at half start))

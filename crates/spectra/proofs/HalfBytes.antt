@@ -15,16 +15,17 @@ use mathlib.Core.Path.{◌≡◌, refl, sym, ap, ap₂, subst, ◌∙◌}
 use mathlib.Core.Bool.{Bool, true, false, cond}
 use mathlib.Core.List.{List, [], ◌∷◌}
 use lib.Bits.{bit_xor, xor_zero_l}
-use lib.Dec.{lit<, lit≤}
+use lib.Dec.{lit≤}
 use lib.ListN.{length, get_or}
-use mir.Syntax.{w8}
+use mir.Syntax.{w8, w16}
 use mir.Val.{Fits}
 use Rattle.bits.specs.Packed.{entry, tabulate}
 use Rattle.bits.proofs.Below.{equal_below}
 use Rattle.bits.proofs.Digits.{digit_lt}
 use Rattle.bits.proofs.Packed.{tabulate_at, tabulate_ext}
+use Rattle.bits.proofs.Splice.{Written, filled_all}
 use Rattle.std.proofs.lemmas.List.FromFn.{length-map-range_with_len, get_or-map-range_with_len}
-use Rattle.spectra.specs.Recursion.{byte_entry, sums_of, byte_sums, half_byte, half_sums, sum_at, eight_sums, SumsFit, Asks, LeafAsks, entries_from}
+use Rattle.spectra.specs.Recursion.{byte_entry, sums_of, byte_sums, half_byte, half_sums, sum_at, Asks, LeafAsks, entries_from}
 use Rattle.spectra.specs.Operations.{at}
 use Rattle.spectra.specs.Spectrum.{inside, sum_to, subset_sum, coefficient, spectrum}
 use Rattle.spectra.specs.declared.Kind.TheVariants.{Mrm}
@@ -171,8 +172,7 @@ module _ (k byte : ℕ) {sums : List (List ℕ)} (hk : k < 8) (h : byte < 256) (
       ∙ ap (byte_sums k) (lower_byte (byte % 16) (omega arith))
 
   module _ {x y : List ℕ} (p : x ≡ get_or sums (byte / 16) []) (q : y ≡ get_or sums (16 + byte % 16) []) where
-    rows_added : eight_sums x y ≡ byte_sums k byte
-    unfolding tabulate
+    rows_added : tabulate 8 (sum_at x y) ≡ byte_sums k byte
     rows_added =
         tabulate_ext 8 (sum_at x y) (subset_sum 3 k (byte_entry byte))
         (λ j l. ap₂ ◌+◌ (row_at k (byte / 16 * 16) j l (upper_row p)) (row_at k (byte % 16) j l (lower_row q)) ∙ sym (byte_halves k byte j hk h))
@@ -180,19 +180,6 @@ module _ (k byte : ℕ) {sums : List (List ℕ)} (hk : k < 8) (h : byte < 256) (
 
     sum_fits : (j : ℕ) → j < 8 → sum_at x y j < 2 ^ 16
     sum_fits j l = omega (arith, byte_le k (byte / 16 * 16) j hk l (upper_row p), byte_le k (byte % 16) j hk l (lower_row q))
-
-    rows_fit : SumsFit x y
-    rows_fit =
-        record {
-          fit0 = sum_fits 0 (lit< tt);
-          fit1 = sum_fits 1 (lit< tt);
-          fit2 = sum_fits 2 (lit< tt);
-          fit3 = sum_fits 3 (lit< tt);
-          fit4 = sum_fits 4 (lit< tt);
-          fit5 = sum_fits 5 (lit< tt);
-          fit6 = sum_fits 6 (lit< tt);
-          fit7 = sum_fits 7 (lit< tt);
-        }
 
 -- the sums that a leaf has are for its own polarity
 leaf_sums : {places : ℕ} {sums : List (List ℕ)} {len at k : ℕ} → Asks places sums len at 3 k → sums ≡ half_sums k
@@ -212,10 +199,11 @@ module _ {places : ℕ} {sums : List (List ℕ)} (s : List ℕ) {at : ℕ} (l : 
         (omega arith, omega arith)
 
     module _ {x y : List ℕ} (p : x ≡ get_or sums (byte / 16) []) (q : y ≡ get_or sums (16 + byte % 16) []) where
-      pub leaf_fits : SumsFit x y
-      leaf_fits = rows_fit l.polarity byte l.asks.polarity h (leaf_sums l.asks) p q
+      pub leaf_fits : (j : ℕ) → j < 8 → Fits w16 (sum_at x y j)
+      leaf_fits j h₈ = record { fits = sum_fits l.polarity byte l.asks.polarity h (leaf_sums l.asks) p q j h₈ }
 
-      pub leaf_made : {after : List ℕ} → after ≡ eight_sums x y
-          → (k : ℕ) → Asks places sums (length s) at 3 k → after ≡ spectrum Mrm 3 k (entries_from s at)
-      leaf_made e k asks =
-          e ∙ rows_added k byte asks.polarity h (leaf_sums asks) p q ∙ byte_there s at k asks.polarity (asks.whole (lit≤ tt))
+      pub leaf_made : {start out : List ℕ} {j : ℕ} → Written start 0 8 (sum_at x y) out j → length start ≡ places → 8 ≤ j
+          → (k : ℕ) → Asks places sums (length s) at 3 k → out ≡ spectrum Mrm 3 k (entries_from s at)
+      leaf_made w e all k asks =
+          filled_all w (e ∙ asks.room) all
+          ∙ rows_added k byte asks.polarity h (leaf_sums asks) p q ∙ byte_there s at k asks.polarity (asks.whole (lit≤ tt))

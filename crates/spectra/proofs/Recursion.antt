@@ -12,7 +12,7 @@
 --   inner_asked           what the transform asks of a half
 --   front_inside          the first half lies within the memory
 --   back_size             the size of the second half
---   combine_asked         what combining asks: halves of one size, of numbers that are at most 2 ^ 14
+--   combine_asked         what combining asks: two halves of numbers that are at most 2 ^ 14
 --   transformed           the combined halves are the spectrum
 --   transformed_one       the spectrum of one entry
 --   one_asked             what reading one entry asks
@@ -24,18 +24,19 @@ use native.Mathlib.Omega.{arith}
 use mathlib.Core.Path.{◌≡◌, refl, sym, ap, ap₂, subst, ◌∙◌}
 use mathlib.Core.List.{List, [], ◌∷◌, ◌++◌}
 use mathlib.Core.Logic.{⊎_elim}
-use lib.ListN.{length, get_or, set, get_or-eq_default}
+use lib.ListN.{length, get_or, take, drop, set, length-append, get_or-append, get_or-eq_default}
+use lib.Seq.{get_or-append-add, take_at, drop_at}
 use lib.Pow.{pow_pos, pow_mono, pow-add, mod-mod-pow}
 use mir.Syntax.{w64}
 use mir.Val.{Fits}
-use Rattle.bits.specs.Packed.{entry, tabulate}
+use Rattle.bits.specs.Packed.{entry}
 use Rattle.bits.proofs.Below.{lt_or_ge}
 use Rattle.bits.proofs.Fields.{shift_exact}
 use Rattle.bits.proofs.Packed.{entry_lt}
 use Rattle.job.specs.Layout.{max_inputs}
 use Rattle.job.proofs.Sizes.{most_inputs}
 use Rattle.bits.specs.Sizes.{table_bytes}
-use Rattle.spectra.specs.Recursion.{half_sums, Summed, Asks, entries_from, Most, added_to, combined}
+use Rattle.spectra.specs.Recursion.{half_sums, Summed, Asks, entries_from, Most, combined}
 use Rattle.spectra.specs.Spectrum.{spectrum}
 use Rattle.spectra.specs.declared.Kind.TheVariants.{Mrm}
 use Rattle.spectra.proofs.Bounds.{coefficient_le, length_spectrum, spectrum_at, spectrum_ext}
@@ -144,6 +145,13 @@ module _ {out : List ℕ} {sums : List (List ℕ)} {len at n k h : ℕ} (p : Hal
 
 -- ---- the size of the numbers
 
+most_append : (m : ℕ) (a b : List ℕ) → Most m a → Most m b → Most m (a ++ b)
+most_append m a b ha hb i =
+    ⊎_elim (λ l. subst (λ (x : ℕ). x ≤ m) (sym (get_or-append a b 0 i l)) (ha i))
+    (λ l. let e : length a + (i - length a) ≡ i = omega arith in
+    subst (λ (x : ℕ). x ≤ m) (sym (get_or-append-add a b (i - length a) 0) ∙ ap (λ (x : ℕ). get_or (a ++ b) x 0) e) (hb (i - length a)))
+    (lt_or_ge i (length a))
+
 most_spectrum : (m r : ℕ) (s : List ℕ) (at : ℕ) → r < 2 ^ m → Most (2 ^ m) (spectrum Mrm m r (entries_from s at))
 most_spectrum m r s at h i =
     ⊎_elim
@@ -197,17 +205,17 @@ module _ (s : List ℕ) {out : List ℕ} {sums : List (List ℕ)} {at n k h : �
     most_half : (x : ℕ) → Most (2 ^ 14) (half_of x)
     most_half x i = let l = most_spectrum (n - 1) (k % h) s (at + x * h) rest_below i in omega (arith, p.half, p.half_few)
 
-    pub combine_asked : (length lo ≡ length hi) × Most (2 ^ 14) lo × Most (2 ^ 14) hi
+    pub combine_asked : (h + h ≡ length (lo ++ hi)) × Most (2 ^ 14) (lo ++ hi)
     combine_asked = (
-      low_length ∙ sym high_length,
-      subst (λ (x : List ℕ). Most (2 ^ 14) x) (sym low) (most_half (k / h)),
-      subst (λ (x : List ℕ). Most (2 ^ 14) x) (sym high) (most_half (1 - k / h)),
+      sym (length-append lo hi ∙ ap₂ ◌+◌ low_length high_length),
+      subst (λ (x : List ℕ). Most (2 ^ 14) x) (sym (ap₂ ◌++◌ low high)) (most_append (2 ^ 14) (half_of (k / h)) (half_of (1 - k / h)) (most_half (k / h)) (most_half (1 - k / h))),
     )
 
-    pub transformed : (after : List ℕ) → after ≡ added_to lo hi → lo ++ after ≡ spectrum Mrm n k (entries_from s at)
+    pub transformed : (after : List ℕ) → after ≡ combined h (take h (lo ++ hi)) (drop h (lo ++ hi)) → after ≡ spectrum Mrm n k (entries_from s at)
     transformed after q =
-        ap (λ (x : List ℕ). lo ++ x) (q ∙ ap (λ (x : ℕ). tabulate x (λ i. get_or lo i 0 + get_or hi i 0)) high_length)
-        ∙ ap₂ (λ (x y : List ℕ). combined h x y) low high
+        q
+        ∙ ap₂ (λ (x y : List ℕ). combined h x y)
+        (take_at lo hi h low_length ∙ low) (drop_at lo hi h low_length ∙ high)
         ∙ sym whole_spectrum
 
 -- ---- the smallest tables

@@ -3,15 +3,13 @@
 --
 --   entries_from   the table of the entries from one on
 --   Most           every number of a list is at most m
---   added_to       the numbers of two lists, added
 --   combined       the MRM spectrum of a table from those of its two halves
 --   all_reduced    numbers as the kind has them
 --   byte_entry    entry t mod 8 of a byte, the first its highest bit
 --   byte_sums     the MRM spectrum of a byte's eight entries in polarity k, sum by sum
 --   half_byte     byte i of those of which one half is 0: sixteen with lower halves that are 0, and then sixteen with upper halves that are 0
 --   half_sums     their spectra
---   eight_sums    the sums of two rows of eight
---   SumsFit       each of them fits a u16
+--   sum_at        number j of two rows, added
 --   Summed        the sums are those for the three lowest bits of the polarity, where there is a leaf
 --   Asks          what the transform asks, of so many places of memory and so many bytes of tables
 --   LeafAsks      what a leaf asks: what the transform of three inputs does, in some polarity
@@ -31,10 +29,6 @@ entries_from bytes at m = entry bytes (at + m)
 -- past the end of a list stands 0
 abbrev pub Most : ℕ → List ℕ → Type 0
 Most m numbers = (i : ℕ) → get_or numbers i 0 ≤ m
-
--- as many sums as the second list has numbers
-abbrev pub added_to : List ℕ → List ℕ → List ℕ
-added_to lo hi = tabulate (length hi) (λ i. get_or lo i 0 + get_or hi i 0)
 
 -- the lower half as it is, and then the sums of both halves
 abbrev pub combined : ℕ → List ℕ → List ℕ → List ℕ
@@ -66,20 +60,6 @@ half_sums k = map (λ i. byte_sums k (half_byte i)) (range_with_len 0 32)
 -- number j of two rows, added
 abbrev pub sum_at : List ℕ → List ℕ → ℕ → ℕ
 sum_at x y j = get_or x j 0 + get_or y j 0
-
-abbrev pub eight_sums : List ℕ → List ℕ → List ℕ
-eight_sums x y =
-    sum_at x y 0 ∷ sum_at x y 1 ∷ sum_at x y 2 ∷ sum_at x y 3 ∷ sum_at x y 4 ∷ sum_at x y 5 ∷ sum_at x y 6 ∷ sum_at x y 7 ∷ []
-
-pub record SumsFit (x y : List ℕ) : Type 0 where
-  pub fit0 : sum_at x y 0 < 2 ^ 16
-  pub fit1 : sum_at x y 1 < 2 ^ 16
-  pub fit2 : sum_at x y 2 < 2 ^ 16
-  pub fit3 : sum_at x y 3 < 2 ^ 16
-  pub fit4 : sum_at x y 4 < 2 ^ 16
-  pub fit5 : sum_at x y 5 < 2 ^ 16
-  pub fit6 : sum_at x y 6 < 2 ^ 16
-  pub fit7 : sum_at x y 7 < 2 ^ 16
 
 abbrev pub Summed : ℕ → ℕ → List (List ℕ) → Type 0
 Summed n k sums = 3 ≤ n → sums ≡ half_sums (k % 8)

@@ -11,7 +11,7 @@
 ghost use Rattle.std.specs.Prelude.{◌+◌, ◌*◌, ◌/◌, ◌%◌, ◌^◌, ◌≤◌, ◌<◌, length, take, drop, ◌≡◌};
 ghost use Rattle.bits.specs.Packed.{entry};
 ghost use Rattle.spectra.specs.Rows.{rows_filled};
-ghost use Rattle.spectra.specs.Recursion.{byte_sums, half_byte, half_sums, eight_sums, SumsFit, Summed, Asks, LeafAsks, LeafMade, entries_from, Most, added_to, all_reduced};
+ghost use Rattle.spectra.specs.Recursion.{byte_sums, half_byte, half_sums, Summed, Asks, LeafAsks, LeafMade, entries_from, Most, combined, all_reduced};
 ghost use Rattle.spectra.specs.Spectrum.{spectrum};
 ghost use Rattle.spectra.specs.declared.Kind.TheVariants.{Rm, Mrm};
 ghost use Rattle.job.specs.Layout.{max_inputs};
@@ -27,13 +27,14 @@ fn entry_at(table: &[u8], m: usize) -> u16
     (table[m / 8] as u16 >> (7 - m % 8)) % 2
 }
 
-// Adds the sums of the lower half to those of the upper half. The numbers are small enough that their sums fit.
-fn combine(lower: &[u16], upper: &mut [u16])
-    requires { (length lower.now ≡ length upper.old) × Most (2 ^ 14) lower.now × Most (2 ^ 14) upper.old }
-    ensures { upper.new ≡ added_to lower.now upper.old }
+// Combines the sums of the two halves: the upper half becomes the sum of both. The numbers are small enough that their sums fit.
+// It takes one slice and goes by an index: of two slices, as of `split_at_mut`, it would first have to be tested that they are apart.
+fn combine(out: &mut [u16], half: usize)
+    requires { (half + half ≡ length out.old) × Most (2 ^ 14) out.old }
+    ensures { out.new ≡ combined half (take half out.old) (drop half out.old) }
 {
-    for (i, sum) in upper.iter_mut().enumerate() {
-        *sum = lower[i] + *sum;
+    for i in 0..half {
+        out[half + i] = out[i] + out[half + i];
     }
 }
 
@@ -66,23 +67,6 @@ fn byte_sums(byte: u8, k: usize) -> [u16; 8]
     ]
 }
 
-// The sums of two rows of eight, as one vector.
-fn added(x: [u16; 8], y: [u16; 8]) -> [u16; 8]
-    requires { SumsFit x y }
-    ensures { result ≡ eight_sums x y }
-{
-    [
-        x[0] + y[0],
-        x[1] + y[1],
-        x[2] + y[2],
-        x[3] + y[3],
-        x[4] + y[4],
-        x[5] + y[5],
-        x[6] + y[6],
-        x[7] + y[7],
-    ]
-}
-
 // Byte i of those of which one half is 0: sixteen have the number in their upper half, and then sixteen in their lower half. Rows are made
 // side by side, so that a product takes less time than a test.
 fn half_byte(i: u8) -> u8
@@ -92,18 +76,16 @@ fn half_byte(i: u8) -> u8
     i % 16 * (16 - 15 * (i / 16))
 }
 
-// The MRM spectra of these bytes, for the three lowest bits of a polarity.
+// The MRM spectra of these bytes, for the three lowest bits of a polarity. They are written into a lent array: a returned one would be copied.
 type HalfSums = [[u16; 8]; 32];
 
-fn half_sums(k: usize) -> HalfSums
+fn half_sums(sums: &mut HalfSums, k: usize)
     requires { k < 8 }
-    ensures { result ≡ half_sums k }
+    ensures { sums.new ≡ half_sums k }
 {
-    let mut sums = [[0; 8]; 32];
     for (i, row) in sums.iter_mut().enumerate() {
         *row = byte_sums(half_byte(i as u8), k);
     }
-    sums
 }
 
 // The MRM spectrum of three inputs, from one byte: the sums of its halves, added.
@@ -114,7 +96,9 @@ fn leaf(out: &mut [u16], sums: &HalfSums, table: &[u8], at: usize)
     let byte = table[at / 8];
     let upper = sums[(byte / 16) as usize];
     let lower = sums[(16 + byte % 16) as usize];
-    out.copy_from_slice(&added(upper, lower));
+    for j in 0..8 {
+        out[j] = upper[j] + lower[j];
+    }
 }
 
 // That of four inputs: both halves are bytes. It is the step of the transform with the leaf as its inner call, which saves half of all calls.
@@ -126,7 +110,7 @@ fn four(out: &mut [u16], sums: &HalfSums, table: &[u8], at: usize, k: usize)
     let (lower, upper) = out.split_at_mut(8);
     leaf(lower, sums, table, at + top * 8);
     leaf(upper, sums, table, at + (1 - top) * 8);
-    combine(lower, upper);
+    combine(out, 8);
 }
 
 // The MRM spectrum of the 2 to the power n entries from `at` on. "The spectrum of n inputs is combined from those of its two halves
@@ -153,7 +137,7 @@ fn transform(out: &mut [u16], sums: &HalfSums, table: &[u8], at: usize, n: usize
     let (lower, upper) = out.split_at_mut(half);
     transform(lower, sums, table, at + top * half, n - 1, rest);
     transform(upper, sums, table, at + (1 - top) * half, n - 1, rest);
-    combine(lower, upper);
+    combine(out, half);
 }
 
 // "The Reed-Muller (RM) coefficient is that sum modulo 2."
@@ -216,6 +200,7 @@ pub(crate) fn fill_rows(
     requires { (n ≤ max_inputs) × (k < 2 ^ n) × (rows * 2 ^ n ≤ length work.old) × (rows * table_bytes n ≤ length tables.now) }
     ensures { work.new ≡ rows_filled kind n k tables.now rows work.old }
 {
-    let sums = half_sums(k % 8);
+    let mut sums = [[0; 8]; 32];
+    half_sums(&mut sums, k % 8);
     transform_rows(work, &sums, tables, n, rows, k, kind);
 }

@@ -3,4 +3,4 @@ use Rattle.spectra.proofs.Combination.{Combining}
 use Rattle.spectra.proofs.transform.combine.Given as goal
 
 abbrev pub invariant-loop-i : goal.invariant-loop-i
-invariant-loop-i l = Combining l.lower l.initial.upper l.upper l.i
+invariant-loop-i l = Combining l.half l.initial.out l.out l.i

@@ -6,4 +6,4 @@ use Rattle.spectra.proofs.transform.half_sums.Goals as goal
 
 pub returns : goal.returns
 unfolding half_sums
-returns c = fill_by_all (λ i. byte_sums c.args.k (half_byte i)) c.loop-i.row-items 32 [] c.loop-i.invariant.rows (search rules)
+returns c = fill_by_all (λ i. byte_sums c.args.k (half_byte i)) c.loop-i.sums 32 [] c.loop-i.invariant.rows (search rules)
