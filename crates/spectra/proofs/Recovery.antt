@@ -1,5 +1,10 @@
 -- Undoing a spectrum, as the code does it (specs/Operations.antt, specs/Parities.antt).
 --
+--   Comparing              what a loop has done after i turns: the first i numbers of two lists are the same
+--   comparing_none         nothing compared yet
+--   comparing_stop         two numbers that differ: the lists are not the same
+--   comparing_more         one number more
+--   comparing_all          all numbers: the lists are the same
 --   same_pointwise         `==` compares number by number
 --   same_lengths           lists that are not of one length are not the same
 --   few_entries            the entries of a table fit a usize, with room for spare bits
@@ -14,16 +19,18 @@
 use Prim.Native.Nat.{ℕ, suc, ◌+◌, ◌/◌, ◌%◌, ◌^◌, ◌≤◌, ◌<◌}
 use native.Mathlib.Omega.{arith}
 use native.Mathlib.Nat.{le_trans, lt_of_le_of_lt}
+use native.Mathlib.Numerals.{add-one}
 use mathlib.Core.Path.{◌≡◌, refl, sym, ap, ◌∙◌}
 use mathlib.Core.Bool.{Bool, true, false, ◌&&◌}
 use mathlib.Core.List.{List, [], ◌∷◌, ◌++◌}
-use borrow.Author.Tests.{leb-true, le-leb, lt-leb, lt-ltb, le-ltb}
+use borrow.Author.Tests.{eq-eqb, ne_eqb, leb-true, le-leb, lt-leb, lt-ltb, le-ltb}
 use lib.Dec.{leb, eqb, lit<}
 use lib.Pointwise.{pointwise}
 use lib.Bits.{bit_xor, xor_lt, xor_zero_r}
-use lib.ListN.{length, drop}
+use lib.ListN.{length, drop, drop_of_length-le}
+use lib.Seq.{drop-cons}
 use lib.Pow.{pow_pos, pow_mono}
-use Rattle.bits.specs.Answer.{Answer, leaves}
+use Rattle.bits.specs.Answer.{leaves}
 use Rattle.bits.specs.Answer.Answer.{gives, refused}
 use Rattle.bits.specs.Packed.{packed, entry}
 use Rattle.bits.proofs.Packed.{entry_packed, packed_ext, length_packed}
@@ -36,18 +43,24 @@ use Rattle.bits.specs.Slices.{splice}
 use Rattle.bits.proofs.Splice.{splice_start}
 use Rattle.bits.proofs.TableSizes.{table_size_exact}
 use Rattle.tables.proofs.Answers.{kept, put}
-use Rattle.spectra.specs.Operations.{table_ok, at, spectrum_of, same_numbers, is_spectrum, undone_of}
+use Rattle.spectra.specs.Operations.{at, same_numbers, is_spectrum, undone_of}
 use Rattle.spectra.specs.Parities.{parity_at, Packs, Lent}
+use Rattle.spectra.specs.Rows.{rows_filled}
 use Rattle.spectra.specs.Spectrum.{spectrum, recovered}
 use Rattle.spectra.specs.declared.Kind.{Kind}
 use Rattle.spectra.specs.declared.Kind.TheVariants.{Rm}
 use Rattle.spectra.proofs.Bounds.{length_spectrum, spectrum_at, coefficient_ext, spectrum_ext}
 use Rattle.spectra.proofs.Inverse.{coefficient_mod}
-use Rattle.spectra.proofs.Refusals.{row_done}
+use Rattle.spectra.proofs.Refusals.{one_row}
 use Rattle.spectra.proofs.Acceptance.{recovered_bits}
-use Rattle.spectra.proofs.PackedTables.{packed_whole}
 
 -- ---- comparing
+
+-- (the loop of `locating::agrees` compares so)
+pub record Comparing (a b : List ℕ) (i : ℕ) : Type 0 where
+  pub within : i ≤ length a
+  pub lengths : length a ≡ length b
+  pub rest : same_numbers a b ≡ same_numbers (drop i a) (drop i b)
 
 -- what `==` says of two slices
 pub same_pointwise : (a b : List ℕ) → pointwise eqb a b ≡ same_numbers a b
@@ -68,14 +81,39 @@ same_lengths [] (y ∷ b) h = refl
 same_lengths (x ∷ a) [] h = refl
 same_lengths (x ∷ a) (y ∷ b) h = rw (← same_lengths a b (λ e. h (ap suc e))) (sym (and-false (eqb x y)))
 
+module _ {a b : List ℕ} where
+  pub comparing_none : length a ≡ length b → Comparing a b 0
+  comparing_none e = record { within = omega arith; lengths = e; rest = refl }
+
+  module _ {i : ℕ} (w : Comparing a b i) where
+    next : i < length a → same_numbers (drop i a) (drop i b) ≡ eqb (at a i) (at b i) && same_numbers (drop (suc i) a) (drop (suc i) b)
+    unfolding same_numbers
+    next h = rw (drop-cons a i 0 h, drop-cons b i 0 (omega (arith, w.lengths)))
+
+    pub comparing_stop : i < length a → (at a i ≡ at b i → ⊥) → false ≡ same_numbers a b
+    comparing_stop h d = sym (w.rest ∙ next h ∙ rw (ne_eqb (at a i) (at b i) d))
+
+    pub comparing_more : i < length a → at a i ≡ at b i → Comparing a b (i + 1)
+    comparing_more h e =
+        record {
+          within = omega arith;
+          lengths = w.lengths;
+          rest = w.rest ∙ next h ∙ rw (eq-eqb (at a i) (at b i) e, add-one);
+        }
+
+    pub comparing_all : length a ≤ i → true ≡ same_numbers a b
+    unfolding same_numbers
+    comparing_all h =
+        sym (w.rest ∙ rw (drop_of_length-le a {i = i} h, drop_of_length-le b {i = i} (omega (arith, w.lengths))))
+
 -- ---- recovering
 
 few_entries : (n : ℕ) → n ≤ max_inputs → 2 ^ n < 2 ^ 63
 few_entries n h = lt_of_le_of_lt (pow_mono {j = 15} (le_trans h most_inputs)) (lit< tt)
 
--- what the spectrum of a table leaves
-abbrev Transformed : Kind → ℕ → ℕ → List ℕ → List ℕ → Answer (Unit {0}) → List ℕ → Type 0
-Transformed kind n k table sums answer sums₁ = record { answer = answer; memory = sums₁ } ≡ leaves (spectrum_of n table kind k (length sums)) sums
+-- the spectrum of a table is made
+abbrev Transformed : Kind → ℕ → ℕ → List ℕ → List ℕ → List ℕ → Type 0
+Transformed kind n k table sums sums₁ = sums₁ ≡ rows_filled kind n k table 1 sums
 
 module _ {n k : ℕ} {numbers table sums : List ℕ} (l : Lent n k numbers table sums) where
   pub packs_numbers : Packs 0 numbers table
@@ -91,15 +129,11 @@ module _ {n k : ℕ} {numbers table sums : List ℕ} (l : Lent n k numbers table
   length_parities : length (packed (length numbers) (parity_at numbers 0)) ≡ table_bytes n
   length_parities = length_packed (length numbers) (parity_at numbers 0) ∙ ap (λ (x : ℕ). (x + 7) / 8) l.count
 
-  parities_whole : table_ok n (packed (length numbers) (parity_at numbers 0)) ≡ true
-  parities_whole =
-      ap (λ (x : ℕ). table_ok n (packed x (parity_at numbers 0))) l.count ∙ packed_whole n (parity_at numbers 0) (λ m _. omega arith)
-
-  parity_spectrum : {table₁ sums₁ : List ℕ} {answer : Answer (Unit {0})} → table₁ ≡ packed (length numbers) (parity_at numbers 0) → Transformed Rm n 0 table₁ sums answer sums₁
+  parity_spectrum : {table₁ sums₁ : List ℕ} → table₁ ≡ packed (length numbers) (parity_at numbers 0) → Transformed Rm n 0 table₁ sums sums₁
       → sums₁ ≡ spectrum Rm n 0 (entry table₁)
-  parity_spectrum {table₁} et es = row_done Rm n 0 table₁ sums l.some l.few (ap (table_ok n) et ∙ parities_whole) (pow_pos n) l.places es
+  parity_spectrum {table₁} et es = one_row Rm n 0 table₁ sums (ap length et ∙ length_parities) l.places es
 
-  pub packs_sums : {table₁ sums₁ : List ℕ} {answer : Answer (Unit {0})} → table₁ ≡ packed (length numbers) (parity_at numbers 0) → Transformed Rm n 0 table₁ sums answer sums₁
+  pub packs_sums : {table₁ sums₁ : List ℕ} → table₁ ≡ packed (length numbers) (parity_at numbers 0) → Transformed Rm n 0 table₁ sums sums₁
       → Packs k sums₁ table₁
   packs_sums {table₁} {sums₁} et es =
       let p = few_entries n l.few in
@@ -116,7 +150,7 @@ module _ {n k : ℕ} {numbers table sums : List ℕ} (l : Lent n k numbers table
       entry_packed (length numbers) (parity_at numbers 0) (λ m _. omega arith) j (omega (arith, l.count))
       ∙ ap (λ (x : ℕ). at numbers x % 2) (xor_zero_r j)
 
-  pub recovers : {table₁ sums₁ table₂ : List ℕ} {answer : Answer (Unit {0})} → table₁ ≡ packed (length numbers) (parity_at numbers 0) → Transformed Rm n 0 table₁ sums answer sums₁
+  pub recovers : {table₁ sums₁ table₂ : List ℕ} → table₁ ≡ packed (length numbers) (parity_at numbers 0) → Transformed Rm n 0 table₁ sums sums₁
       → table₂ ≡ packed (length sums₁) (parity_at sums₁ k) → table₂ ≡ packed (2 ^ n) (recovered n k (at numbers))
   unfolding recovered
   recovers {table₁} {sums₁} {table₂} et filled e =
@@ -130,13 +164,12 @@ module _ {n k : ℕ} {numbers table sums : List ℕ} (l : Lent n k numbers table
       ∙ coefficient_ext Rm n 0 (entry table₁) (λ j. at numbers j % 2) (bit_xor m k) (pow_pos n)
       (λ j hj. ap (λ (s : List ℕ). entry s j) et ∙ parity_entry j hj))
 
-  pub compares : (kind : Kind) {table₁ : List ℕ} (sums₁ : List ℕ) {sums₂ : List ℕ} {answer : Answer (Unit {0})} → table₁ ≡ packed (2 ^ n) (recovered n k (at numbers))
-      → length sums₁ ≡ length sums → Transformed kind n k table₁ sums₁ answer sums₂ → same_numbers numbers sums₂ ≡ is_spectrum kind n k numbers
+  pub compares : (kind : Kind) {table₁ : List ℕ} (sums₁ : List ℕ) {sums₂ : List ℕ} → table₁ ≡ packed (2 ^ n) (recovered n k (at numbers))
+      → length sums₁ ≡ length sums → Transformed kind n k table₁ sums₁ sums₂ → same_numbers numbers sums₂ ≡ is_spectrum kind n k numbers
   unfolding is_spectrum
   compares kind {table₁} sums₁ et el es =
       ap (same_numbers numbers)
-      (row_done kind n k table₁ sums₁ l.some l.few
-      (ap (table_ok n) et ∙ packed_whole n (recovered n k (at numbers)) (recovered_bits n k numbers)) l.polarity (el ∙ l.places) es
+      (one_row kind n k table₁ sums₁ (ap length et ∙ length_packed (2 ^ n) (recovered n k (at numbers))) (el ∙ l.places) es
       ∙ spectrum_ext kind n k (entry table₁) (recovered n k (at numbers)) l.polarity
       (λ m h. ap (λ (s : List ℕ). entry s m) et
       ∙ entry_packed (2 ^ n) (recovered n k (at numbers)) (recovered_bits n k numbers) m h))

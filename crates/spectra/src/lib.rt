@@ -17,7 +17,7 @@ ghost use Rattle.spectra.specs.Parities.{parity_at, Closed, Packs, Lent};
 ghost use Rattle.spectra.specs.Rows.{max_rows, one_table};
 ghost use Rattle.spectra.specs.Spectrum.{recovered};
 
-use bits::{Outcome, Refusal};
+use bits::Refusal;
 use job::{MAX_FAULTS, MAX_INPUTS, MAX_OUTPUTS};
 use tables::{Counts, MAX_TABLE_BYTES};
 
@@ -73,37 +73,40 @@ fn tables_ok(counts: Counts, tables: &[u8]) -> bool
 }
 
 // Whether the bytes are the packed tables of the counted circuits, one after the other: 2; 12.
-pub fn check_tables(counts: Counts, tables: &[u8]) -> Outcome
+pub fn check_tables(counts: Counts, tables: &[u8]) -> Result<(), Refusal>
     ensures { outcome result ≡ tables_checked counts tables.now }
 {
     if !(1..=MAX_INPUTS).contains(&counts.inputs) {
-        return Outcome::Refused(Refusal::Inputs);
+        return Err(Refusal::Inputs);
     }
     if !tables_ok(counts, tables) {
-        return Outcome::Refused(Refusal::Table);
+        return Err(Refusal::Table);
     }
-    Outcome::Done
+    Ok(())
 }
 
 // The spectra of the counted circuits, from their tables: 2; 12; 13; 10.
-pub fn fill(counts: Counts, tables: &[u8], kind: Kind, polarity: usize, work: &mut [u16]) -> Outcome
+pub fn fill(
+    counts: Counts,
+    tables: &[u8],
+    kind: Kind,
+    polarity: usize,
+    work: &mut [u16],
+) -> Result<(), Refusal>
     ensures { record { answer = outcome result; memory = work.new } ≡ leaves (from_tables counts tables.now (λ F. filled_from F kind polarity (length work.old))) work.old }
 {
-    let checked = check_tables(counts, tables);
-    if let Outcome::Refused(cause) = checked {
-        return Outcome::Refused(cause);
-    }
+    check_tables(counts, tables)?;
     let n = counts.inputs;
     let rows = (counts.faults + 1) * counts.outputs;
     let size = bits::table_size(n);
     if size <= polarity {
-        return Outcome::Refused(Refusal::Polarity);
+        return Err(Refusal::Polarity);
     }
     if work.len() < rows * size {
-        return Outcome::Refused(Refusal::Memory);
+        return Err(Refusal::Memory);
     }
     transform::fill_rows(work, tables, n, rows, polarity, kind);
-    Outcome::Done
+    Ok(())
 }
 
 // The counts of one table.
@@ -118,7 +121,13 @@ fn one_table(n: usize) -> Counts
 }
 
 // The spectrum of one packed table, as that of one circuit: 2; 12; 13; 10.
-pub fn spectrum(n: usize, table: &[u8], kind: Kind, polarity: usize, out: &mut [u16]) -> Outcome
+pub fn spectrum(
+    n: usize,
+    table: &[u8],
+    kind: Kind,
+    polarity: usize,
+    out: &mut [u16],
+) -> Result<(), Refusal>
     ensures { record { answer = outcome result; memory = out.new } ≡ leaves (spectrum_of n table.now kind polarity (length out.old)) out.old }
 {
     fill(one_table(n), table, kind, polarity, out)
@@ -167,7 +176,7 @@ fn recover(table: &mut [u8], sums: &mut [u16], numbers: &[u16], n: usize, k: usi
     ensures { table.new ≡ packed (2 ^ n) (recovered n k (at numbers.now)) }
 {
     pack(table, numbers, 0);
-    spectrum(n, table, Kind::Rm, 0, sums);
+    transform::fill_rows(sums, table, n, 1, 0, Kind::Rm);
     pack(table, sums, k);
 }
 
@@ -180,35 +189,41 @@ fn undo_in(
     kind: Kind,
     k: usize,
     out: &mut [u8],
-) -> Outcome
+) -> Result<(), Refusal>
     requires { Lent n k numbers.now table.old sums.old }
     ensures { record { answer = outcome result; memory = out.new } ≡ leaves (undone_of n numbers.now kind k (length out.old)) out.old }
 {
     recover(table, sums, numbers, n, k);
-    spectrum(n, table, kind, k, sums);
+    transform::fill_rows(sums, table, n, 1, k, kind);
     if numbers != sums {
-        return Outcome::Refused(Refusal::NoSpectrum);
+        return Err(Refusal::NoSpectrum);
     }
     if out.len() < table.len() {
-        return Outcome::Refused(Refusal::Memory);
+        return Err(Refusal::Memory);
     }
     out[..table.len()].copy_from_slice(table);
-    Outcome::Done
+    Ok(())
 }
 
 // The table of a spectrum: 2; 13; 14, not exactly N numbers or no table has this spectrum; 10.
-pub fn undo(n: usize, numbers: &[u16], kind: Kind, polarity: usize, out: &mut [u8]) -> Outcome
+pub fn undo(
+    n: usize,
+    numbers: &[u16],
+    kind: Kind,
+    polarity: usize,
+    out: &mut [u8],
+) -> Result<(), Refusal>
     ensures { record { answer = outcome result; memory = out.new } ≡ leaves (undone_of n numbers.now kind polarity (length out.old)) out.old }
 {
     if !(1..=MAX_INPUTS).contains(&n) {
-        return Outcome::Refused(Refusal::Inputs);
+        return Err(Refusal::Inputs);
     }
     let size = bits::table_size(n);
     if size <= polarity {
-        return Outcome::Refused(Refusal::Polarity);
+        return Err(Refusal::Polarity);
     }
     if numbers.len() != size {
-        return Outcome::Refused(Refusal::NoSpectrum);
+        return Err(Refusal::NoSpectrum);
     }
     let bytes = (size + 7) / 8;
     let mut table = [0u8; MAX_TABLE_BYTES];
