@@ -1,7 +1,6 @@
 // Writing a job's record into lent bytes (document 01, "Job layout" and "Refusal by operation").
 //
-// First all checks, then the number of bytes, and only then a byte is written. Bits that do not fill a byte yet wait in
-// a number (`Pen`); each byte is put once, from the start on.
+// First all checks, then the number of bytes, and only then a byte is written (`Pen`).
 #![tactic(auto)]
 
 ghost use Rattle.std.specs.Prelude.{◌≡◌, [], ◌≤◌, ◌<◌, ◌^◌, length, get_or, take};
@@ -11,14 +10,17 @@ ghost use Rattle.bits.specs.Bits.{bits_of, bytes_of};
 ghost use Rattle.job.specs.Check.{in_turn, output_count_ok, output_ok, fault_count_ok, fault_order_ok, gates_checked, outputs_checked, faults_checked, checked, Valid};
 ghost use Rattle.job.specs.Dependence.{no_loose};
 ghost use Rattle.job.specs.Layout.{max_gates, max_faults, line_bits};
-ghost use Rattle.writing.specs.Pen.{inked_bytes, filled, EntryFits, AllFit, Ready, Puts};
-ghost use Rattle.writing.specs.Writing.{written, written_told, entry_bits, gate_bits, fault_bits, all_bits, job_bits};
+ghost use Rattle.writing.specs.Pen.{filled};
+ghost use Rattle.writing.specs.Writing.{written, written_told, job_bits};
 
 use bits::{Outcome, Refusal};
 use job::{
     FAULT_COUNT_BITS, FAULT_KIND_BITS, Fault, GATE_COUNT_BITS, GATE_KIND_BITS, INPUT_COUNT_BITS,
     Job, LINE_BITS, MAX_FAULTS, MAX_GATES, MAX_INPUTS, MAX_OUTPUTS, OUTPUT_COUNT_BITS, PART_BITS,
 };
+use pen::Pen;
+
+mod pen;
 
 // The number of bytes written, or the refusal.
 #[derive(Clone, Copy)]
@@ -192,138 +194,20 @@ fn order_ok(fault: Fault) -> bool
     }
 }
 
-// Where the next bits go: so many whole bytes are put, and the bits that wait for their byte to be full are a number.
-#[derive(Clone, Copy)]
-struct Pen {
-    at: usize,
-    waiting: usize,
-    count: usize,
-}
-
-// Puts a field, most significant bit first.
-fn put_field(out: &mut [u8], pen: Pen, width: usize, value: usize) -> Pen
-    requires { Ready out.old pen (bits_of width value) × (width ≤ 8) × (value < 2 ^ width) }
-    ensures { Puts out.old pen (bits_of width value) out.new result }
-{
-    let at = pen.at;
-    let count = pen.count + width;
-    let waiting = (pen.waiting << width) + value;
-    if count < 8 {
-        return Pen { at, waiting, count };
-    }
-    let over = count - 8;
-    out[at] = (waiting >> over) as u8;
-    Pen {
-        at: at + 1,
-        waiting: waiting % (1 << over),
-        count: over,
-    }
-}
-
-// Puts the three fields that a gate and a fault begin with.
-fn put_entry(out: &mut [u8], pen: Pen, kind_bits: usize, kind: usize, a: usize, b: usize) -> Pen
-    requires { Ready out.old pen (entry_bits kind_bits kind a b) × (kind_bits ≤ 8) × EntryFits kind_bits kind a b }
-    ensures { Puts out.old pen (entry_bits kind_bits kind a b) out.new result }
-{
-    let first = put_field(out, pen, kind_bits, kind);
-    let second = put_field(out, first, LINE_BITS, a);
-    put_field(out, second, LINE_BITS, b)
-}
-
-// Puts the gates in use.
-fn put_gates(out: &mut [u8], start: Pen, job: Job) -> Pen
-    requires { Valid job × Ready out.old start (all_bits gate_bits (take job.gate_count job.gates)) }
-    ensures { Puts out.old start (all_bits gate_bits (take job.gate_count job.gates)) out.new result }
-{
-    let g = job.gate_count as usize;
-    let mut pen = start;
-    let mut q = 0;
-    while q < g {
-        let entry = job.gates[q];
-        let gate = entry.gate;
-        pen = put_entry(
-            out,
-            pen,
-            GATE_KIND_BITS,
-            gate.kind(),
-            gate.first(),
-            gate.second(),
-        );
-        q += 1;
-    }
-    pen
-}
-
-// Puts the output lines in use.
-fn put_outputs(out: &mut [u8], start: Pen, outputs: &[u8]) -> Pen
-    requires { Ready out.old start (all_bits (bits_of line_bits) outputs.now) × AllFit line_bits outputs.now }
-    ensures { Puts out.old start (all_bits (bits_of line_bits) outputs.now) out.new result }
-{
-    let mut pen = start;
-    let mut o = 0;
-    while o < outputs.len() {
-        pen = put_field(out, pen, LINE_BITS, outputs[o] as usize);
-        o += 1;
-    }
-    pen
-}
-
-// Puts the faults in use.
-fn put_faults(out: &mut [u8], start: Pen, job: Job) -> Pen
-    requires { Valid job × Ready out.old start (all_bits fault_bits (take job.fault_count job.faults)) }
-    ensures { Puts out.old start (all_bits fault_bits (take job.fault_count job.faults)) out.new result }
-{
-    let f = job.fault_count as usize;
-    let mut pen = start;
-    let mut i = 0;
-    while i < f {
-        let entry = job.faults[i];
-        let fault = entry.fault;
-        pen = put_entry(
-            out,
-            pen,
-            FAULT_KIND_BITS,
-            fault.kind(),
-            fault.first(),
-            fault.second(),
-        );
-        pen = put_field(out, pen, PART_BITS, entry.part as usize);
-        i += 1;
-    }
-    pen
-}
-
-// Fills the last byte up with zero bits.
-fn put_spare(out: &mut [u8], pen: Pen)
-    requires { Ready out.old pen [] }
-    ensures { out.new ≡ filled (inked_bytes out.old pen) out.old }
-{
-    let at = pen.at;
-    let count = pen.count;
-    let waiting = pen.waiting;
-    if 0 < count {
-        out[at] = (waiting << (8 - count)) as u8;
-    }
-}
-
 // Puts the whole job.
+#[tactic(auto, unfolding(job::specs::Layout::max_gates, job::specs::Layout::max_outputs, job::specs::Layout::max_faults))]
 fn put_job(out: &mut [u8], job: Job)
-    requires { Valid job × (length (bytes_of (job_bits job)) ≤ length out.old) }
+    requires valid { Valid job }
+    requires room { length (bytes_of (job_bits job)) ≤ length out.old }
     ensures { out.new ≡ filled (bytes_of (job_bits job)) out.old }
 {
-    let start = Pen {
-        at: 0,
-        waiting: 0,
-        count: 0,
-    };
-    let inputs = put_field(out, start, INPUT_COUNT_BITS, job.inputs as usize);
-    let counts = put_field(out, inputs, GATE_COUNT_BITS, job.gate_count as usize);
-    let gates = put_gates(out, counts, job);
-    let less = put_field(out, gates, OUTPUT_COUNT_BITS, job.output_count as usize - 1);
-    let lines = job.outputs;
-    let count = job.output_count as usize;
-    let outputs = put_outputs(out, less, &lines[..count]);
-    let faults = put_field(out, outputs, FAULT_COUNT_BITS, job.fault_count as usize);
-    let last = put_faults(out, faults, job);
-    put_spare(out, last);
+    let mut pen = Pen::new(out);
+    pen.field(INPUT_COUNT_BITS, job.inputs as usize);
+    pen.field(GATE_COUNT_BITS, job.gate_count as usize);
+    pen.gates(&job.gates[..job.gate_count as usize]);
+    pen.field(OUTPUT_COUNT_BITS, job.output_count as usize - 1);
+    pen.outputs(&job.outputs[..job.output_count as usize]);
+    pen.field(FAULT_COUNT_BITS, job.fault_count as usize);
+    pen.faults(&job.faults[..job.fault_count as usize]);
+    pen.finish();
 }

@@ -18,8 +18,10 @@ returns-then-out-bytes c =
     writes_short c.args.job c.args.out.now (sym c.check.ensures ∙ ap outcome c.in-Done.is) c.job_bytes-bytes.ensures c.if-out-bytes.true
 
 pub put_job-requires : goal.put_job-requires
-put_job-requires c =
-    (valid c.args.job (sym c.check.ensures ∙ ap outcome c.in-Done.is), subst (λ (n : ℕ). n ≤ length c.args.out.now) c.job_bytes-bytes.ensures c.if-out-bytes.false)
+put_job-requires c = record {
+  valid = valid c.args.job (sym c.check.ensures ∙ ap outcome c.in-Done.is);
+  room = subst (λ (n : ℕ). n ≤ length c.args.out.now) c.job_bytes-bytes.ensures c.if-out-bytes.false;
+}
 
 pub returns : goal.returns
 returns c =
