@@ -18,10 +18,10 @@ ghost use Rattle.bits.specs.Field.{field_at, from, max_place, max_width, spare_o
 
 pub mod sets;
 
-// The causes for which an operation refuses, in the order of their numbers in documents 01 and 02.
-#[derive(Clone, Copy)]
+// The causes for which an operation refuses, each with its number in documents 01 and 02.
+#[derive(Clone, Copy, Debug, PartialEq, Eq)]
 pub enum Refusal {
-    BytesEnd,
+    BytesEnd = 1,
     Inputs,
     Gates,
     GateLine,
@@ -49,50 +49,14 @@ impl Refusal {
     pub fn number(self) -> usize
         ensures { result ≡ number self }
     {
-        match self {
-            Refusal::BytesEnd => 1,
-            Refusal::Inputs => 2,
-            Refusal::Gates => 3,
-            Refusal::GateLine => 4,
-            Refusal::OneLine => 5,
-            Refusal::Output => 6,
-            Refusal::FaultLine => 7,
-            Refusal::FaultPair => 8,
-            Refusal::Spare => 9,
-            Refusal::Memory => 10,
-            Refusal::Circuit => 11,
-            Refusal::Table => 12,
-            Refusal::Polarity => 13,
-            Refusal::NoSpectrum => 14,
-            Refusal::Alike => 15,
-            Refusal::Index => 16,
-            Refusal::Readings => 17,
-            Refusal::Faults => 18,
-            Refusal::LooseGate => 19,
-            Refusal::OutputNumber => 20,
-            Refusal::Part => 21,
-        }
+        self as usize
     }
-}
-
-// Success alone, or the refusal.
-#[derive(Clone, Copy)]
-pub enum Outcome {
-    Done,
-    Refused(Refusal),
 }
 
 // A place in a string of bits: how many bits stand before it.
 #[derive(Clone, Copy)]
 pub struct Cursor {
     pub bit: usize,
-}
-
-// What stands at a place: a field's value with the place behind it, or bytes that end inside the field.
-#[derive(Clone, Copy)]
-pub enum Field {
-    Value(usize, Cursor),
-    Cut,
 }
 
 // The lesser of two numbers.
@@ -153,32 +117,32 @@ fn early_bytes(size: usize) -> usize
 }
 
 // The field at a place among the last bytes or past them, where it may be cut.
-fn late_field(s: &[u8], c: Cursor, width: usize) -> Field
+fn late_field(s: &[u8], c: Cursor, width: usize) -> Option<(usize, Cursor)>
     requires { (1 ≤ width) × (width ≤ max_width) }
     ensures { result ≡ field_at s.now c width }
 {
     let bit = c.bit;
     if MAX_PLACE < bit {
-        return Field::Cut;
+        return None;
     }
     let at = bit / 8;
     let end = bit % 8 + width;
     if s.len() < at + (end + 7) / 8 {
-        return Field::Cut;
+        return None;
     }
     let next = Cursor { bit: bit + width };
-    Field::Value(bits_before(last_bytes(s, at), end, width), next)
+    Some((bits_before(last_bytes(s, at), end, width), next))
 }
 
 // The field of `width` bits at a place. A width outside 1 to MAX_WIDTH is no field of the layout, and is answered as cut.
-pub fn read_field(s: &[u8], c: Cursor, width: usize) -> Field
+pub fn read_field(s: &[u8], c: Cursor, width: usize) -> Option<(usize, Cursor)>
     ensures { result ≡ field_at s.now c width }
 {
     if width < 1 {
-        return Field::Cut;
+        return None;
     }
     if MAX_WIDTH < width {
-        return Field::Cut;
+        return None;
     }
     let bit = c.bit;
     let at = bit / 8;
@@ -188,7 +152,7 @@ pub fn read_field(s: &[u8], c: Cursor, width: usize) -> Field
     }
     let end = bit % 8 + width;
     let next = Cursor { bit: bit + width };
-    Field::Value(bits_before(two_bytes(s, at), end, width), next)
+    Some((bits_before(two_bytes(s, at), end, width), next))
 }
 
 // Whether from a place on there are only spare bits: less than a byte, no bit of it 1.
