@@ -3,48 +3,36 @@
 // First all checks, then the number of bytes, and only then a byte is written (`Pen`).
 #![tactic(auto)]
 
-ghost use Rattle.std.specs.Prelude.{◌≡◌, [], ◌≤◌, ◌<◌, ◌^◌, length, get_or, take};
-ghost use Rattle.bits.specs.Answer.{outcome, unless, onward, leaves};
-ghost use Rattle.bits.specs.Answer.Answer.{gives};
-ghost use Rattle.bits.specs.Bits.{bits_of, bytes_of};
-ghost use Rattle.job.specs.Check.{in_turn, output_count_ok, output_ok, fault_count_ok, fault_order_ok, gates_checked, outputs_checked, faults_checked, checked, Valid};
-ghost use Rattle.job.specs.Dependence.{no_loose};
-ghost use Rattle.job.specs.Layout.{max_gates, max_faults, line_bits};
+ghost use Rattle.std.specs.Prelude.{◌≡◌, ◌≤◌, length};
+ghost use Rattle.bits.specs.Answer.{outcome, leaves};
+ghost use Rattle.bits.specs.Bits.{bytes_of};
+ghost use Rattle.job.specs.Check.{fault_order_ok, checked, Valid};
+ghost use Rattle.job.specs.Layout.{max_inputs, max_gates};
+ghost use Rattle.writing.specs.Checks.{gates_judged, outputs_judged, faults_judged};
 ghost use Rattle.writing.specs.Pen.{filled};
-ghost use Rattle.writing.specs.Writing.{written, written_told, job_bits};
+ghost use Rattle.writing.specs.Writing.{written, job_bits};
 
-use bits::{Outcome, Refusal};
+use bits::Refusal;
 use job::{
-    FAULT_COUNT_BITS, FAULT_KIND_BITS, Fault, GATE_COUNT_BITS, GATE_KIND_BITS, INPUT_COUNT_BITS,
-    Job, LINE_BITS, MAX_FAULTS, MAX_GATES, MAX_INPUTS, MAX_OUTPUTS, OUTPUT_COUNT_BITS, PART_BITS,
+    FAULT_COUNT_BITS, FAULT_KIND_BITS, Fault, FaultEntry, GATE_COUNT_BITS, GATE_KIND_BITS,
+    GateEntry, INPUT_COUNT_BITS, Job, LINE_BITS, MAX_FAULTS, MAX_GATES, MAX_INPUTS, MAX_OUTPUTS,
+    OUTPUT_COUNT_BITS, PART_BITS,
 };
 use pen::Pen;
 
 mod pen;
 
-// The number of bytes written, or the refusal.
-#[derive(Clone, Copy)]
-pub enum Written {
-    Bytes(usize),
-    Refused(Refusal),
-}
-
-// Fills the lent bytes from the start with the job, and no others; a refusal writes nothing.
-pub fn write(job: Job, out: &mut [u8]) -> Written
-    ensures { record { answer = written_told result; memory = out.new } ≡ leaves (written job (length out.old)) out.old }
+// Fills the lent bytes from the start with the job, and no others, and gives their number; a refusal writes nothing.
+pub fn write(job: Job, out: &mut [u8]) -> Result<usize, Refusal>
+    ensures { record { answer = outcome result; memory = out.new } ≡ leaves (written job (length out.old)) out.old }
 {
-    match check(job) {
-        Outcome::Refused(cause) => {
-            return Written::Refused(cause);
-        }
-        Outcome::Done => {}
-    }
+    check(job)?;
     let bytes = job_bytes(job);
     if out.len() < bytes {
-        return Written::Refused(Refusal::Memory);
+        return Err(Refusal::Memory);
     }
     put_job(out, job);
-    Written::Bytes(bytes)
+    Ok(bytes)
 }
 
 // The number of bytes of a job, its spare bits included.
@@ -70,118 +58,80 @@ fn job_bytes(job: Job) -> usize
 
 // The first refusal of a record: 2, 3, 4 gate by gate, 20, 6 output by output, 19, 18, then 7, 8 and 21 fault by
 // fault.
-fn check(job: Job) -> Outcome
+#[tactic(auto, unfolding(job::specs::Layout::max_inputs, job::specs::Layout::max_gates, job::specs::Layout::max_outputs, job::specs::Layout::max_faults))]
+fn check(job: Job) -> Result<(), Refusal>
     ensures { outcome result ≡ checked job }
 {
     let n = job.inputs as usize;
+    if n < 1 || MAX_INPUTS < n {
+        return Err(Refusal::Inputs);
+    }
     let g = job.gate_count as usize;
-    if n < 1 {
-        return Outcome::Refused(Refusal::Inputs);
-    }
-    if MAX_INPUTS < n {
-        return Outcome::Refused(Refusal::Inputs);
-    }
     if MAX_GATES < g {
-        return Outcome::Refused(Refusal::Gates);
+        return Err(Refusal::Gates);
     }
-    match check_gates(job) {
-        Outcome::Refused(cause) => Outcome::Refused(cause),
-        Outcome::Done => check_behind_gates(job),
-    }
-}
-
-// Refusals 20, 6 output by output, then the rest.
-fn check_behind_gates(job: Job) -> Outcome
-    ensures { outcome result ≡ unless (output_count_ok job.output_count) 20 (onward (outputs_checked job job.output_count 0) (λ _. unless (no_loose job) 19 (unless (fault_count_ok job.fault_count) 18 (faults_checked job job.fault_count 0)))) }
-{
+    check_gates(&job.gates[..g], n)?;
     let count = job.output_count as usize;
-    if count < 1 {
-        return Outcome::Refused(Refusal::OutputNumber);
+    if count < 1 || MAX_OUTPUTS < count {
+        return Err(Refusal::OutputNumber);
     }
-    if MAX_OUTPUTS < count {
-        return Outcome::Refused(Refusal::OutputNumber);
-    }
-    let lines = job.inputs as usize + job.gate_count as usize;
-    let outputs = job.outputs;
-    match check_outputs(&outputs[..count], lines) {
-        Outcome::Refused(cause) => Outcome::Refused(cause),
-        Outcome::Done => check_rest(job),
-    }
-}
-
-// Refusal 6, output by output, of a circuit with so many lines.
-fn check_outputs(outputs: &[u8], lines: usize) -> Outcome
-    ensures { outcome result ≡ in_turn (λ o. unless (output_ok lines (get_or outputs.now o 0)) 6 (gives tt)) (length outputs.now) 0 }
-{
-    let mut o = 0;
-    while o < outputs.len() {
-        if lines <= outputs[o] as usize {
-            return Outcome::Refused(Refusal::Output);
-        }
-        o += 1;
-    }
-    Outcome::Done
-}
-
-// Refusals 19, 18, then 7, 8 and 21 fault by fault.
-fn check_rest(job: Job) -> Outcome
-    ensures { outcome result ≡ unless (no_loose job) 19 (unless (fault_count_ok job.fault_count) 18 (faults_checked job job.fault_count 0)) }
-{
+    let lines = n + g;
+    check_outputs(&job.outputs[..count], lines)?;
     if !job::no_loose(job) {
-        return Outcome::Refused(Refusal::LooseGate);
+        return Err(Refusal::LooseGate);
     }
     if MAX_FAULTS < job.fault_count as usize {
-        return Outcome::Refused(Refusal::Faults);
+        return Err(Refusal::Faults);
     }
-    check_faults(job)
+    check_faults(&job.faults[..job.fault_count as usize], n, lines)
 }
 
 // Refusal 4, gate by gate.
-fn check_gates(job: Job) -> Outcome
-    requires { job.gate_count ≤ max_gates }
-    ensures { outcome result ≡ gates_checked job job.gate_count 0 }
+#[tactic(auto, unfolding(job::specs::Layout::max_inputs, job::specs::Layout::max_gates))]
+fn check_gates(gates: &[GateEntry], inputs: usize) -> Result<(), Refusal>
+    requires few_gates { length gates.now ≤ max_gates }
+    requires few_inputs { inputs ≤ max_inputs }
+    ensures { outcome result ≡ gates_judged inputs gates.now }
 {
-    let n = job.inputs as usize;
-    let g = job.gate_count as usize;
-    let mut q = 0;
-    while q < g {
-        let entry = job.gates[q];
+    for (q, entry) in gates.iter().enumerate() {
+        let own = inputs + q;
         let gate = entry.gate;
-        if n + q <= gate.first() {
-            return Outcome::Refused(Refusal::GateLine);
+        if own <= gate.first() || own <= gate.second() {
+            return Err(Refusal::GateLine);
         }
-        if n + q <= gate.second() {
-            return Outcome::Refused(Refusal::GateLine);
-        }
-        q += 1;
     }
-    Outcome::Done
+    Ok(())
 }
 
-// Refusals 7, 8 and 21, fault by fault.
-fn check_faults(job: Job) -> Outcome
-    requires { job.fault_count ≤ max_faults }
-    ensures { outcome result ≡ faults_checked job job.fault_count 0 }
+// Refusal 6, output by output, of a circuit with so many lines.
+fn check_outputs(outputs: &[u8], lines: usize) -> Result<(), Refusal>
+    ensures { outcome result ≡ outputs_judged lines outputs.now }
 {
-    let n = job.inputs as usize;
-    let lines = n + job.gate_count as usize;
-    let f = job.fault_count as usize;
-    let mut i = 0;
-    while i < f {
-        let entry = job.faults[i];
+    for line in outputs {
+        if lines <= *line as usize {
+            return Err(Refusal::Output);
+        }
+    }
+    Ok(())
+}
+
+// Refusals 7, 8 and 21, fault by fault, of a circuit with so many inputs and lines.
+fn check_faults(faults: &[FaultEntry], inputs: usize, lines: usize) -> Result<(), Refusal>
+    ensures { outcome result ≡ faults_judged inputs lines faults.now }
+{
+    for entry in faults {
         let fault = entry.fault;
-        if !job::fault_line_ok(fault, n, lines) {
-            return Outcome::Refused(Refusal::FaultLine);
+        if !job::fault_line_ok(fault, inputs, lines) {
+            return Err(Refusal::FaultLine);
         }
         if !order_ok(fault) {
-            return Outcome::Refused(Refusal::FaultPair);
+            return Err(Refusal::FaultPair);
         }
         if !job::part_ok(entry.part as usize) {
-            return Outcome::Refused(Refusal::Part);
+            return Err(Refusal::Part);
         }
-        i += 1;
     }
-    Outcome::Done
+    Ok(())
 }
 
 // Refusal 8: a bridge has its lower line below its higher.
