@@ -1,8 +1,7 @@
 -- `choosing::choose_filled` meets its contract.
 use native.Mathlib.Omega.{arith}
-use Prim.Native.Nat.{ℕ, ◌*◌, ◌≤◌}
+use Prim.Native.Nat.{◌*◌}
 use mathlib.Core.Path.{ap, ◌∙◌}
-use lib.ListN.{length}
 use Rattle.chooser.specs.Matrix.{max_rows}
 use Rattle.choosing.specs.Looking.{Listed, chosen_by, scan_codes}
 use Rattle.choosing.specs.declared.Signature.{Signature}

@@ -1,5 +1,5 @@
 -- `choosing::decoded` meets its contract: a number taken apart a turn.
-use Prim.Native.Nat.{ℕ, ◌*◌, ◌/◌, ◌%◌, ◌^◌, ◌≤◌, ◌<◌}
+use Prim.Native.Nat.{ℕ, ◌/◌, ◌%◌, ◌^◌, ◌≤◌}
 use native.Mathlib.Nat.{zero-div, zero-mod}
 use native.Mathlib.Omega.{arith}
 use mathlib.Core.Path.{◌≡◌, sym, ap, ap₂, ◌∙◌}
@@ -32,8 +32,7 @@ loop-i-init c = (written_none (omega arith), written_none (omega arith))
 pub loop-i-preserved : goal.loop-i-preserved
 unfolding max_signature
 loop-i-preserved c =
-    let code = get_or c.args.coded.entries c.loop-i.i 0 in
-    (
+    let code = get_or c.args.coded.entries c.loop-i.i 0 in (
       filled_more c.loop-i.invariant.0 _ c.loop-i-test.true (ap (λ (k : ℕ). code % k) (size_shifted c.args.n c.requires)),
       filled_more c.loop-i.invariant.1 _ c.loop-i-test.true (ap (λ (k : ℕ). code / k) (size_shifted c.args.n c.requires)),
     )
