@@ -17,13 +17,12 @@
 --   putting_within, putting_wide, putting_turn, putting_room   the next batch has faults of the job, rows, a circuit or more, and room
 --   putting_place    its place fits a word
 --   putting_next     the tables of a batch are put
-use Prim.Native.Nat.{ℕ, ◌+◌, ◌-◌, ◌*◌, ◌/◌, ◌^◌, ◌≤◌, ◌<◌}
+use Prim.Native.Nat.{ℕ, min, ◌+◌, ◌-◌, ◌*◌, ◌/◌, ◌^◌, ◌≤◌, ◌<◌}
 use native.Mathlib.Omega.{arith}
 use native.Mathlib.Nat.{add-mul, one-mul, le-div_iff_mul-le}
 use mathlib.Core.Path.{◌≡◌, refl, sym, ap, subst, ◌∙◌}
 use mathlib.Core.Bool.{cond}
 use mathlib.Core.List.{List}
-use lib.Dec.{ltb}
 use lib.ListN.{length, get_or}
 use mir.Syntax.{w64}
 use mir.Val.{Fits}
@@ -32,7 +31,6 @@ use Rattle.job.specs.declared.Job.{Job}
 use Rattle.bits.specs.Sizes.{table_bytes}
 use Rattle.bits.specs.Slices.{slice, splice, copy_fits}
 use Rattle.bits.proofs.Room.{fitted, copy_fits_lem}
-use Rattle.bits.proofs.Minimum.{least_left, least_right, least_some}
 use Rattle.bits.specs.Blocks.{block}
 use Rattle.tables.specs.Work.{block_bytes, row_of, Wide, Sound, Good, Side, Asked, tables_at, tables_from, asked_row, rows_at, RowsThere}
 use Rattle.tables.specs.declared.evaluator.Batch.{Batch}
@@ -157,15 +155,15 @@ module _ {j : Job} {asked : List ℕ} {shape : Shape} {start first out rows : Li
   place : (done + 1) * (length asked * shape.bytes) ≡ step j asked + done * step j asked
   place = ap (λ (k : ℕ). (done + 1) * (length asked * k)) bytes ∙ first_end j asked done
 
-  module _ {count : ℕ} (least : count ≡ cond (ltb (block_bytes / shape.bytes) (j.fault_count - done)) (block_bytes / shape.bytes) (j.fault_count - done)) where
+  module _ {count : ℕ} (least : count ≡ min (block_bytes / shape.bytes) (j.fault_count - done)) where
     pub putting_within : done + 1 + count ≤ j.fault_count + 1
-    putting_within = omega (arith, p.placed.within, least_right (block_bytes / shape.bytes) (j.fault_count - done) least)
+    putting_within = omega (arith, p.placed.within, least)
 
     pub putting_wide : Wide j shape count rows
-    putting_wide = wide_fewer p.wide (subst (λ (k : ℕ). count ≤ k) (ap (λ (k : ℕ). block_bytes / k) bytes) (least_left (block_bytes / shape.bytes) (j.fault_count - done) least))
+    putting_wide = wide_fewer p.wide (subst (λ (k : ℕ). count ≤ k) (ap (λ (k : ℕ). block_bytes / k) bytes) (omega (arith, least)))
 
     pub putting_turn : done < j.fault_count → 1 ≤ count
-    putting_turn h = least_some (block_bytes / shape.bytes) (j.fault_count - done) least width_some (omega arith)
+    putting_turn h = omega (arith, least, width_some)
 
     pub putting_room : (done + 1) * (length asked * shape.bytes) + count * step j asked ≤ length out
     putting_room = omega (arith, place, placed_room p.placed count (omega (arith, putting_within)))

@@ -17,7 +17,7 @@ ghost use Rattle.bits.specs.Slices.{splice};
 ghost use Rattle.tables.specs.Sizes.{Formed};
 ghost use Rattle.tables.specs.Work.{row_of, gate_number, line_block, LineRoom, FixedIn, Sound, Good, Side, Made};
 
-use crate::rows::{Polynomials, Shape};
+use crate::rows::{KINDS, Shape};
 use gates::Polynomial;
 use job::{Gate, Job, MAX_GATES, MAX_INPUTS};
 
@@ -32,49 +32,43 @@ pub(crate) struct Batch {
     pub(crate) count: usize,
 }
 
-// Where the block of a line's tables starts.
-pub(crate) fn block_place(batch: Batch, line: usize, bytes: usize) -> usize
-    requires { (1 ≤ bytes) × (row_of batch line * bytes < 2 ^ 64) }
-    ensures { result ≡ row_of batch line * bytes }
-{
-    (batch.base + line * batch.count) * bytes
+impl Batch {
+    // Where the block of a line's tables starts.
+    pub(crate) fn block_place(self, line: usize, bytes: usize) -> usize
+        requires { (1 ≤ bytes) × (row_of self line * bytes < 2 ^ 64) }
+        ensures { result ≡ row_of self line * bytes }
+    {
+        (self.base + line * self.count) * bytes
+    }
 }
 
-// For each line the set of the batch's columns whose faults fix it: column i is circuit first + i.
-#[derive(Clone, Copy)]
-struct Fixed {
-    of: [u64; MAX_LINES],
-}
-
-// The good circuit has no fault.
-fn fixed_lines(job: Job, batch: Batch) -> Fixed
+// For each line the set of the batch's columns whose faults fix it: column i is circuit first + i. The good circuit has
+// no fault.
+fn fixed_lines(job: Job, batch: Batch) -> [u64; MAX_LINES]
     requires { Valid job × (batch.first + batch.count ≤ job.fault_count + 1) × (batch.first ≡ 0 → batch.count ≡ 1) }
-    ensures { FixedIn job batch result.of }
+    ensures { FixedIn job batch result }
 {
     let first = batch.first;
-    let count = batch.count;
-    let mut of = [0u64; MAX_LINES];
+    let mut fixed = [0u64; MAX_LINES];
     if first == 0 {
-        return Fixed { of };
+        return fixed;
     }
-    let mut i = 0;
-    while i < count {
+    for i in 0..batch.count {
         let entry = job.faults[first - 1 + i];
         let fault = entry.fault;
         let low = fault.first();
         let high = fault.second();
-        of[low] = bits::sets::joined(of[low], i);
-        of[high] = bits::sets::joined(of[high], i);
-        i += 1;
+        fixed[low] = bits::sets::joined(fixed[low], i);
+        fixed[high] = bits::sets::joined(fixed[high], i);
     }
-    Fixed { of }
+    fixed
 }
 
 // Works out the circuits of a batch; faulty ones stand behind the rows of the good one.
 pub(crate) fn work_out(
     rows: &mut [u8],
     job: Job,
-    polynomials: Polynomials,
+    polynomials: [Polynomial; KINDS],
     batch: Batch,
     shape: Shape,
 )
@@ -84,19 +78,17 @@ pub(crate) fn work_out(
     let inputs = job.inputs as usize;
     let lines = inputs + job.gate_count as usize;
     let fixed = fixed_lines(job, batch);
-    let mut line = 0;
-    while line < lines {
+    for line in 0..lines {
         let entry = job.gates[gate_number(line, inputs)];
         let gate = entry.gate;
         let kind = gate.kind();
-        let polynomial = polynomials.of[kind];
+        let polynomial = polynomials[kind];
         line_block(rows, gate, polynomial, batch, line, shape);
         // The record is handed on for few lines only: that copies it.
-        let columns = fixed.of[line];
+        let columns = fixed[line];
         if columns != 0 {
             fix_line(rows, job, batch, line, columns, shape);
         }
-        line += 1;
     }
 }
 
@@ -120,7 +112,7 @@ fn line_block(
     ensures { rows.new ≡ line_block shape batch gate polynomial line rows.old }
 {
     if line < shape.inputs {
-        let to = block_place(batch, line, shape.bytes);
+        let to = batch.block_place(line, shape.bytes);
         crate::rows::input_block(rows, line, to, batch.count, shape);
     } else {
         gate_block(rows, gate, polynomial, batch, line, shape.bytes);
@@ -139,9 +131,9 @@ fn gate_block(
     requires { (1 ≤ bytes) × (gate_a gate < line) × (gate_b gate < line) × (row_of batch line * bytes + batch.count * bytes ≤ length rows.old) }
     ensures { rows.new ≡ splice rows.old (row_of batch line * bytes) (tabulate (batch.count * bytes) (combined polynomial (row_of batch (gate_a gate) * bytes) (row_of batch (gate_b gate) * bytes) rows.old)) }
 {
-    let x = block_place(batch, gate.first(), bytes);
-    let y = block_place(batch, gate.second(), bytes);
-    let to = block_place(batch, line, bytes);
+    let x = batch.block_place(gate.first(), bytes);
+    let y = batch.block_place(gate.second(), bytes);
+    let to = batch.block_place(line, bytes);
     gates::combine(rows, x, y, to, batch.count * bytes, polynomial);
 }
 
@@ -151,7 +143,7 @@ fn fix_line(rows: &mut [u8], job: Job, batch: Batch, line: usize, columns: u64, 
     ensures { Side job batch (line + 1) rows.new }
 {
     let bytes = shape.bytes;
-    let start = block_place(batch, line, bytes);
+    let start = batch.block_place(line, bytes);
     let mut left = columns;
     while left != 0 {
         let column = bits::sets::lowest(left);

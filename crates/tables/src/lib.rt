@@ -8,15 +8,16 @@ ghost use Rattle.bits.specs.Answer.{outcome, leaves};
 ghost use Rattle.bits.specs.Sizes.{table_bytes};
 ghost use Rattle.bits.specs.Blocks.{block};
 ghost use Rattle.bits.specs.Slices.{splice};
-ghost use Rattle.bits.specs.declared.Outcome.TheVariants.{Refused};
+ghost use Rattle.job.specs.Layout.{max_faults};
 ghost use Rattle.tables.specs.Operations.{table_of, tables_of, counts_of, no_counts, delivered};
 ghost use Rattle.tables.specs.Sizes.{Formed};
 ghost use Rattle.tables.specs.Work.{block_bytes, Wide, Sound, Good, Asked, tables_at, tables_from, rows_at, RowsThere};
 
-use bits::{Outcome, Refusal};
+use bits::Refusal;
 use evaluator::{Batch, MAX_LINES};
+use gates::Polynomial;
 use job::{Job, MAX_FAULTS, MAX_INPUTS, MAX_OUTPUTS};
-use rows::{Polynomials, Shape};
+use rows::{KINDS, Shape};
 
 mod evaluator;
 mod rows;
@@ -41,7 +42,7 @@ const BLOCK_BYTES: usize = 512;
 const ALL_ROW_BYTES: usize = MAX_LINES * (MAX_TABLE_BYTES + BLOCK_BYTES);
 
 // How many inputs, gates, outputs and faults a job has, and the part of each circuit.
-#[derive(Clone, Copy)]
+#[derive(Clone, Copy, Debug, PartialEq, Eq)]
 pub struct Counts {
     pub inputs: usize,
     pub gates: usize,
@@ -50,51 +51,43 @@ pub struct Counts {
     pub parts: [u8; MAX_CIRCUITS],
 }
 
-// Whether the tables of a job are written, its counts, and how many bytes the tables have; these are 0 beside a refusal.
-#[derive(Clone, Copy)]
+// The counts of a job whose tables are written, and how many bytes they have.
+#[derive(Clone, Copy, Debug, PartialEq, Eq)]
 pub struct Delivery {
-    pub outcome: Outcome,
     pub counts: Counts,
     pub bytes: usize,
 }
 
 // The packed table of circuit `circuit` at output `output` of the job that the bytes give.
-pub fn table(bytes: &[u8], circuit: usize, output: usize, out: &mut [u8]) -> Outcome
+pub fn table(bytes: &[u8], circuit: usize, output: usize, out: &mut [u8]) -> Result<(), Refusal>
     ensures { record { answer = outcome result; memory = out.new } ≡ leaves (table_of bytes.now circuit output (length out.old)) out.old }
 {
-    let reading = reading::read(bytes);
-    let outcome = reading.outcome;
-    if let Outcome::Refused(cause) = outcome {
-        return Outcome::Refused(cause);
-    }
-    let job = reading.job;
+    let job = reading::read(bytes)?;
     if (job.fault_count as usize) < circuit {
-        return Outcome::Refused(Refusal::Circuit);
+        return Err(Refusal::Circuit);
     }
     if job.output_count as usize <= output {
-        return Outcome::Refused(Refusal::OutputNumber);
+        return Err(Refusal::OutputNumber);
     }
     let shape = rows::shape_of(job.inputs as usize);
     if out.len() < shape.bytes {
-        return Outcome::Refused(Refusal::Memory);
+        return Err(Refusal::Memory);
     }
     let mut rows = [0u8; ROW_BYTES];
     let lines = job.outputs;
     let asked = &lines[output..output + 1];
     put_table(out, &mut rows, job, circuit, asked, shape);
-    Outcome::Done
+    Ok(())
 }
 
 // The counts and parts of a job: the good circuit's part is 0.
-fn counts_of(job: Job) -> Counts
-    ensures { result ≡ counts_of job }
+fn counts_of(job: &Job) -> Counts
+    requires { length job.now.faults ≡ max_faults }
+    ensures { result ≡ counts_of job.now }
 {
     let mut parts = [0u8; MAX_CIRCUITS];
-    let mut i = 0;
-    while i < MAX_FAULTS {
-        let entry = job.faults[i];
+    for (i, entry) in job.faults.iter().enumerate() {
         parts[1 + i] = entry.part;
-        i += 1;
     }
     Counts {
         inputs: job.inputs as usize,
@@ -105,7 +98,7 @@ fn counts_of(job: Job) -> Counts
     }
 }
 
-// What counts and parts are beside a refusal.
+// Counts and parts of 0.
 pub fn no_counts() -> Counts
     ensures { result ≡ no_counts }
 {
@@ -118,42 +111,23 @@ pub fn no_counts() -> Counts
     }
 }
 
-// What stands beside a refusal.
-fn undelivered(cause: Refusal) -> Delivery
-    ensures { result ≡ record { outcome = Refused cause; counts = no_counts; bytes = 0 } }
-{
-    Delivery {
-        outcome: Outcome::Refused(cause),
-        counts: no_counts(),
-        bytes: 0,
-    }
-}
-
 // The packed tables of all circuits of the job that the bytes give, circuit after circuit, output after output.
-pub fn tables(bytes: &[u8], out: &mut [u8]) -> Delivery
-    ensures { record { answer = outcome result.outcome; counts = result.counts; bytes = result.bytes; memory = out.new } ≡ delivered (tables_of bytes.now (length out.old)) out.old }
+pub fn tables(bytes: &[u8], out: &mut [u8]) -> Result<Delivery, Refusal>
+    ensures { record { answer = outcome result; memory = out.new } ≡ delivered (tables_of bytes.now (length out.old)) out.old }
 {
-    let reading = reading::read(bytes);
-    let outcome = reading.outcome;
-    if let Outcome::Refused(cause) = outcome {
-        return undelivered(cause);
-    }
-    let job = reading.job;
+    let job = reading::read(bytes)?;
     let outputs = job.output_count as usize;
     let faults = job.fault_count as usize;
     let shape = rows::shape_of(job.inputs as usize);
     let bytes = (faults + 1) * outputs * shape.bytes;
     if out.len() < bytes {
-        return undelivered(Refusal::Memory);
+        return Err(Refusal::Memory);
     }
     let mut rows = [0u8; ALL_ROW_BYTES];
     let lines = job.outputs;
     put_tables(out, &mut rows, job, &lines[..outputs], shape);
-    Delivery {
-        outcome: Outcome::Done,
-        counts: counts_of(job),
-        bytes,
-    }
+    let counts = counts_of(&job);
+    Ok(Delivery { counts, bytes })
 }
 
 // Copies the tables of one circuit, a column of a batch, at the lines asked for.
@@ -169,11 +143,9 @@ fn put_column(
     requires { RowsThere batch bytes asked.now (length rows.now) × (column < batch.count) × (to + length asked.now * bytes ≤ length out.old) }
     ensures { out.new ≡ splice out.old to (rows_at batch bytes asked.now rows.now column) }
 {
-    let mut p = 0;
-    while p < asked.len() {
-        let at = evaluator::block_place(batch, asked[p] as usize, bytes) + column * bytes;
+    for (p, line) in asked.iter().enumerate() {
+        let at = batch.block_place(*line as usize, bytes) + column * bytes;
         bits::copy(out, to + p * bytes, rows, at, bytes);
-        p += 1;
     }
 }
 
@@ -182,12 +154,9 @@ fn put_columns(out: &mut [u8], to: usize, rows: &[u8], asked: &[u8], batch: Batc
     requires { RowsThere batch bytes asked.now (length rows.now) × (to + batch.count * (length asked.now * bytes) ≤ length out.old) }
     ensures { out.new ≡ splice out.old to (block batch.count (rows_at batch bytes asked.now rows.now)) }
 {
-    let count = batch.count;
-    let mut i = 0;
-    while i < count {
+    for i in 0..batch.count {
         let step = asked.len() * bytes;
         put_column(out, to + i * step, rows, asked, batch, i, bytes);
-        i += 1;
     }
 }
 
@@ -197,7 +166,7 @@ fn put_batch(
     to: usize,
     rows: &mut [u8],
     job: Job,
-    polynomials: Polynomials,
+    polynomials: [Polynomial; KINDS],
     asked: &[u8],
     batch: Batch,
     shape: Shape,
@@ -214,7 +183,7 @@ fn put_good(
     out: &mut [u8],
     rows: &mut [u8],
     job: Job,
-    polynomials: Polynomials,
+    polynomials: [Polynomial; KINDS],
     asked: &[u8],
     shape: Shape,
 )
@@ -263,7 +232,7 @@ fn put_faults(
     out: &mut [u8],
     rows: &mut [u8],
     job: Job,
-    polynomials: Polynomials,
+    polynomials: [Polynomial; KINDS],
     asked: &[u8],
     shape: Shape,
 )
@@ -277,7 +246,7 @@ fn put_faults(
     let base = job.inputs as usize + job.gate_count as usize;
     let mut done = 0;
     while done < faults {
-        let count = bits::least(most, faults - done);
+        let count = most.min(faults - done);
         let first = done + 1;
         let batch = Batch { base, first, count };
         put_batch(

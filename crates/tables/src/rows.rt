@@ -12,7 +12,8 @@ ghost use Rattle.tables.specs.Sizes.{shape_within, Formed, Space, Below, fixed_r
 use gates::Polynomial;
 use job::{BinaryKind, Fault, Gate};
 
-const KINDS: usize = 8;
+// The kinds of gates.
+pub(crate) const KINDS: usize = 8;
 
 // Its inputs, its bytes, and the bits of each byte that are entries.
 #[derive(Clone, Copy)]
@@ -39,28 +40,19 @@ pub(crate) fn shape_of(inputs: usize) -> Shape
     }
 }
 
-// The polynomial of each kind of gate, worked out once for all circuits.
-#[derive(Clone, Copy)]
-pub(crate) struct Polynomials {
-    pub(crate) of: [Polynomial; KINDS],
-}
-
-pub(crate) fn polynomials_of(mask: u8) -> Polynomials
+// The polynomial of each kind of gate, by the kind's number.
+pub(crate) fn polynomials_of(mask: u8) -> [Polynomial; KINDS]
     ensures { Formed mask result }
 {
-    let mut polynomials = Polynomials {
-        of: [Polynomial {
-            constant: 0,
-            first: 0,
-            second: 0,
-            both: 0,
-        }; KINDS],
+    let none = Polynomial {
+        constant: 0,
+        first: 0,
+        second: 0,
+        both: 0,
     };
-    let mut kind = 0;
-    while kind < KINDS {
-        let polynomial = gates::polynomial_of(job::gate_of(kind, 0, 0), mask);
-        polynomials.of[kind] = polynomial;
-        kind += 1;
+    let mut polynomials = [none; KINDS];
+    for (kind, polynomial) in polynomials.iter_mut().enumerate() {
+        *polynomial = gates::polynomial_of(job::gate_of(kind, 0, 0), mask);
     }
     polynomials
 }

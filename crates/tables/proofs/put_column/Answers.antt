@@ -1,17 +1,10 @@
 -- `tables::put_column` meets its contract: each turn puts the row of one line behind those of the lines before.
-use native.Mathlib.Omega.{arith}
 use Rattle.tables.proofs.Blocks.{placed_offset, placed_place, placed_all}
 use Rattle.tables.proofs.Copies.{row_place, row_offset, row_start, rows_none, rows_more}
 use Rattle.tables.proofs.put_column.Goals as goal
 
 pub loop-p-init : goal.loop-p-init
 loop-p-init c = rows_none c.args.rows.now c.requires.0 c.requires.1 c.args.out.now c.args.to c.requires.2
-
-pub bounds-asked-p : goal.bounds-asked-p
-bounds-asked-p c = c.loop-p-test.true
-
-pub overflow_cast-asked : goal.overflow_cast-asked
-overflow_cast-asked c = omega (arith, c.type_inv.asked c.loop-p.p)
 
 pub block_place-requires : goal.block_place-requires
 block_place-requires c = (c.requires.0.some, row_place c.requires.0 c.requires.1 c.loop-p.p c.loop-p-test.true c.well_formed.1.1.0.0)
@@ -27,9 +20,6 @@ overflow_mul-p c = placed_offset c.loop-p.invariant c.well_formed.0.0
 
 pub overflow_add-to : goal.overflow_add-to
 overflow_add-to c = placed_place c.loop-p.invariant c.well_formed.0.0
-
-pub loop-p-smaller : goal.loop-p-smaller
-loop-p-smaller c = omega (arith, c.loop-p-test.true)
 
 pub loop-p-preserved : goal.loop-p-preserved
 loop-p-preserved c = rows_more c.args.rows.now c.requires.0 c.requires.1 c.args.out.now c.args.to c.loop-p.invariant c.loop-p-test.true c.block_place.ensures c.copy.ensures

@@ -1,5 +1,4 @@
 -- `tables::put_columns` meets its contract: each turn puts the tables of one circuit behind those before.
-use native.Mathlib.Omega.{arith}
 use Rattle.tables.proofs.Blocks.{placed_none, placed_one, placed_width, placed_offset, placed_place, placed_more, placed_all}
 use Rattle.tables.proofs.Copies.{length_rows}
 use Rattle.tables.proofs.put_columns.Goals as goal
@@ -18,9 +17,6 @@ overflow_add-to c = placed_place c.loop-i.invariant c.well_formed.0.0
 
 pub put_column-requires : goal.put_column-requires
 put_column-requires c = (c.requires.0, c.loop-i-test.true, placed_one c.loop-i.invariant c.loop-i-test.true)
-
-pub loop-i-smaller : goal.loop-i-smaller
-loop-i-smaller c = omega (arith, c.loop-i-test.true)
 
 pub loop-i-preserved : goal.loop-i-preserved
 loop-i-preserved c = placed_more c.loop-i.invariant c.loop-i-test.true c.put_column.ensures

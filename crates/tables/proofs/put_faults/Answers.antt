@@ -41,29 +41,29 @@ overflow_add-first c = omega (arith, fault_index c.requires.0.valid c.loop-done-
 
 pub overflow_mul-first : goal.overflow_mul-first
 unfolding block_bytes
-overflow_mul-first c = putting_place c.loop-done.invariant c.least-count.ensures c.well_formed.0.0
+overflow_mul-first c = putting_place c.loop-done.invariant c.min-count.ensures c.well_formed.0.0
 
 pub put_batch-requires : goal.put_batch-requires
 unfolding block_bytes
 put_batch-requires c = (
-  faulty_sound (putting_wide c.loop-done.invariant c.least-count.ensures) (omega arith) (putting_within c.loop-done.invariant c.least-count.ensures),
+  faulty_sound (putting_wide c.loop-done.invariant c.min-count.ensures) (omega arith) (putting_within c.loop-done.invariant c.min-count.ensures),
   c.requires.1,
   (λ h. c.loop-done.invariant.good),
   c.requires.3,
-  putting_room c.loop-done.invariant c.least-count.ensures,
+  putting_room c.loop-done.invariant c.min-count.ensures,
 )
 
 pub overflow_add-done : goal.overflow_add-done
 unfolding max_faults block_bytes
-overflow_add-done c = omega (arith, putting_within c.loop-done.invariant c.least-count.ensures, c.requires.0.valid.faults_few)
+overflow_add-done c = omega (arith, putting_within c.loop-done.invariant c.min-count.ensures, c.requires.0.valid.faults_few)
 
 pub loop-done-smaller : goal.loop-done-smaller
 unfolding block_bytes
-loop-done-smaller c = omega (arith, putting_turn c.loop-done.invariant c.least-count.ensures c.loop-done-test.true, c.loop-done-test.true)
+loop-done-smaller c = omega (arith, putting_turn c.loop-done.invariant c.min-count.ensures c.loop-done-test.true, c.loop-done-test.true)
 
 pub loop-done-preserved : goal.loop-done-preserved
 unfolding block_bytes
-loop-done-preserved c = putting_next c.loop-done.invariant c.least-count.ensures c.put_batch.ensures.0 c.put_batch.auto.rows c.put_batch.ensures.1
+loop-done-preserved c = putting_next c.loop-done.invariant c.min-count.ensures c.put_batch.ensures.0 c.put_batch.auto.rows c.put_batch.ensures.1
 
 pub returns : goal.returns
 returns c = placed_all c.loop-done.invariant.placed c.loop-done-test.false

@@ -2,7 +2,6 @@
 use Prim.Native.Nat.{◌+◌, ◌-◌}
 use native.Mathlib.Omega.{arith}
 use mathlib.Core.Path.{refl}
-use borrow.Author.Count.{falls}
 use Rattle.job.specs.Layout.{max_inputs, max_gates, max_faults}
 use Rattle.job.specs.Record.{fault_at}
 use Rattle.tables.proofs.Columns.{column_index, column_few, low_index, high_index, fixed_good, fixed_none, fixed_next, fixed_all}
@@ -31,43 +30,37 @@ pub bounds-job-first : goal.bounds-job-first
 unfolding max_faults
 bounds-job-first c = column_index c.requires.0 c.if-first-eq0.false c.requires.1 c.loop-i-test.true
 
-pub offset_bounds-of-low : goal.offset_bounds-of-low
+pub offset_bounds-fixed-low : goal.offset_bounds-fixed-low
 unfolding max_inputs max_gates
-offset_bounds-of-low c = record { fits = omega (arith, low_index c.requires.0 c.if-first-eq0.false c.requires.1 c.loop-i-test.true c.first-low.ensures) }
+offset_bounds-fixed-low c = record { fits = omega (arith, low_index c.requires.0 c.if-first-eq0.false c.requires.1 c.loop-i-test.true c.first-low.ensures) }
 
-pub bounds-of-low : goal.bounds-of-low
+pub bounds-fixed-low : goal.bounds-fixed-low
 unfolding max_inputs max_gates
-bounds-of-low c = low_index c.requires.0 c.if-first-eq0.false c.requires.1 c.loop-i-test.true c.first-low.ensures
+bounds-fixed-low c = low_index c.requires.0 c.if-first-eq0.false c.requires.1 c.loop-i-test.true c.first-low.ensures
 
-pub offset_bounds-of-low-in-loop-i : goal.offset_bounds-of-low-in-loop-i
+pub offset_bounds-fixed-low-in-loop-i : goal.offset_bounds-fixed-low-in-loop-i
 unfolding max_inputs max_gates
-offset_bounds-of-low-in-loop-i c = record { fits = omega (arith, low_index c.requires.0 c.if-first-eq0.false c.requires.1 c.loop-i-test.true c.first-low.ensures) }
+offset_bounds-fixed-low-in-loop-i c = record { fits = omega (arith, low_index c.requires.0 c.if-first-eq0.false c.requires.1 c.loop-i-test.true c.first-low.ensures) }
 
-pub bounds-of-low-in-loop-i : goal.bounds-of-low-in-loop-i
+pub bounds-fixed-low-in-loop-i : goal.bounds-fixed-low-in-loop-i
 unfolding max_inputs max_gates
-bounds-of-low-in-loop-i c = low_index c.requires.0 c.if-first-eq0.false c.requires.1 c.loop-i-test.true c.first-low.ensures
+bounds-fixed-low-in-loop-i c = low_index c.requires.0 c.if-first-eq0.false c.requires.1 c.loop-i-test.true c.first-low.ensures
 
-pub offset_bounds-of-high : goal.offset_bounds-of-high
+pub offset_bounds-fixed-high : goal.offset_bounds-fixed-high
 unfolding max_inputs max_gates
-offset_bounds-of-high c = record { fits = omega (arith, high_index c.requires.0 c.if-first-eq0.false c.requires.1 c.loop-i-test.true c.second-high.ensures) }
+offset_bounds-fixed-high c = record { fits = omega (arith, high_index c.requires.0 c.if-first-eq0.false c.requires.1 c.loop-i-test.true c.second-high.ensures) }
 
-pub bounds-of-high : goal.bounds-of-high
+pub bounds-fixed-high : goal.bounds-fixed-high
 unfolding max_inputs max_gates
-bounds-of-high c = high_index c.requires.0 c.if-first-eq0.false c.requires.1 c.loop-i-test.true c.second-high.ensures
+bounds-fixed-high c = high_index c.requires.0 c.if-first-eq0.false c.requires.1 c.loop-i-test.true c.second-high.ensures
 
-pub offset_bounds-of-high-in-loop-i : goal.offset_bounds-of-high-in-loop-i
+pub offset_bounds-fixed-high-in-loop-i : goal.offset_bounds-fixed-high-in-loop-i
 unfolding max_inputs max_gates
-offset_bounds-of-high-in-loop-i c = record { fits = omega (arith, high_index c.requires.0 c.if-first-eq0.false c.requires.1 c.loop-i-test.true c.second-high.ensures) }
+offset_bounds-fixed-high-in-loop-i c = record { fits = omega (arith, high_index c.requires.0 c.if-first-eq0.false c.requires.1 c.loop-i-test.true c.second-high.ensures) }
 
-pub bounds-of-high-in-loop-i : goal.bounds-of-high-in-loop-i
+pub bounds-fixed-high-in-loop-i : goal.bounds-fixed-high-in-loop-i
 unfolding max_inputs max_gates
-bounds-of-high-in-loop-i c = high_index c.requires.0 c.if-first-eq0.false c.requires.1 c.loop-i-test.true c.second-high.ensures
-
-pub overflow_add-i : goal.overflow_add-i
-overflow_add-i c = omega (arith, c.loop-i-test.true)
-
-pub loop-i-smaller : goal.loop-i-smaller
-loop-i-smaller c = falls _ _ c.loop-i-test.true
+bounds-fixed-high-in-loop-i c = high_index c.requires.0 c.if-first-eq0.false c.requires.1 c.loop-i-test.true c.second-high.ensures
 
 pub loop-i-preserved : goal.loop-i-preserved
 loop-i-preserved c =

@@ -1,10 +1,6 @@
 -- `tables::evaluator::fixed_lines` meets its contract: each turn notes the lines that one circuit fixes.
-use Prim.Native.Nat.{◌-◌}
 use Rattle.tables.proofs.Columns.{FixedTo}
 use Rattle.tables.proofs.evaluator.fixed_lines.Given as goal
 
 abbrev pub invariant-loop-i : goal.invariant-loop-i
-invariant-loop-i l = FixedTo l.job l.first l.count l.i l.of
-
-abbrev pub decreases-loop-i : goal.decreases-loop-i
-decreases-loop-i l = l.count - l.i
+invariant-loop-i l = FixedTo l.job l.first l.i-end l.i l.fixed

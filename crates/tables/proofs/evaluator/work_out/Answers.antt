@@ -2,7 +2,6 @@
 use Prim.Native.Nat.{◌+◌, ◌<◌}
 use native.Mathlib.Omega.{arith}
 use mathlib.Core.Path.{◌≡◌, refl, sym, subst, ◌∙◌}
-use borrow.Author.Count.{falls}
 use lib.ListN.{length}
 use Rattle.gates.proofs.Answers.{kind_lt}
 use Rattle.job.specs.Layout.{max_inputs, max_gates}
@@ -66,12 +65,6 @@ fix_line-requires c =
           (form_read c.args.shape.mask c.args.polynomials c.requires.1 (gate_at c.args.job c.gate_number.result) c.kind-kind.ensures) c.line_block.ensures,
       c.loop-line-test.true,
     )
-
-pub overflow_add-line : goal.overflow_add-line
-overflow_add-line c = omega (arith, c.loop-line-test.true)
-
-pub loop-line-smaller : goal.loop-line-smaller
-loop-line-smaller c = falls _ _ c.loop-line-test.true
 
 pub loop-line-preserved : goal.loop-line-preserved
 loop-line-preserved c =
