@@ -10,21 +10,21 @@
 // of lower order, by Pascal's rule.
 #![tactic(auto)]
 
-ghost use Rattle.std.specs.Prelude.{◌+◌, ◌*◌, ◌^◌, ◌≤◌, ◌<◌, ◌≡◌, true, [], length};
+ghost use Rattle.std.specs.Prelude.{◌+◌, ◌*◌, ◌^◌, ◌≤◌, ◌<◌, ◌≡◌, true, length};
 ghost use Rattle.std.specs.Int.Count.{ones};
 ghost use Rattle.job.specs.Layout.{max_inputs, max_outputs};
 ghost use Rattle.bits.specs.Bounds.{all_below};
 ghost use Rattle.bits.specs.Slices.{splice};
 ghost use Rattle.bits.specs.Tabulation.{Tabulates};
-ghost use Rattle.chooser.specs.Matrix.{cell, max_signature};
+ghost use Rattle.chooser.specs.Matrix.{cell};
 ghost use Rattle.reading.specs.Reading.{reading};
-ghost use Rattle.tables.specs.Operations.{no_counts};
 ghost use Rattle.spectra.specs.Codes.{codes_of};
 ghost use Rattle.spectra.specs.Operations.{from_tables};
-ghost use Rattle.choosing.specs.Choosing.{scan_to, scan_order, outputs_at, entries_of, signature_of, chosen_from, chosen_of, counts_in, at_exit, verdict_number, verdict_pair};
-ghost use Rattle.choosing.specs.Looking.{max_places, max_orders, marks_of, Few, summed, Placed, Listed, Filled, decoded_of, chosen_by, chosen_in};
+ghost use Rattle.choosing.specs.Choosing.{scan_to, scan_order, outputs_at, entries_of, chosen_from, chosen_of, counts_in, at_exit, told};
+ghost use Rattle.choosing.specs.Looking.{max_places, max_orders, marks_of, Few, summed, Placed, Listed, Filled, decoded_of, unchosen_by, chosen_in};
+ghost use Rattle.choosing.specs.declared.Unchosen.TheVariants.{Refused};
 
-use bits::{Outcome, Refusal};
+use bits::Refusal;
 use chooser::{MAX_SIGNATURE, Untold};
 use spectra::Kind;
 use tables::{ALL_TABLES_BYTES, Counts};
@@ -36,15 +36,8 @@ pub enum Purpose {
     Detecting,
 }
 
-// A signature is chosen; the first needed pair of circuits that are alike; or another refusal.
-#[derive(Clone, Copy)]
-pub enum Verdict {
-    Done,
-    Alike(usize, usize),
-    Refused(Refusal),
-}
-
-// Entries in the order of taking, an index and an output each; the places past the count are 0.
+// Entries in the order of taking, an index and an output each; the places past the count are 0. Two arrays, since the C interface and the statement of
+// demand 3 read `indices` and `outputs`; with a count, since memory is fixed.
 #[derive(Clone, Copy, Debug, PartialEq, Eq)]
 pub struct Signature {
     pub count: usize,
@@ -52,12 +45,38 @@ pub struct Signature {
     pub outputs: [u16; MAX_SIGNATURE],
 }
 
-// Beside a pair or a refusal the counts are 0, and the signature is empty.
-#[derive(Clone, Copy)]
+// What is chosen for a job: its counts, and the signature.
+#[derive(Clone, Copy, Debug, PartialEq, Eq)]
 pub struct Chosen {
-    pub verdict: Verdict,
     pub counts: Counts,
     pub signature: Signature,
+}
+
+// Why nothing is chosen: a refusal, or the first needed pair of circuits that is alike.
+#[derive(Clone, Copy, Debug, PartialEq, Eq)]
+pub enum Unchosen {
+    Refused(Refusal),
+    Alike(usize, usize),
+}
+
+impl From<Refusal> for Unchosen {
+    ghost from_gives = { λ cause unchosen. unchosen ≡ Refused cause };
+
+    fn from(cause: Refusal) -> Unchosen {
+        Unchosen::Refused(cause)
+    }
+}
+
+// The matrix always fits, so that `NoMatrix` stands for no answer of `choose_tables`.
+impl From<Untold> for Unchosen {
+    ghost from_gives = { λ untold unchosen. unchosen ≡ unchosen_by untold };
+
+    fn from(untold: Untold) -> Unchosen {
+        match untold {
+            Untold::Pair(a, b) => Unchosen::Alike(a, b),
+            Untold::NoMatrix => Unchosen::Refused(Refusal::Memory),
+        }
+    }
 }
 
 // The most coefficients of a circuit at one output.
@@ -182,38 +201,8 @@ fn decoded(coded: chooser::Signature, n: usize) -> Signature
     }
 }
 
-// What stands beside a pair or a refusal.
-fn unchosen(verdict: Verdict) -> Chosen
-    ensures { result ≡ record { verdict = verdict; counts = no_counts; signature = signature_of [] } }
-{
-    Chosen {
-        verdict,
-        counts: tables::no_counts(),
-        signature: Signature {
-            count: 0,
-            indices: [0u16; MAX_SIGNATURE],
-            outputs: [0u16; MAX_SIGNATURE],
-        },
-    }
-}
-
-// The verdict that the method's choice gives. The matrix always fits, so that `NoMatrix` stands for no answer of `choose_tables`.
-fn concluded(counts: Counts, untold: Untold, signature: Signature) -> Chosen
-    ensures { result ≡ chosen_by counts untold signature }
-{
-    match untold {
-        Untold::Nobody => Chosen {
-            verdict: Verdict::Done,
-            counts,
-            signature,
-        },
-        Untold::Pair(a, b) => unchosen(Verdict::Alike(a, b)),
-        Untold::NoMatrix => unchosen(Verdict::Refused(Refusal::Memory)),
-    }
-}
-
 // What the method chooses from the spectra in the work.
-fn choose_filled(work: &[u16], counts: Counts, purpose: Purpose) -> Chosen
+fn choose_filled(work: &[u16], counts: Counts, purpose: Purpose) -> Result<Chosen, Unchosen>
     requires { Filled counts (length work.now) }
     ensures { result ≡ chosen_in purpose counts (cell work.now (counts.outputs * 2 ^ counts.inputs)) }
 {
@@ -221,12 +210,11 @@ fn choose_filled(work: &[u16], counts: Counts, purpose: Purpose) -> Chosen
     let codes = scan_entries(counts.inputs, counts.outputs);
     // every number of a circuit is an entry's, so there are as many as a row is wide
     let width = bits::table_size(counts.inputs) * counts.outputs;
-    let choice = chooser::choose(work, width, counts.faults + 1, &marks, &codes[..width]);
-    concluded(
+    let signature = chooser::choose(work, width, counts.faults + 1, &marks, &codes[..width])?;
+    Ok(Chosen {
         counts,
-        choice.untold,
-        decoded(choice.signature, counts.inputs),
-    )
+        signature: decoded(signature, counts.inputs),
+    })
 }
 
 // The signature that tells the counted circuits apart, from their tables, one after the other: 2; 12; 13; 10; 15 with the first needed pair that is alike.
@@ -237,14 +225,11 @@ pub fn choose_tables(
     kind: Kind,
     polarity: usize,
     work: &mut [u16],
-) -> Chosen
-    ensures { record { number = verdict_number result.verdict; pair = verdict_pair result.verdict; counts = result.counts; signature = result.signature; memory = work.new } ≡ at_exit counts (from_tables counts tables.now (λ F. chosen_from purpose F kind polarity (length work.old))) work.old }
+) -> Result<Chosen, Unchosen>
+    ensures { told result work.new ≡ at_exit counts (from_tables counts tables.now (λ F. chosen_from purpose F kind polarity (length work.old))) work.old }
 {
-    let outcome = spectra::fill(counts, tables, kind, polarity, work);
-    match outcome {
-        Outcome::Refused(cause) => unchosen(Verdict::Refused(cause)),
-        Outcome::Done => choose_filled(work, counts, purpose),
-    }
+    spectra::fill(counts, tables, kind, polarity, work)?;
+    choose_filled(work, counts, purpose)
 }
 
 // The signature that tells the circuits of a job apart: reading's refusals; 13; 10; 15 with the first needed pair that is alike.
@@ -254,24 +239,11 @@ pub fn choose(
     kind: Kind,
     polarity: usize,
     work: &mut [u16],
-) -> Chosen
-    ensures { record { number = verdict_number result.verdict; pair = verdict_pair result.verdict; counts = result.counts; signature = result.signature; memory = work.new } ≡ at_exit (counts_in (reading bytes.now)) (chosen_of purpose bytes.now kind polarity (length work.old)) work.old }
+) -> Result<Chosen, Unchosen>
+    ensures { told result work.new ≡ at_exit (counts_in (reading bytes.now)) (chosen_of purpose bytes.now kind polarity (length work.old)) work.old }
 {
     let mut packed = [0u8; ALL_TABLES_BYTES];
-    let delivery = tables::tables(bytes, &mut packed);
-    let outcome = delivery.outcome;
-    match outcome {
-        Outcome::Refused(cause) => unchosen(Verdict::Refused(cause)),
-        Outcome::Done => {
-            let end = delivery.bytes;
-            choose_tables(
-                delivery.counts,
-                &packed[..end],
-                purpose,
-                kind,
-                polarity,
-                work,
-            )
-        }
-    }
+    let delivery = tables::tables(bytes, &mut packed)?;
+    let tables = &packed[..delivery.bytes];
+    choose_tables(delivery.counts, tables, purpose, kind, polarity, work)
 }

@@ -6,6 +6,9 @@ use Rattle.choosing.specs.Looking.{max_places, max_orders}
 use Rattle.choosing.proofs.Order.{order_within, index_fits, placing_none, placing_inside, placing_next}
 use Rattle.choosing.proofs.put_indices.Goals as goal
 
+pub loop-e-preserved : goal.loop-e-preserved
+loop-e-preserved c = placing_next c.loop-e.invariant c.requires.0 c.loop-e-test.true
+
 pub loop-e-init : goal.loop-e-init
 unfolding max_places max_orders max_inputs
 loop-e-init c = placing_none c.args.size _ _ (omega arith) (omega arith) c.requires.1
@@ -32,6 +35,3 @@ overflow_add-next c = omega (arith, placing_inside c.loop-e.invariant c.requires
 pub bounds-next-order-in-loop-e : goal.bounds-next-order-in-loop-e
 unfolding max_orders max_inputs
 bounds-next-order-in-loop-e c = order_within c.loop-e.e (lt_of_lt_of_le c.loop-e-test.true c.requires.0)
-
-pub loop-e-preserved : goal.loop-e-preserved
-loop-e-preserved c = placing_next c.loop-e.invariant c.requires.0 c.loop-e-test.true
