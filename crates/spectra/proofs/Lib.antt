@@ -19,3 +19,4 @@ pub mod Sums
 pub mod TableTests
 pub mod Undoing
 pub mod Uniqueness
+pub mod ValidInputs
