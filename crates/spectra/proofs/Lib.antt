@@ -12,6 +12,7 @@ pub mod Recovery
 pub mod Recursion
 pub mod Reduction
 pub mod Refusals
+pub mod RowTests
 pub mod Rows
 pub mod Sizes
 pub mod Subnumbers

@@ -52,15 +52,7 @@ fn rows_ok(tables: &[u8], n: usize, rows: usize) -> bool
     ensures { result ≡ all_rows_ok n rows tables.now }
 {
     let bytes = bits::table_bytes(n);
-    if tables.len() != rows * bytes {
-        return false;
-    }
-    for r in 0..rows {
-        if !table_ok(&tables[r * bytes..r * bytes + bytes], n) {
-            return false;
-        }
-    }
-    true
+    tables.len() == rows * bytes && tables.chunks_exact(bytes).all(|table| table_ok(table, n))
 }
 
 // Whether the bytes are a packed table for each counted circuit and each output, one after the other.
