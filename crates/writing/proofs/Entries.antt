@@ -12,6 +12,7 @@ use native.Mathlib.Numerals.{add-one}
 use native.Mathlib.Omega.{arith}
 use lib.ListN.{length, get_or, take, drop, length-append, take-append-drop}
 use lib.Seq.{take-suc, length-take-le}
+use Rattle.std.specs.Int.{div_ceil}
 use Rattle.bits.specs.Bits.{bits_of, bytes_of}
 use Rattle.bits.proofs.Bits.{length_bits_of}
 use Rattle.bits.proofs.Bytes.{length_bytes_of}
@@ -83,10 +84,10 @@ length_fault_bits : (e : FaultEntry) → length (fault_bits e) ≡ fault_kind_bi
 length_fault_bits e = simp (length-append, length_entry_bits, length_bits_of)
 
 pub bytes_job_bits : (j : Job) → j.gate_count ≤ length j.gates → j.output_count ≤ length j.outputs → j.fault_count ≤ length j.faults
-    → (input_count_bits + gate_count_bits + j.gate_count * (gate_kind_bits + 2 * line_bits) + output_count_bits + j.output_count * line_bits + fault_count_bits
-    + j.fault_count * (fault_kind_bits + 2 * line_bits + part_bits)
-    + 7)
-    / 8
+    → div_ceil
+    (input_count_bits + gate_count_bits + j.gate_count * (gate_kind_bits + 2 * line_bits) + output_count_bits + j.output_count * line_bits + fault_count_bits
+    + j.fault_count * (fault_kind_bits + 2 * line_bits + part_bits))
+    8
     ≡ length (bytes_of (job_bits j))
 unfolding job_bits
 bytes_job_bits j g o f =
@@ -101,10 +102,14 @@ bytes_job_bits j g o f =
     in
     sym
     (length_bytes_of (job_bits j)
-    ∙ ap (λ (n : ℕ). (n + 7) / 8)
+    ∙ rounded_up (length (job_bits j))
+    ∙ ap (λ (n : ℕ). div_ceil n 8)
     (simp (length-append, length_bits_of, gates, outputs, faults)
     (regroup input_count_bits gate_count_bits (j.gate_count * (gate_kind_bits + 2 * line_bits)) output_count_bits (j.output_count * line_bits) fault_count_bits
     (j.fault_count * (fault_kind_bits + 2 * line_bits + part_bits)))))
   where
     regroup : (a b c d e f g : ℕ) → a + (b + (c + (d + (e + (f + g))))) ≡ a + b + c + d + e + f + g
     regroup a b c d e f g = omega arith
+
+    rounded_up : (n : ℕ) → (n + 7) / 8 ≡ div_ceil n 8
+    rounded_up n = omega arith
