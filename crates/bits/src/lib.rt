@@ -54,7 +54,7 @@ impl Refusal {
 }
 
 // A place in a string of bits: how many bits stand before it.
-#[derive(Clone, Copy)]
+#[derive(Clone, Copy, Debug, PartialEq, Eq)]
 pub struct Cursor {
     pub bit: usize,
 }
@@ -70,7 +70,7 @@ pub fn least(a: usize, b: usize) -> usize
 fn byte_or_zero(s: &[u8], at: usize) -> usize
     ensures { (result ≡ get_or s.now at 0) × (result < 256) }
 {
-    if at < s.len() { s[at] as usize } else { 0 }
+    s.get(at).map_or(0, |&byte| byte as usize)
 }
 
 // The number that the two bytes from a place on make.
@@ -211,18 +211,7 @@ pub fn fill(rows: &mut [u8], to: usize, count: usize, byte: u8)
     if !has_room(rows.len(), to, count) {
         return;
     }
-    fill_bytes(rows, to, count, byte);
-}
-
-fn fill_bytes(rows: &mut [u8], to: usize, count: usize, byte: u8)
-    requires { to + count ≤ length rows.old }
-    ensures { rows.new ≡ splice rows.old to (tabulate count (λ i. byte)) }
-{
-    let mut i = 0;
-    while i < count {
-        rows[to + i] = byte;
-        i += 1;
-    }
+    rows[to..to + count].fill(byte);
 }
 
 // Copies `count` bytes at `at` of the rows to `to`, if they end within both.
@@ -235,30 +224,12 @@ pub fn copy(out: &mut [u8], to: usize, rows: &[u8], at: usize, count: usize)
     if !has_room(rows.len(), at, count) {
         return;
     }
-    copy_bytes(out, to, rows, at, count);
-}
-
-fn copy_bytes(out: &mut [u8], to: usize, rows: &[u8], at: usize, count: usize)
-    requires { (to + count ≤ length out.old) × (at + count ≤ length rows.now) }
-    ensures { out.new ≡ splice out.old to (slice at count rows.now) }
-{
-    let mut i = 0;
-    while i < count {
-        out[to + i] = rows[at + i];
-        i += 1;
-    }
+    out[to..to + count].copy_from_slice(&rows[at..at + count]);
 }
 
 // Whether all numbers of a list are below a bound.
 pub fn all_below(list: &[u16], bound: usize) -> bool
     ensures { result ≡ all_below bound list.now }
 {
-    let mut i = 0;
-    while i < list.len() {
-        if bound <= list[i] as usize {
-            return false;
-        }
-        i += 1;
-    }
-    true
+    list.iter().all(|&x| (x as usize) < bound)
 }
