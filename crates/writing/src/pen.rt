@@ -86,8 +86,8 @@ impl<'a> Pen<'a> {
         requires lines_fit { All LineFits outputs.now }
         ensures { Puts self.old (all_bits (bits_of line_bits) outputs.now) self.new }
     {
-        for line in outputs {
-            self.field(LINE_BITS, *line as usize);
+        for &line in outputs {
+            self.field(LINE_BITS, line as usize);
         }
     }
 
