@@ -148,10 +148,11 @@ fn having(work: &[u16], width: usize, entry: usize, rows: u64, number: u16) -> u
     ensures { Having (λ k. eqb (cell work.now width k entry) number) rows result }
 {
     let mut set = 0;
-    for c in sets::members_of(rows) {
-        if cell(work, width, c, entry) == number {
-            set = sets::joined(set, c);
-        }
+    let mut left = rows;
+    while left != 0 {
+        let c = sets::lowest(left);
+        set = with_equal(set, c, cell(work, width, c, entry), number);
+        left = sets::later(left);
     }
     set
 }

@@ -1,71 +1,48 @@
--- A number's digits (specs/Text.antt), and how they are put.
+-- A number's digits (specs/Text.antt).
 --
---   decimal_small, decimal_large   one digit, or those of a tenth and the last
---   small_inside, small_puts       one digit put
---   large_first, large_inside, large_puts   the last digit put behind the others
-use Prim.Native.Nat.{ℕ, zero, suc, ◌+◌, ◌-◌, ◌/◌, ◌%◌, ◌≤◌, ◌<◌}
+--   decimal_known   they are those that the library's `decimal` gives
+--   front           the digits before the last
+--   decimal_front   a number's digits are those and the last
+--   front_small, front_large   none, or those of a tenth
+use Prim.Native.Nat.{ℕ, suc, ◌+◌, ◌/◌, ◌%◌, ◌≤◌, ◌<◌, ◌^◌}
 use native.Mathlib.Omega.{arith}
-use native.Mathlib.Nat.{add-zero, add-suc}
 use mathlib.Core.Path.{◌≡◌, refl, sym, ap, ◌∙◌}
-use mathlib.Core.Bool.{Bool, true, false, cond}
+use mathlib.Core.Bool.{cond}
+use mathlib.Core.Logic.{◌⊎◌, inl, inr}
 use mathlib.Core.List.{List, [], ◌∷◌, ◌++◌}
-use borrow.Author.Tests.{lt-ltb, le-ltb, ltb-false}
+use borrow.Author.Tests.{lt-ltb, le-ltb}
 use lib.Dec.{ltb}
-use lib.ListN.{length, set}
-use Rattle.report_text.specs.Putting.{Puts, Room}
+use Rattle.std.proofs.Common.{rules}
+use Rattle.std.specs.Fmt.{decimal as known}
+use Rattle.std.proofs.lemmas.Fmt.{AppendsLastDigit, decimal_from_appends, length-decimal-le_succ, decimal_digit, decimal_step}
+use Rattle.bits.proofs.Below.{lt_or_ge}
 use Rattle.report_text.specs.Text.{digits, decimal}
-use Rattle.report_text.proofs.Texts.{room_same, puts_same, puts_one, puts_then, room_first, room_next, place_inside}
 
-digits_step : (left n : ℕ) (u : Bool) → ltb n 10 ≡ u → (10 ≤ n → digits (suc left) (n / 10) ≡ digits left (n / 10))
-    → cond u ((48 + n) ∷ []) (digits (suc left) (n / 10) ++ ((48 + n % 10) ∷ []))
-    ≡ cond u ((48 + n) ∷ []) (digits left (n / 10) ++ ((48 + n % 10) ∷ []))
-digits_step left n true e same = refl
-digits_step left n false e same = ap (λ (d : List ℕ). d ++ ((48 + n % 10) ∷ [])) (same (ltb-false n 10 e))
-
--- one digit more changes nothing where they suffice
-digits_more : (left n : ℕ) → n < left → digits (suc left) n ≡ digits left n
+digits_append : AppendsLastDigit digits
 unfolding digits
-digits_more zero n h = absurd (omega arith)
-digits_more (suc left) n h = digits_step left n (ltb n 10) refl (λ l. digits_more left (n / 10) (omega arith))
+digits_append = search rules
 
-digits_enough : (more n : ℕ) → digits (suc n + more) n ≡ decimal n
+pub decimal_known : (n : ℕ) → n < 2 ^ 64 → decimal n ≡ known n
 unfolding decimal
-digits_enough zero n = ap (λ (k : ℕ). digits k n) (add-zero (suc n))
-digits_enough (suc more) n =
-    ap (λ (k : ℕ). digits k n) (add-suc (suc n) more) ∙ digits_more (suc n + more) n (omega arith) ∙ digits_enough more n
+decimal_known n h = decimal_from_appends digits digits_append (suc n) n h (omega (arith, length-decimal-le_succ n h))
 
-pub decimal_small : (n : ℕ) → n < 10 → decimal n ≡ (48 + n) ∷ []
-unfolding decimal digits
-decimal_small n h = rw (lt-ltb n 10 h)
+-- the digits before the last: none, or those of a tenth
+abbrev pub front : ℕ → List ℕ
+front n = cond (ltb n 10) [] (decimal (n / 10))
 
-decimal_tenth : (n : ℕ) → 10 ≤ n → decimal n ≡ digits n (n / 10) ++ ((48 + n % 10) ∷ [])
-unfolding decimal digits
-decimal_tenth n h = rw (le-ltb n 10 h)
+pub front_small : (n : ℕ) → n < 10 → front n ≡ []
+front_small n h = rw (lt-ltb n 10 h) refl
 
-pub decimal_large : (n : ℕ) → 10 ≤ n → decimal n ≡ decimal (n / 10) ++ ((48 + n % 10) ∷ [])
-decimal_large n h =
-    let more : suc (n / 10) + (n - suc (n / 10)) ≡ n = omega arith in
-    decimal_tenth n h
-    ∙ ap (λ (k : ℕ). digits k (n / 10) ++ ((48 + n % 10) ∷ [])) (sym more)
-    ∙ ap (λ (d : List ℕ). d ++ ((48 + n % 10) ∷ [])) (digits_enough (n - suc (n / 10)) (n / 10))
+pub front_large : (n : ℕ) → 10 ≤ n → front n ≡ decimal (n / 10)
+front_large n h = rw (le-ltb n 10 h) refl
 
-module _ (n at : ℕ) (o : List ℕ) (room : Room (decimal n) at o) where
-  module _ (h : n < 10) where
-    pub small_inside : at < length o
-    small_inside = place_inside (48 + n) [] at o (room_same at o (decimal_small n h) room)
-
-    pub small_puts : Puts (decimal n) o at (at + 1) (set o at (48 + n))
-    small_puts = puts_same (decimal_small n h) (puts_one o at (48 + n) small_inside)
-
-  module _ (h : 10 ≤ n) where
-    both : Room (decimal (n / 10) ++ ((48 + n % 10) ∷ [])) at o
-    both = room_same at o (decimal_large n h) room
-
-    pub large_first : Room (decimal (n / 10)) at o
-    large_first = room_first (decimal (n / 10)) ((48 + n % 10) ∷ []) at o both
-
-    pub large_inside : {r : ℕ} {o' : List ℕ} → Puts (decimal (n / 10)) o at r o' → r < length o'
-    large_inside {r} {o'} p = place_inside (48 + n % 10) [] r o' (room_next (decimal (n / 10)) ((48 + n % 10) ∷ []) at o both p)
-
-    pub large_puts : {r : ℕ} {o' : List ℕ} → Puts (decimal (n / 10)) o at r o' → Puts (decimal n) o at (r + 1) (set o' r (48 + n % 10))
-    large_puts {r} {o'} p = puts_same (decimal_large n h) (puts_then large_first p (puts_one o' r (48 + n % 10) (large_inside p)))
+pub decimal_front : (n : ℕ) → n < 2 ^ 64 → decimal n ≡ front n ++ ((48 + n % 10) ∷ [])
+decimal_front n h = by_order (lt_or_ge n 10)
+  where
+    by_order : (n < 10) ⊎ (10 ≤ n) → decimal n ≡ front n ++ ((48 + n % 10) ∷ [])
+    by_order (inl s) =
+        let last : n % 10 ≡ n = omega arith in
+        decimal_known n h ∙ decimal_digit n s ∙ ap (λ (d : ℕ). (48 + d) ∷ []) (sym last) ∙ ap (λ (l : List ℕ). l ++ ((48 + n % 10) ∷ [])) (sym (front_small n s))
+    by_order (inr l) =
+        let tenth : decimal (n / 10) ≡ known (n / 10) = decimal_known (n / 10) (omega arith) in
+        decimal_known n h ∙ decimal_step n l h ∙ ap (λ (d : List ℕ). d ++ ((48 + n % 10) ∷ [])) (sym (front_large n l ∙ tenth))

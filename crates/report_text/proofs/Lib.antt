@@ -1,8 +1,6 @@
-pub mod Circuits
 pub mod Decimals
 pub mod Elements
 pub mod Lengths
-pub mod Lines
 pub mod Pieces
 pub mod Readings
 pub mod Sizes

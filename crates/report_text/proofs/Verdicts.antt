@@ -1,17 +1,13 @@
 -- The text of a verdict (specs/Text.antt, specs/Putting.antt).
 --
---   told_refused, told_alike, told_done   what each verdict prints
---   printed_done                          and what is known of a report
---   count_inside                          a signature counts no more entries than it has
---   taken_length                          and so many are taken
---   exit_text, verdict_printed            what a verdict prints, by what the call answers and leaves
---   refused_printed                       the line of a refusal
+--   printed_done                 what is known where a signature is chosen
+--   exit_text, verdict_printed   what a verdict prints, by what the call answers and leaves
+--   refused_printed              the line of a refusal
 use Prim.Native.Nat.{ℕ, zero, suc, ◌≤◌}
 use native.Mathlib.Omega.{arith}
-use mathlib.Core.Path.{◌≡◌, refl, sym, ap, subst, ◌∙◌}
+use mathlib.Core.Path.{◌≡◌, refl, sym, subst}
 use mathlib.Core.List.{List}
-use lib.ListN.{length, take}
-use lib.Seq.{length-take-le}
+use lib.ListN.{length}
 use Rattle.bits.specs.Answer.{number}
 use Rattle.bits.specs.declared.Refusal.{Refusal}
 use Rattle.bits.specs.declared.Refusal.TheVariants as refusals
@@ -19,7 +15,6 @@ use Rattle.tables.specs.declared.Counts.{Counts}
 use Rattle.spectra.specs.Listed.{Entry, entries_at}
 use Rattle.method.specs.Method.{Pair}
 use Rattle.method.specs.Method.Pair.{nobody, pair}
-use Rattle.chooser.specs.Matrix.{max_signature}
 use Rattle.choosing.specs.Choosing.{AtExit, verdict_number, verdict_pair}
 use Rattle.choosing.specs.declared.Signature.{Signature}
 use Rattle.choosing.specs.declared.Verdict.{Verdict}
@@ -31,30 +26,9 @@ use Rattle.report_text.specs.Text.{refused_line, alike_line}
 abbrev listed : Signature → List Entry
 listed signature = entries_at (index_list signature) (output_list signature)
 
-module _ (v : Verdict) (counts : Counts) (signature : Signature) (work : List ℕ) where
-  abbrev text : List ℕ
-  text = verdict_text v counts signature work
-
-  pub told_refused : {cause : Refusal} {i : ℕ} → v ≡ Refused cause → i ≡ number cause → text ≡ refused_line i
-  told_refused {cause} {i} e n = ap (λ (x : Verdict). verdict_text x counts signature work) e ∙ ap refused_line (sym n)
-
-  pub told_alike : {a b : ℕ} → v ≡ Alike a b → text ≡ alike_line a b
-  told_alike e = ap (λ (x : Verdict). verdict_text x counts signature work) e
-
-  module _ (e : v ≡ Done) where
-    pub told_done : text ≡ work_text counts (listed signature) work
-    told_done = ap (λ (x : Verdict). verdict_text x counts signature work) e
-
-    pub printed_done : Printable v counts signature (length work) → Printable Done counts signature (length work)
-    printed_done h = subst (λ (x : Verdict). Printable x counts signature (length work)) e h
-
--- of its indices, and of its outputs
-module _ (list : List ℕ) (count : ℕ) (e : length list ≡ max_signature) (h : count ≤ max_signature) where
-  pub count_inside : count ≤ length list
-  count_inside = omega arith
-
-  pub taken_length : count ≡ length (take count list)
-  taken_length = sym (length-take-le count list count_inside)
+pub printed_done : {v : Verdict} (counts : Counts) (signature : Signature) (work : List ℕ) → v ≡ Done
+    → Printable v counts signature (length work) → Printable Done counts signature (length work)
+printed_done counts signature work e h = subst (λ (x : Verdict). Printable x counts signature (length work)) e h
 
 -- ---- by what the call answers and leaves
 

@@ -4,14 +4,15 @@
 --   prints_isolated     it prints the report's text
 --   text_bounded        every text fits in the most bytes
 --   verdict_printable   so the verdict that tells it can be printed
---   verdict_room        there is room for its text
+--   verdict_fits        there is room for its text
 --   reported_written, reported_short   what is written, with room and without
 use Prim.Native.Nat.{ℕ, ◌+◌, ◌*◌, ◌^◌, ◌≤◌, ◌<◌}
 use native.Mathlib.Omega.{arith}
-use native.Mathlib.Nat.{zero-add, le_trans, mul_assoc}
+use native.Mathlib.Nat.{le_trans, mul_assoc}
 use mathlib.Core.Path.{◌≡◌, refl, sym, ap, ap₂, subst, ◌∙◌}
 use mathlib.Core.Bool.{Bool, true, false}
 use mathlib.Core.List.{List, ◌++◌}
+use Rattle.std.proofs.Common.{Some, None}
 use borrow.Author.Tests.{le-leb, lt-leb}
 use lib.Dec.{leb}
 use lib.ListN.{length, drop, length-append, length-map}
@@ -43,9 +44,9 @@ use Rattle.choosing.specs.declared.Verdict.TheVariants.{Done, Alike, Refused}
 use Rattle.choosing.proofs.Bound.{signature_below}
 use Rattle.choosing.proofs.Sizes.{faults_entries}
 use Rattle.locating.specs.Scanning.{RowsIn}
-use Rattle.report_text.specs.Putting.{Puts, Room, Printable, work_text, index_list, output_list, verdict_text}
+use Rattle.report_text.specs.Putting.{Puts, Printable, work_text, index_list, output_list, verdict_text}
 use Rattle.report_text.specs.Text.{refused_line, finding_text, chosen_text, report_by, report_text, work_left, max_text, reported}
-use Rattle.report_text.specs.declared.Reported.TheVariants.{Written, Short}
+use Rattle.report_text.specs.declared.Writer.{Writer}
 use Rattle.report_text.proofs.Lengths.{refused_short, signature_few, job_short, alike_short}
 use Rattle.report_text.proofs.Readings.{work_text_lem}
 use Rattle.report_text.proofs.Verdicts.{exit_text, refused_printed, verdict_printed}
@@ -186,22 +187,23 @@ module _ (s work : List ℕ) (v : Verdict) (counts : Counts) (signature : Signat
       by_verdict (Refused i) h = tt
 
   module _ (out : List ℕ) (enough : max_text ≤ length out) where
-    pub verdict_room : Room text 0 out
-    verdict_room =
+    pub verdict_fits : 0 + length text ≤ length out
+    verdict_fits =
         let short : length text ≤ max_text = subst (λ (t : List ℕ). length t ≤ max_text) (sym text_whole) (text_bounded s work) in
         omega arith
 
-    pub reported_written : {end : ℕ} {out' : List ℕ} → Puts text out 0 end out'
-        → record { answer = Written end; work = memory; text = out' } ≡ reported s work out
+    -- from no text on
+    pub reported_written : {before after : Writer} {left : List ℕ} → before.len ≡ 0 → before.out.now ≡ out → Puts text before after → left ≡ after.out.now
+        → record { answer = Some after.len; work = memory; text = left } ≡ reported s work out
     unfolding reported
-    reported_written {end} {out'} p =
-        (λ i. record {
-          answer = Written ((p.ends ∙ zero-add (length text) ∙ ap length text_whole) i);
-          work = memory_left i;
-          text = (p.stands ∙ ap (splice out 0) text_whole) i;
-        })
+    reported_written {before} {after} {left} none same p last =
+        let whole : length text ≡ length (report_text s (length work)) = ap length text_whole in
+        let ends : after.len ≡ length (report_text s (length work)) = omega arith in
+        let stands : left ≡ splice out 0 (report_text s (length work)) =
+        last ∙ p.stands ∙ ap₂ (λ (o : List ℕ) (n : ℕ). splice o n text) same none ∙ ap (splice out 0) text_whole in
+        (λ i. record { answer = Some (ends i); work = memory_left i; text = stands i })
         ∙ rw (le-leb max_text (length out) enough)
 
-pub reported_short : (s work out : List ℕ) → length out < max_text → record { answer = Short; work = work; text = out } ≡ reported s work out
+pub reported_short : (s work out : List ℕ) → length out < max_text → record { answer = None; work = work; text = out } ≡ reported s work out
 unfolding reported
 reported_short s work out h = rw (lt-leb max_text (length out) h)

@@ -1,7 +1,7 @@
 -- Kept by the code: what the functions write that put text into lent bytes.
 --
---   Puts          a text stands from a place on, and all else is as it was; the answer is the place after it
---   Room          there is room for a text from a place on
+--   Puts          a text stands behind what stood there, and all else is as it was
+--   Room          there is room for a text
 --   work_text     the text of a job, its circuits' numbers read off the work
 --   verdict_text  the text of a verdict
 --   Printable     it can be printed from the work
@@ -15,17 +15,31 @@ use Rattle.choosing.specs.declared.Signature.{Signature}
 use Rattle.choosing.specs.declared.Verdict.{Verdict}
 use Rattle.choosing.specs.declared.Verdict.TheVariants.{Done, Alike, Refused}
 use Rattle.locating.specs.Scanning.{work_numbers, RowsIn}
+use Rattle.report_text.specs.declared.Rows.{Rows}
+use Rattle.report_text.specs.declared.Writer.{Writer}
 use Rattle.report_text.specs.Text.{counts_line, signature_line, circuit_lines, refused_line, alike_line}
 
-pub record Puts (text before : List ℕ) (at : ℕ) (end : ℕ) (after : List ℕ) : Type 0 where
-  pub ends : end ≡ at + length text
-  pub stands : after ≡ splice before at text
+pub record Puts (text : List ℕ) (before after : Writer) : Type 0 where
+  pub same_bytes : after.out.ghost_name ≡ before.out.ghost_name
+  pub kept : length after.out.now ≡ length before.out.now
+  pub inside : after.len ≤ length after.out.now
+  pub ends : after.len ≡ before.len + length text
+  pub stands : after.out.now ≡ splice before.out.now before.len text
 
-abbrev pub Room : List ℕ → ℕ → List ℕ → Type 0
-Room text at out = at + length text ≤ length out
+abbrev pub Room : List ℕ → Writer → Type 0
+Room text w = w.len + length text ≤ length w.out.now
 
 abbrev pub work_text : Counts → List Entry → List ℕ → List ℕ
 work_text counts list work = counts_line counts ++ signature_line list ++ circuit_lines (work_numbers work counts list) (counts.faults + 1)
+
+abbrev pub list_of : Rows → List Entry
+list_of r = entries_at r.indices.now r.outputs.now
+
+abbrev pub numbers_of : Rows → ℕ → List ℕ
+numbers_of r = work_numbers r.work.now r.counts (list_of r)
+
+abbrev pub text_of : Rows → List ℕ
+text_of r = work_text r.counts (list_of r) r.work.now
 
 abbrev pub index_list : Signature → List ℕ
 index_list s = take s.count s.indices

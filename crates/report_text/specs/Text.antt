@@ -9,7 +9,7 @@
 --   report_text     the text for the bytes of a job
 --   max_text        no text is longer
 --   reported        what is written where
-use Rattle.std.specs.Prelude.{ℕ, zero, suc, ◌+◌, ◌*◌, ◌/◌, ◌%◌, cond, List, [], ◌∷◌, ◌++◌, leb, ltb, length}
+use Rattle.std.specs.Prelude.{ℕ, zero, suc, Option, Some, None, ◌+◌, ◌*◌, ◌/◌, ◌%◌, cond, List, [], ◌∷◌, ◌++◌, leb, ltb, length}
 use Rattle.bits.specs.Answer.{Answer, Fills, leaves}
 use Rattle.bits.specs.Answer.Answer.{gives, refused}
 use Rattle.bits.specs.Slices.{splice}
@@ -24,8 +24,6 @@ use Rattle.spectra.specs.declared.Kind.TheVariants.{Mrm}
 use Rattle.choosing.specs.Choosing.{Finding, chosen_from, chosen_of}
 use Rattle.choosing.specs.Choosing.Finding.{chosen, alike}
 use Rattle.choosing.specs.declared.Purpose.TheVariants.{Isolating}
-use Rattle.report_text.specs.declared.Reported.{Reported}
-use Rattle.report_text.specs.declared.Reported.TheVariants.{Written, Short}
 
 abbrev pub space : ℕ
 space = 32
@@ -133,7 +131,7 @@ unfoldable pub max_text : ℕ
 max_text = 28 + (10 + 6 * max_faults) + (max_faults + 1) * (3 + 4 * max_faults)
 
 pub record Report : Type 0 where
-  pub answer : Reported
+  pub answer : Option ℕ
   pub work : List ℕ
   pub text : List ℕ
 
@@ -142,8 +140,8 @@ unfoldable pub reported : List ℕ → List ℕ → List ℕ → Report
 reported s work out =
     cond (leb max_text (length out))
     (record {
-      answer = Written (length (report_text s (length work)));
+      answer = Some (length (report_text s (length work)));
       work = work_left s work;
       text = splice out 0 (report_text s (length work));
     })
-    (record { answer = Short; work = work; text = out })
+    (record { answer = None; work = work; text = out })

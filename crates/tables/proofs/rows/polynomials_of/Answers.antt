@@ -1,6 +1,0 @@
--- `tables::rows::polynomials_of` meets its contract: each turn works out the polynomial of one kind.
-use Rattle.tables.proofs.Polynomials.{forming_none}
-use Rattle.tables.proofs.rows.polynomials_of.Goals as goal
-
-pub loop-kind-init : goal.loop-kind-init
-loop-kind-init c = forming_none c.args.mask

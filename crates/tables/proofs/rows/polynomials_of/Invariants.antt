@@ -1,6 +1,0 @@
--- `tables::rows::polynomials_of` meets its contract: each turn works out the polynomial of one kind.
-use Rattle.tables.proofs.Polynomials.{Forming}
-use Rattle.tables.proofs.rows.polynomials_of.Given as goal
-
-abbrev pub invariant-loop-kind : goal.invariant-loop-kind
-invariant-loop-kind l = Forming l.mask l.polynomial-items l.kind
