@@ -7,26 +7,24 @@
 
 ghost use Rattle.std.specs.Prelude.{◌+◌, ◌<◌, ◌≡◌, length, IfSome};
 ghost use Rattle.bits.specs.Answer.{outcome, leaves};
-ghost use Rattle.bits.specs.Answer.Answer.{gives};
 ghost use Rattle.bits.specs.Passing.{passing};
 ghost use Rattle.tables.specs.Operations.{part_in};
 ghost use Rattle.spectra.specs.Listed.{entries_at};
 ghost use Rattle.spectra.specs.Operations.{same_numbers, from_tables};
-ghost use Rattle.locating.specs.Locating.{prepared_by, lengths_ok, located_from, located_of, located_told, location};
+ghost use Rattle.locating.specs.Locating.{prepared_by, lengths_ok, located_from, located_of, location_of, located_told, location};
 ghost use Rattle.locating.specs.Scanning.{joined_to, location_by, numbers_at, work_agrees, Within, RowsIn};
 
-use bits::{Outcome, Refusal};
+use bits::Refusal;
 use spectra::Kind;
 use tables::{ALL_TABLES_BYTES, Counts};
 
 // The part of all agreeing circuits and the lowest of them; the lowest agreeing circuit and how many agree, where they
-// have several parts; none agrees; or the refusal.
-#[derive(Clone, Copy)]
+// have several parts; or none agrees.
+#[derive(Clone, Copy, Debug, PartialEq, Eq)]
 pub enum Located {
     Part(usize, usize),
     Several(usize, usize),
     Nowhere,
-    Refused(Refusal),
 }
 
 // Agreeing circuits: the lowest, how many they are, and the part of all of them, if they have one.
@@ -79,7 +77,7 @@ fn joined(seen: Option<Agreeing>, c: usize, part: u8) -> Agreeing
 
 // What the agreeing circuits tell.
 fn told(seen: Option<Agreeing>) -> Located
-    ensures { located_told result ≡ gives (location_by seen) }
+    ensures { location_of result ≡ location_by seen }
 {
     match seen {
         None => Located::Nowhere,
@@ -93,7 +91,7 @@ fn told(seen: Option<Agreeing>) -> Located
 // Which of the counted circuits, whose rows of the work have N numbers an output, agree with the readings.
 fn scan(work: &[u16], counts: Counts, indices: &[u16], outputs: &[u16], readings: &[u16]) -> Located
     requires { RowsIn counts indices.now outputs.now (length work.now) × (length indices.now ≡ length readings.now) }
-    ensures { located_told result ≡ gives (location (part_in counts.parts) (passing (work_agrees work.now counts (entries_at indices.now outputs.now) readings.now) (counts.faults + 1))) }
+    ensures { location_of result ≡ location (part_in counts.parts) (passing (work_agrees work.now counts (entries_at indices.now outputs.now) readings.now) (counts.faults + 1)) }
 {
     let size = bits::table_size(counts.inputs);
     let width = counts.outputs * size;
@@ -117,25 +115,22 @@ pub fn prepare(
     outputs: &[u16],
     paired: bool,
     work: &mut [u16],
-) -> Outcome
+) -> Result<(), Refusal>
     ensures { record { answer = outcome result; memory = work.new } ≡ leaves (from_tables counts tables.now (λ F. prepared_by paired F kind polarity indices.now outputs.now (length work.old))) work.old }
 {
-    let checked = spectra::check_tables(counts, tables);
-    if let Outcome::Refused(cause) = checked {
-        return Outcome::Refused(cause);
-    }
+    spectra::check_tables(counts, tables)?;
     let size = bits::table_size(counts.inputs);
     if size <= polarity {
-        return Outcome::Refused(Refusal::Polarity);
+        return Err(Refusal::Polarity);
     }
     if !bits::all_below(indices, size) {
-        return Outcome::Refused(Refusal::Index);
+        return Err(Refusal::Index);
     }
     if !bits::all_below(outputs, counts.outputs) {
-        return Outcome::Refused(Refusal::OutputNumber);
+        return Err(Refusal::OutputNumber);
     }
     if !paired {
-        return Outcome::Refused(Refusal::Readings);
+        return Err(Refusal::Readings);
     }
     spectra::fill(counts, tables, kind, polarity, work)
 }
@@ -157,17 +152,14 @@ pub fn locate_tables(
     outputs: &[u16],
     readings: &[u16],
     work: &mut [u16],
-) -> Located
+) -> Result<Located, Refusal>
     ensures { record { answer = located_told result; memory = work.new } ≡ leaves (from_tables counts tables.now (λ F. located_from F kind polarity indices.now outputs.now readings.now (length work.old))) work.old }
 {
     let paired = lengths_ok(indices, outputs, readings);
-    let outcome = prepare(
+    prepare(
         counts, tables, kind, polarity, indices, outputs, paired, work,
-    );
-    match outcome {
-        Outcome::Refused(cause) => Located::Refused(cause),
-        Outcome::Done => scan(work, counts, indices, outputs, readings),
-    }
+    )?;
+    Ok(scan(work, counts, indices, outputs, readings))
 }
 
 // Which circuits of a job agree with readings at a list of entries; the work then holds the spectra of all circuits.
@@ -179,26 +171,20 @@ pub fn locate(
     outputs: &[u16],
     readings: &[u16],
     work: &mut [u16],
-) -> Located
+) -> Result<Located, Refusal>
     ensures { record { answer = located_told result; memory = work.new } ≡ leaves (located_of bytes.now kind polarity indices.now outputs.now readings.now (length work.old)) work.old }
 {
     let mut packed = [0u8; ALL_TABLES_BYTES];
-    let delivery = tables::tables(bytes, &mut packed);
-    let outcome = delivery.outcome;
-    match outcome {
-        Outcome::Refused(cause) => Located::Refused(cause),
-        Outcome::Done => {
-            let end = delivery.bytes;
-            locate_tables(
-                delivery.counts,
-                &packed[..end],
-                kind,
-                polarity,
-                indices,
-                outputs,
-                readings,
-                work,
-            )
-        }
-    }
+    let delivery = tables::tables(bytes, &mut packed)?;
+    let tables = &packed[..delivery.bytes];
+    locate_tables(
+        delivery.counts,
+        tables,
+        kind,
+        polarity,
+        indices,
+        outputs,
+        readings,
+        work,
+    )
 }
