@@ -3,4 +3,4 @@ use Rattle.gates.proofs.Words.{word_put}
 use Rattle.gates.proofs.step.put_word.Goals as goal
 
 pub returns : goal.returns
-returns c = word_put c.args.bytes.now c.args.at c.args.word c.requires
+returns c = word_put c.args.rows.now c.args.to c.args.word c.requires
