@@ -2,12 +2,12 @@
 --
 --   tabulated   a list of a function's values
 --   put_back    a part that was written, between what stands before it and behind it
-use Prim.Native.Nat.{ℕ, ◌+◌, ◌-◌, ◌≤◌, ◌<◌}
+use Prim.Native.Nat.{ℕ, ◌+◌, ◌<◌}
 use native.Mathlib.Omega.{arith}
-use mathlib.Core.Path.{◌≡◌, sym, ap, ap₂, ◌∙◌}
+use mathlib.Core.Path.{◌≡◌, sym, ap, ◌∙◌}
 use mathlib.Core.List.{List, ◌++◌, append_assoc}
-use lib.ListN.{length, get_or, take, drop, length-drop}
-use lib.Seq.{length-take-le, ext_get_or, get_or-take, get_or-drop, drop-drop}
+use lib.ListN.{length, get_or, take, drop}
+use lib.Seq.{ext_get_or, drop-drop}
 use Rattle.bits.specs.Packed.{tabulate}
 use Rattle.bits.specs.Slices.{splice}
 use Rattle.bits.proofs.Packed.{length_tabulate, tabulate_at}

@@ -8,7 +8,7 @@
 --   words_put        two words of it, side by side
 --   step_more        so many bytes more of it, from the rows as they are by then
 --   places_more      the same at places so much further on
-use Prim.Native.Nat.{ℕ, zero, suc, ◌+◌, ◌-◌, ◌≤◌, ◌<◌}
+use Prim.Native.Nat.{ℕ, zero, suc, ◌+◌, ◌≤◌, ◌<◌}
 use native.Mathlib.Nat.{add-zero, add_assoc}
 use native.Mathlib.Numerals.{add-one}
 use native.Mathlib.Omega.{arith}

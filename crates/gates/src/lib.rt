@@ -32,7 +32,7 @@ const ANSWERS: [[u8; 4]; 8] = [
 ];
 
 // A gate's answers over packed bytes, as the polynomial constant ^ (first & x) ^ (second & y) ^ (both & x & y).
-#[derive(Clone, Copy)]
+#[derive(Clone, Copy, Debug, PartialEq, Eq)]
 pub struct Polynomial {
     pub constant: u8,
     pub first: u8,

@@ -8,4 +8,4 @@ pub returns : goal.returns
 returns c =
     let rows = c.args.rows.now in
     let p = c.args.places in
-    c.put_word.ensures ∙ ap (splice rows p.to) (word_stepped c.args.polynomial p.x p.y rows c.word_at.ensures c.word_at-2.ensures c.word_step-word.ensures)
+    c.put.ensures ∙ ap (splice rows p.to) (word_stepped c.args.polynomial p.x p.y rows c.at.ensures c.at-2.ensures c.word_step-word.ensures)

@@ -12,7 +12,7 @@ returns c =
     let rows = c.args.rows.now in
     let p = c.args.places in
     let f = c.args.polynomial in
-    c.put_word-2.ensures ∙ ap (λ (l : List ℕ). splice l (p.to + 8) (bytes_of c.word_step-other.result)) c.put_word.ensures
+    c.put-2.ensures ∙ ap (λ (l : List ℕ). splice l (p.to + 8) (bytes_of c.word_step-other.result)) c.put.ensures
     ∙ words_put f p.x p.y p.to rows c.requires.2
-    (word_stepped f p.x p.y rows c.word_at.ensures c.word_at-2.ensures c.word_step-one.ensures)
-    (word_stepped f (p.x + 8) (p.y + 8) rows c.word_at-3.ensures c.word_at-4.ensures c.word_step-other.ensures)
+    (word_stepped f p.x p.y rows c.at.ensures c.at-2.ensures c.word_step-one.ensures)
+    (word_stepped f (p.x + 8) (p.y + 8) rows c.at-3.ensures c.at-4.ensures c.word_step-other.ensures)

@@ -20,8 +20,8 @@ returns-clause-done c =
     let f = c.args.polynomial in
     let p = c.args.places in
     elim c.if-words-eq1.branch [
-      then-words-eq1 w ↦
-        w.rows-is
-        ∙ (places_more f p c.requires c.loop-pair.invariant w.further-then-words-eq1.ensures (omega arith) 8 w.one_word.ensures (omega arith) (omega arith)).so_far
-    | else-words-eq1 w ↦ w.rows-is ∙ c.loop-pair.invariant.so_far ∙ ap (λ (n : ℕ). stepped f p n c.args.rows.now) (omega arith)
+      | then-words-eq1 w ↦
+          w.rows-is
+          ∙ (places_more f p c.requires c.loop-pair.invariant w.further-then-words-eq1.ensures (omega arith) 8 w.one_word.ensures (omega arith) (omega arith)).so_far
+      | else-words-eq1 w ↦ w.rows-is ∙ c.loop-pair.invariant.so_far ∙ ap (λ (n : ℕ). stepped f p n c.args.rows.now) (omega arith)
     ]
