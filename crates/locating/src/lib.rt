@@ -1,6 +1,7 @@
 // A unit located from its readings (document 01, "Locating"; document 02, CR 3).
 //
-// The list is lent as its indices and its outputs. `prepare` has the checks and fills the work: 13, 16, 20 and 17 come
+// The list is lent as its indices and its outputs, two slices as C lends them, and they are handed on so: a struct of both
+// would only lengthen each clause that names them. `prepare` has the checks and fills the work: 13, 16, 20 and 17 come
 // before 10, so they are judged before the spectra are made; 16 over all indices, then 20 over all outputs, then 17.
 // Then each circuit's coefficients at the entries are compared with the readings.
 #![tactic(auto)]

@@ -6,6 +6,9 @@ use Rattle.locating.proofs.agrees.Goals as goal
 pub loop-i-init : goal.loop-i-init
 loop-i-init c = compared_none c.args.work.now c.requires.0 c.args.readings.now c.requires.1
 
+pub loop-i-preserved : goal.loop-i-preserved
+loop-i-preserved c = compared_more c.args.work.now c.requires.0 c.args.readings.now c.requires.1 c.loop-i-test.true c.loop-i.invariant c.if-work-start.false
+
 pub overflow_mul-place : goal.overflow_mul-place
 overflow_mul-place c = omega (arith, read_inside c.args.readings.now c.requires c.loop-i-test.true)
 
@@ -23,9 +26,6 @@ bounds-work-start c = read_inside c.args.readings.now c.requires c.loop-i-test.t
 
 pub returns-then-work-start : goal.returns-then-work-start
 returns-then-work-start c = compared_stop c.args.work.now c.requires.0 c.args.readings.now c.requires.1 c.loop-i-test.true c.loop-i.invariant c.if-work-start.true
-
-pub loop-i-preserved : goal.loop-i-preserved
-loop-i-preserved c = compared_more c.args.work.now c.requires.0 c.args.readings.now c.requires.1 c.loop-i-test.true c.loop-i.invariant c.if-work-start.false
 
 pub returns : goal.returns
 returns c = compared_all c.args.work.now c.requires.0 c.args.readings.now c.requires.1 c.loop-i.invariant c.loop-i-test.false
