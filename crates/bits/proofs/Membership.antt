@@ -249,12 +249,13 @@ pub later_word : {set : ℕ} → set < 2 ^ 64 → later set < 2 ^ 64
 unfolding later
 later_word {set} h = lt_of_le_of_lt (and_le_l set (set - 1)) h
 
+pub first_below : {set low others : ℕ} → First set low others → low < max_members
+unfolding max_members
+first_below f = f.below
+
 module _ {set low others : ℕ} (few : set < 2 ^ 64) (f : First set low others) where
   pub first_member : has set low ≡ true
   first_member = ap (has set) f.least ∙ (set_lowest set few (set_some f.some)).member
-
-  pub first_below : low < max_members
-  first_below = low_below few f.some f.least
 
   pub first_others : (k : ℕ) → has others k ≡ has set k && not (eqb low k)
   first_others k = ap (λ (n : ℕ). has n k) f.rest ∙ set_later set k few ∙ ap (λ (n : ℕ). has set k && not (eqb n k)) (sym f.least)

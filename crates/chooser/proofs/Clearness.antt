@@ -3,23 +3,25 @@
 --   pair_same        if every row has the number of its lowest partner, every pair has equal numbers
 --   Clearing         what a loop knows that has the rows of a set still to look at
 --   clearing_all, clearing_next, clearing_none   its start, its step and its end
---   clearing_row, clearing_below   the row that it looks at next
+--   clearing_row     the row that it looks at next
 --   partner_there    the lowest partner of a row has its numbers in the work
 --   clearing_stop    a row that has another number
+--   clear_all        where there is no pair, no entry tells one apart
 use Prim.Native.Nat.{ℕ, suc, ◌*◌, ◌^◌, ◌≤◌, ◌<◌}
 use native.Mathlib.Omega.{arith}
 use mathlib.Core.Path.{◌≡◌, sym, ap, subst, ◌∙◌}
-use mathlib.Core.Bool.{true, false, not}
+use mathlib.Core.Bool.{Bool, true, false, not, ◌&&◌, and-true}
 use mathlib.Core.List.{List}
 use borrow.Author.Tests.{eqb-true, eqb-false, eq-eqb, ne_eqb, not-true}
 use lib.Dec.{eqb}
-use lib.ListN.{get_or}
-use Rattle.bits.specs.Sets.{has, lowest, later, max_members}
-use Rattle.bits.proofs.Membership.{has_none, set_some, set_lowest, lowest_below, set_later, later_word}
-use Rattle.bits.proofs.Tests.{and_l, and_i, clash, by_test}
+use lib.ListN.{get_or, length}
+use Rattle.bits.specs.Sets.{has, lowest, First}
+use Rattle.bits.proofs.Membership.{has_none, first_member, first_others, first_word}
+use Rattle.bits.proofs.Tests.{and_l, clash, by_test}
+use Rattle.chooser.specs.declared.matrix.Matrix.{Matrix}
 use Rattle.chooser.specs.Pairing.{pair_of, Listed, There, Sound, equal_at, clear}
 use Rattle.chooser.proofs.CommonPairs.{none_meets}
-use Rattle.chooser.proofs.Soundness.{low_first, low_pair, alike_low, pair_listed, listed_pair, sound_meets}
+use Rattle.chooser.proofs.Soundness.{low_first, low_pair, alike_low, pair_listed, none_listed, listed_pair, sound_meets}
 
 module _ {pairs : List ℕ} (w : Sound pairs) (number : ℕ → ℕ) (low_same : (a b : ℕ) → pair_of pairs a b ≡ true → number a ≡ number (lowest (get_or pairs a 0))) where
   abbrev low : ℕ → ℕ
@@ -45,40 +47,35 @@ pub record Clearing (number : ℕ → ℕ) (pairs : List ℕ) (rows left : ℕ) 
   pub within : (c : ℕ) → has left c ≡ true → has rows c ≡ true
   pub done : (c : ℕ) → has rows c ≡ true → has left c ≡ false → number c ≡ number (lowest (get_or pairs c 0))
 
-pub clearing_all : (number : ℕ → ℕ) (pairs : List ℕ) {rows : ℕ} → rows < 2 ^ 64 → Clearing number pairs rows rows
-clearing_all number pairs h = record { word = h; within = λ c t. t; done = λ c t f. absurd (clash t f) }
+pub clearing_all : (number : ℕ → ℕ) (pairs : List ℕ) {rows left : ℕ} → rows < 2 ^ 64 → left ≡ rows → Clearing number pairs rows left
+clearing_all number pairs {rows} h e = subst (Clearing number pairs rows) (sym e) (record { word = h; within = λ c t. t; done = λ c t f. absurd (clash t f) })
 
--- what stands of a set without its lowest: that one is gone, or it was not there
-gone : (left c : ℕ) → left < 2 ^ 64 → has (later left) c ≡ false → has left c ≡ true → lowest left ≡ c
-gone left c h f t =
-    by_test (eqb (lowest left) c) (λ e. eqb-true (lowest left) c e)
-    (λ e. absurd (clash (set_later left c h ∙ and_i t (ap not e)) f))
-
-module _ {number : ℕ → ℕ} {pairs : List ℕ} {rows left : ℕ} (w : Clearing number pairs rows left) (some : left ≡ 0 → ⊥) {low : ℕ} (is : low ≡ lowest left) where
+module _ {number : ℕ → ℕ} {pairs : List ℕ} {rows left : ℕ} (w : Clearing number pairs rows left) {low after : ℕ} (f : First left low after) where
   pub clearing_row : has rows low ≡ true
-  clearing_row = ap (has rows) is ∙ w.within (lowest left) (set_lowest left w.word (set_some some)).member
+  clearing_row = w.within low (first_member w.word f)
 
-  pub clearing_below : low < max_members
-  clearing_below = subst (λ (n : ℕ). n < max_members) (sym is) (lowest_below left w.word (set_some some))
+  pub clearing_next : {partner : ℕ} → partner ≡ lowest (get_or pairs low 0) → number low ≡ number partner → Clearing number pairs rows after
+  clearing_next {partner} k e =
+      record {
+        word = first_word w.word f;
+        within = λ c t. w.within c (and_l (has left c) (not (eqb low c)) (sym (first_others w.word f c) ∙ t));
+        done = λ c t u.
+            by_test (eqb low c)
+            (λ q. subst (λ (n : ℕ). number n ≡ number (lowest (get_or pairs n 0))) (eqb-true low c q) (e ∙ ap number k))
+            (λ q. w.done c t (sym (first_others w.word f c ∙ ap (λ (x : Bool). has left c && not x) q ∙ and-true (has left c)) ∙ u));
+      }
 
-  pub clearing_next : {partner after : ℕ} → partner ≡ lowest (get_or pairs low 0) → number low ≡ number partner → after ≡ later left
-      → Clearing number pairs rows after
-  clearing_next {partner} k e f =
-      let same : number low ≡ number (lowest (get_or pairs low 0)) = e ∙ ap number k in
-      subst (Clearing number pairs rows) (sym f)
-      (record {
-        word = later_word w.word;
-        within = λ c t. w.within c (and_l (has left c) (not (eqb (lowest left) c)) (sym (set_later left c w.word) ∙ t));
-        done = λ c t f.
-            by_test (has left c)
-            (λ u. subst (λ (n : ℕ). number n ≡ number (lowest (get_or pairs n 0))) (is ∙ gone left c w.word f u) same)
-            (λ u. w.done c t u);
-      })
+pub partner_there : {matrix : Matrix} {pairs : List ℕ} {rows : ℕ} (s : Sound pairs) (l : Listed rows pairs) (c : ℕ) {partner : ℕ} → There matrix pairs → has rows c ≡ true
+    → partner ≡ lowest (get_or pairs c 0) → suc partner * matrix.width ≤ length matrix.work.now
+partner_there {matrix} {pairs} s l c t h e =
+    subst (λ (n : ℕ). suc n * matrix.width ≤ length matrix.work.now) (sym e)
+    (t.each (lowest (get_or pairs c 0)) c (s.back c (lowest (get_or pairs c 0)) (listed_pair s l c h)))
 
-pub partner_there : {pairs : List ℕ} {rows : ℕ} (s : Sound pairs) (l : Listed rows pairs) {room width : ℕ} (c : ℕ) {partner : ℕ} → There room width pairs → has rows c ≡ true
-    → partner ≡ lowest (get_or pairs c 0) → suc partner * width ≤ room
-partner_there {pairs} s l {room} {width} c t h e =
-    subst (λ (n : ℕ). suc n * width ≤ room) (sym e) (t.each (lowest (get_or pairs c 0)) c (s.back c (lowest (get_or pairs c 0)) (listed_pair s l c h)))
+-- where there is no pair, no entry tells one apart
+pub clear_all : (coef : ℕ → ℕ → ℕ) {pairs : List ℕ} {rows : ℕ} → Listed rows pairs → rows ≡ 0 → (e : ℕ) → clear coef (pair_of pairs) e ≡ true
+unfolding clear
+clear_all coef {pairs} l z e =
+    ap not (none_meets (pair_of pairs) (λ a b. not (equal_at coef e a b)) (λ a b h k t. absurd (clash t (none_listed l z a b))))
 
 module _ (coef : ℕ → ℕ → ℕ) (e : ℕ) {pairs : List ℕ} {rows : ℕ} (s : Sound pairs) (l : Listed rows pairs) where
   pub clearing_none : {left : ℕ} → Clearing (λ c. coef c e) pairs rows left → left ≡ 0 → true ≡ clear coef (pair_of pairs) e
@@ -88,7 +85,7 @@ module _ (coef : ℕ → ℕ → ℕ) (e : ℕ) {pairs : List ℕ} {rows : ℕ} 
       (λ a b h k t. ap not (eq-eqb (coef a e) (coef b e) (pair_same s (λ c. coef c e) each a b t)))))
     where
       each : (a b : ℕ) → pair_of pairs a b ≡ true → coef a e ≡ coef (lowest (get_or pairs a 0)) e
-      each a b t = w.done a (pair_listed s l a b t) (ap (λ (n : ℕ). has n a) z ∙ has_none a)
+      each a b t = w.done a (pair_listed l a b t) (ap (λ (n : ℕ). has n a) z ∙ has_none a)
 
   pub clearing_stop : (c : ℕ) {partner : ℕ} → has rows c ≡ true → partner ≡ lowest (get_or pairs c 0) → (coef c e ≡ coef partner e → ⊥)
       → false ≡ clear coef (pair_of pairs) e

@@ -4,7 +4,7 @@
 --   first_same        the first pair of more rows, where no row past a bound is in a pair
 --   first_none        where no row is in a pair, there is no first pair
 --   first_low         the first pair is the lowest row that is in a pair, and the lowest that it is paired with
---   conclude_none, conclude_pair   what is answered without a first pair, and with one
+--   first_some        the same, as the code finds it
 --   signature_agree   a needed pair agrees on the signature when it agrees on the scan
 --   choice_kept       what is concluded from the entries kept is the choice
 use Prim.Native.Nat.{ℕ, zero, suc, ◌^◌, ◌≤◌, ◌<◌}
@@ -28,13 +28,13 @@ use Rattle.method.proofs.Firsts.{first_pair_nobody, nobody_first_pair, first_pai
 use Rattle.method.proofs.Signatures.{signature_tell}
 use Rattle.method.proofs.Takes.{takes_agree}
 use Rattle.chooser.specs.Matrix.{max_rows, cell, differ, fits, signature_of, choice_by, choice_over, choice}
-use Rattle.chooser.specs.Pairing.{pair_of, base, Paired, Listed, Sound, keeps, Keeps}
+use Rattle.chooser.specs.Pairing.{pair_of, base, Paired, Listed, Sound, Leaves, keeps}
 use Rattle.std.specs.Prelude.{Result, Ok, Err}
 use Rattle.chooser.specs.declared.Signature.{Signature}
 use Rattle.chooser.specs.declared.Untold.{Untold}
 use Rattle.chooser.specs.declared.Untold.TheVariants as two
 use Rattle.chooser.proofs.KeptEntries.{signature_keeps}
-use Rattle.chooser.proofs.Soundness.{pair_below, pair_listed, listed_pair, low_first}
+use Rattle.chooser.proofs.Soundness.{none_listed, pair_below, pair_listed, listed_pair, low_first}
 
 -- ---- the first pair
 
@@ -74,14 +74,10 @@ first_same n m p q most same = go (first_pair m q) refl
         (λ x y h k t. let u = there x y h k t in r.3 x y h u.0 u.1)
         ∙ sym e
 
-module _ {rest : List ℕ} {rows : ℕ} (s : Sound rest) (l : Listed rows rest) where
-  pub first_none : rows ≡ 0 → first_pair max_rows (pair_of rest) ≡ nobody
-  first_none z =
-      nobody_first_pair max_rows (pair_of rest)
-      (λ a b h k. by_test (pair_of rest a b)
-      (λ t. absurd (clash (pair_listed s l a b t) (ap (λ (n : ℕ). has n a) z ∙ has_none a)))
-      (λ f. f))
+pub first_none : {rest : List ℕ} {rows : ℕ} → Listed rows rest → rows ≡ 0 → nobody ≡ first_pair max_rows (pair_of rest)
+first_none {rest} l z = sym (nobody_first_pair max_rows (pair_of rest) (λ a b h k. none_listed l z a b))
 
+module _ {rest : List ℕ} {rows : ℕ} (s : Sound rest) (l : Listed rows rest) where
   module _ (few : rows < 2 ^ 64) (some : 0 < rows) where
     abbrev low : ℕ
     low = lowest rows
@@ -93,7 +89,7 @@ module _ {rest : List ℕ} {rows : ℕ} (s : Sound rest) (l : Listed rows rest) 
     is_pair_lem = listed_pair s l low (set_lowest rows few some).member
 
     lowest_row : (x y : ℕ) → pair_of rest x y ≡ true → low ≤ x
-    lowest_row x y t = ⊎_elim (λ h. absurd (clash (pair_listed s l x y t) ((set_lowest rows few some).first x h))) (λ h. h) (lt_or_ge x low)
+    lowest_row x y t = ⊎_elim (λ h. absurd (clash (pair_listed l x y t) ((set_lowest rows few some).first x h))) (λ h. h) (lt_or_ge x low)
 
     above : low < high
     above =
@@ -104,7 +100,7 @@ module _ {rest : List ℕ} {rows : ℕ} (s : Sound rest) (l : Listed rows rest) 
         absurd (clash is_pair_lem (ap (pair_of rest low) e ∙ s.itself low)))
         (lt_or_ge low high)
 
-    pub first_low : first_pair max_rows (pair_of rest) ≡ pair (lowest rows) (lowest (get_or rest (lowest rows) 0))
+    first_low : first_pair max_rows (pair_of rest) ≡ pair (lowest rows) (lowest (get_or rest (lowest rows) 0))
     first_low =
         first_is max_rows (pair_of rest) low high above (pair_below s low high is_pair_lem).1 is_pair_lem
         (λ x y h k t.
@@ -115,14 +111,10 @@ module _ {rest : List ℕ} {rows : ℕ} (s : Sound rest) (l : Listed rows rest) 
         inr (e, low_first s low y (subst (λ (v : ℕ). pair_of rest v y ≡ true) (sym e) t)))
         (lt_or_ge low x))
 
-  pub conclude_none : (l : List ℕ) {s : Signature} → rows ≡ 0 → s ≡ signature_of l → ◌≡◌ {A = Result Signature Untold} (Ok s) (choice_by (first_pair max_rows (pair_of rest)) l)
-  conclude_none l z e = ap Ok e ∙ ap (λ (p : Pair). choice_by p l) (sym (first_none z))
-
-  pub conclude_pair : (l : List ℕ) {a b : ℕ} → rows < 2 ^ 64 → (rows ≡ 0 → ⊥) → a ≡ lowest rows → b ≡ lowest (get_or rest a 0)
-      → ◌≡◌ {A = Result Signature Untold} (Err (two.Pair a b)) (choice_by (first_pair max_rows (pair_of rest)) l)
-  conclude_pair l {a} {b} few some p q =
-      ap₂ (λ (x y : ℕ). choice_by (pair x y) l) p (q ∙ ap (λ (n : ℕ). lowest (get_or rest n 0)) p)
-      ∙ ap (λ (x : Pair). choice_by x l) (sym (first_low few (set_some some)))
+  pub first_some : {a b : ℕ} → rows < 2 ^ 64 → (rows ≡ 0 → ⊥) → a ≡ lowest rows → b ≡ lowest (get_or rest a 0)
+      → pair a b ≡ first_pair max_rows (pair_of rest)
+  first_some {a} {b} few some p q =
+      ap₂ pair p (q ∙ ap (λ (n : ℕ). lowest (get_or rest n 0)) p) ∙ sym (first_low few (set_some some))
 
 -- ---- the signature and the scan
 
@@ -173,11 +165,11 @@ module _ (work : List ℕ) (width rows : ℕ) (marks scan : List ℕ) where
               (λ n. simp (t, n, and-false)))
               (λ t. simp (t, and-false))
 
-      pub choice_kept : {start : ℕ} {rest entries : List ℕ} {r : Result Signature Untold} → Keeps coef pairs (keeps coef (pair_of pairs) (pair_of pairs) scan) start rest entries
-          → r ≡ choice_by (first_pair max_rows (pair_of rest)) (drop start entries) → r ≡ choice work width rows marks scan
+      pub choice_kept : {rest entries : List ℕ} {r : Result Signature Untold} → entries ≡ keeps coef (pair_of pairs) (pair_of pairs) scan
+          → Leaves pairs (agree coef entries) rest → r ≡ choice_by (first_pair max_rows (pair_of rest)) entries → r ≡ choice work width rows marks scan
       unfolding choice_over
-      choice_kept {start} {rest} w e =
+      choice_kept {rest} w left e =
           e ∙ ap₂ choice_by
-          (first_untold rest (λ a b. w.leaves.each a b ∙ ap (λ (l : List ℕ). pair_of pairs a b && agree coef l a b) kept_signature))
-          (w.stands ∙ kept_signature)
+          (first_untold rest (λ a b. left.each a b ∙ ap (λ (l : List ℕ). pair_of pairs a b && agree coef l a b) (w ∙ kept_signature)))
+          (w ∙ kept_signature)
           ∙ choice_over_lem

@@ -22,6 +22,7 @@ use Rattle.bits.proofs.Below.{lt_or_ge}
 use Rattle.bits.proofs.Membership.{either, has_none, has_xor, set_joined, joined_word}
 use Rattle.bits.proofs.Tests.{and_l, and_r, and_i, clash, by_test, same_test}
 use Rattle.chooser.specs.Matrix.{max_rows, differ}
+use Rattle.chooser.specs.declared.matrix.Matrix.{Matrix}
 use Rattle.chooser.specs.Pairing.{pair_of, base, max_marks, Counted, Marked, Paired, There, Sound}
 
 -- the default of a list of zeros is 0 too
@@ -250,6 +251,6 @@ module _ {rows : ℕ} {marks pairs : List ℕ} (w : Paired rows marks pairs) whe
             ∙ sym (w.each c d);
       }
 
-  pub base_there : {room width : ℕ} → rows * width ≤ room → There room width pairs
-  base_there {room} {width} h =
-      record { each = λ a b t. le_trans (mul-le-mul_right width (ltb-true a rows (low_row a b t))) h }
+  pub base_there : {matrix : Matrix} → rows * matrix.width ≤ length matrix.work.now → There matrix pairs
+  base_there {matrix} h =
+      record { each = λ a b t. le_trans (mul-le-mul_right matrix.width (ltb-true a rows (low_row a b t))) h }

@@ -1,11 +1,12 @@
 -- Only the pairs stay that an entry does not tell apart (specs/Pairing.antt, `Having`, `Narrowed`, `Leaves`).
 --
 --   Gathering        what a loop knows that gathers the rows of a set that pass a test
---   gathering_start, gathering_next, gathering_end   its start, its step and its end
+--   gathering_start, gathering_in, gathering_out, gathering_end   its start, its step for a row that passes and for another, and its end
 --   Narrowing        what a loop knows that narrows the rows of a set
 --   narrowing_start, narrowing_next, narrowing_end   its start, its step and its end
 --   Refining         what a loop knows that has the rows of a set still to refine
 --   refining_start, refining_next, refining_end      its start, its step and its end
+--   refining_sound   the pairs that are left are sound
 --   refining_row, refining_within   the rows still to refine have their numbers in the work
 --   refining_falls   each number takes rows from the set
 use Prim.Native.Nat.{ℕ, suc, ◌*◌, ◌^◌, ◌≤◌, ◌<◌}
@@ -19,12 +20,13 @@ use lib.Bits.{bit_and, bit_xor, and_le_l, xor_lt}
 use lib.Dec.{eqb}
 use lib.ListN.{length, get_or, set, length-set}
 use lib.Seq.{get_or-set_same, get_or-set_other}
-use Rattle.bits.specs.Sets.{has, lowest, later, joined, max_members}
-use Rattle.bits.proofs.Membership.{either, has_none, has_and, has_xor, set_some, set_lowest, lowest_below, set_later, later_word, set_joined, joined_word, less_falls}
+use Rattle.bits.specs.Sets.{has, lowest, joined, max_members, First}
+use Rattle.bits.proofs.Membership.{either, has_none, has_and, has_xor, set_some, set_lowest, set_joined, joined_word, less_falls, first_member, first_below, first_others, first_word}
 use Rattle.bits.proofs.Tests.{and_l, and_r, and_i, clash, by_test, same_test}
 use Rattle.chooser.specs.Matrix.{max_rows}
+use Rattle.chooser.specs.declared.matrix.Matrix.{Matrix}
 use Rattle.chooser.specs.Pairing.{pair_of, Listed, Within, There, Sound, Having, Narrowed, Leaves, equal_at}
-use Rattle.chooser.proofs.Soundness.{pair_listed, listed_within, some_word}
+use Rattle.chooser.proofs.Soundness.{pair_listed, listed_within, some_word, equal_alike, leaves_sound}
 
 -- ---- the rows that have a number
 
@@ -34,68 +36,57 @@ pub record Gathering (test : ℕ → Bool) (rows got left : ℕ) : Type 0 where
   pub within : (k : ℕ) → has left k ≡ true → has rows k ≡ true
   pub each : (k : ℕ) → has got k || (has left k && test k) ≡ has rows k && test k
 
-pub gathering_start : (test : ℕ → Bool) {rows : ℕ} → rows < 2 ^ 64 → Gathering test rows 0 rows
-gathering_start test {rows} h =
-    record {
+pub gathering_start : (test : ℕ → Bool) {rows left : ℕ} → rows < 2 ^ 64 → left ≡ rows → Gathering test rows 0 left
+gathering_start test {rows} h e =
+    subst (Gathering test rows 0) (sym e)
+    (record {
       word = h;
       got_word = omega arith;
       within = λ k t. t;
       each = λ k. ap (λ (t : Bool). t || (has rows k && test k)) (has_none k);
-    }
+    })
 
 module _ {test : ℕ → Bool} {rows got left : ℕ} (w : Gathering test rows got left) where
-  pub gathering_row : {low : ℕ} → (left ≡ 0 → ⊥) → low ≡ lowest left → has rows low ≡ true
-  gathering_row h is = ap (has rows) is ∙ w.within (lowest left) (set_lowest left w.word (set_some h)).member
+  module _ {low after : ℕ} (f : First left low after) where
+    pub gathering_row : has rows low ≡ true
+    gathering_row = w.within low (first_member w.word f)
 
-  -- what is got of a row after the lowest is looked at
-  got_next : (k : ℕ) → 0 < left → has (cond (test (lowest left)) (joined got (lowest left)) got) k ≡ has got k || (eqb (lowest left) k && test (lowest left))
-  got_next k h = go (test (lowest left))
-    where
-      go : (t : Bool) → has (cond t (joined got (lowest left)) got) k ≡ has got k || (eqb (lowest left) k && t)
-      go true =
-          set_joined got (lowest left) k (lowest_below left w.word h) ∙ ap (λ (x : Bool). has got k || x) (sym (and-true (eqb (lowest left) k)))
-      go false = sym (or_none (has got k) (eqb (lowest left) k))
-        where
-          or_none : (a b : Bool) → a || (b && false) ≡ a
-          or_none true b = refl
-          or_none false true = refl
-          or_none false false = refl
+    fewer_rows : (k : ℕ) → has after k ≡ true → has rows k ≡ true
+    fewer_rows k t = w.within k (and_l (has left k) (not (eqb low k)) (sym (first_others w.word f k) ∙ t))
 
-  gathered : {more : ℕ} → 0 < left → more ≡ cond (test (lowest left)) (joined got (lowest left)) got → Gathering test rows more (later left)
-  gathered {more} h e =
-      record {
-        word = later_word w.word;
-        got_word = subst (λ (n : ℕ). n < 2 ^ 64) (sym e) (by_test (test (lowest left)) (λ t. rw t (joined_word (lowest left) w.got_word)) (λ t. rw t w.got_word));
-        within = λ k t. w.within k (and_l (has left k) (not (eqb (lowest left) k)) (sym (set_later left k w.word) ∙ t));
-        each = λ k.
-            ap₂ (λ (x y : Bool). x || (y && test k)) (ap (λ (n : ℕ). has n k) e ∙ got_next k h) (set_later left k w.word)
-            ∙ step k ∙ w.each k;
-      }
-    where
-      here : has left (lowest left) ≡ true
-      here = (set_lowest left w.word h).member
+    pub gathering_in : test low ≡ true → Gathering test rows (joined got low) after
+    gathering_in here =
+        record {
+          word = first_word w.word f;
+          got_word = joined_word low w.got_word;
+          within = fewer_rows;
+          each = λ k.
+              ap₂ (λ (x y : Bool). x || (y && test k)) (set_joined got low k (first_below f)) (first_others w.word f k)
+              ∙ step (has got k) (eqb low k) (has left k) (test k)
+              (λ t. ap (has left) (sym (eqb-true low k t)) ∙ first_member w.word f) (λ t. ap test (sym (eqb-true low k t)) ∙ here)
+              ∙ w.each k;
+        }
+      where
+        step : (g q l t : Bool) → (q ≡ true → l ≡ true) → (q ≡ true → t ≡ true) → (g || q) || ((l && not q) && t) ≡ g || (l && t)
+        step true q l t m n = refl
+        step false true l t m n = simp (m refl, n refl)
+        step false false l t m n = simp and-true
 
-      step : (k : ℕ) → (has got k || (eqb (lowest left) k && test (lowest left))) || ((has left k && not (eqb (lowest left) k)) && test k) ≡ has got k || (has left k && test k)
-      step k =
-          by_test (eqb (lowest left) k)
-          (λ t.
-          let s : lowest left ≡ k = eqb-true (lowest left) k t in
-          let there : has left k ≡ true = ap (has left) (sym s) ∙ here in
-          same_row (has got k) (eqb (lowest left) k) (test (lowest left)) (has left k) (test k) t there (ap test s))
-          (λ f. other_row (has got k) (eqb (lowest left) k) (test (lowest left)) (has left k) (test k) f)
-        where
-          same_row : (g q s l t : Bool) → q ≡ true → l ≡ true → s ≡ t → (g || (q && s)) || ((l && not q) && t) ≡ g || (l && t)
-          same_row true q s l t p r u = refl
-          same_row false q s l t p r u = simp (p, r, u, or-false)
-
-          other_row : (g q s l t : Bool) → q ≡ false → (g || (q && s)) || ((l && not q) && t) ≡ g || (l && t)
-          other_row true q s l t p = refl
-          other_row false q s l t p = simp (p, and-true)
-
-  pub gathering_next : {low more after : ℕ} → (left ≡ 0 → ⊥) → low ≡ lowest left → more ≡ cond (test low) (joined got low) got → after ≡ later left
-      → Gathering test rows more after
-  gathering_next {low} {more} h is e f =
-      subst (Gathering test rows more) (sym f) (gathered (set_some h) (e ∙ ap (λ (n : ℕ). cond (test n) (joined got n) got) is))
+    pub gathering_out : test low ≡ false → Gathering test rows got after
+    gathering_out here =
+        record {
+          word = first_word w.word f;
+          got_word = w.got_word;
+          within = fewer_rows;
+          each = λ k.
+              ap (λ (x : Bool). has got k || (x && test k)) (first_others w.word f k)
+              ∙ step (has got k) (eqb low k) (has left k) (test k) (λ t. ap test (sym (eqb-true low k t)) ∙ here)
+              ∙ w.each k;
+        }
+      where
+        step : (g q l t : Bool) → (q ≡ true → t ≡ false) → g || ((l && not q) && t) ≡ g || (l && t)
+        step g true l t n = simp (n refl, and-false)
+        step g false l t n = simp and-true
 
   pub gathering_end : left ≡ 0 → Having test rows got
   gathering_end z = record { each = λ k. sym (none k) ∙ w.each k }
@@ -115,61 +106,58 @@ and_not : (t : Bool) → t && not t ≡ false
 and_not true = refl
 and_not false = refl
 
-pub narrowing_start : {these : ℕ} (old : List ℕ) → these < 2 ^ 64 → length old ≡ max_rows → Narrowing these old old these
-narrowing_start {these} old h l =
-    record {
+pub narrowing_start : {these left : ℕ} (old : List ℕ) → these < 2 ^ 64 → length old ≡ max_rows → left ≡ these → Narrowing these old old left
+narrowing_start {these} old h l e =
+    subst (Narrowing these old old) (sym e)
+    (record {
       word = h;
       size = l;
       within = λ a t. t;
       each = λ a. sym (ap (λ (t : Bool). cond t (bit_and (get_or old a 0) these) (get_or old a 0)) (and_not (has these a)));
-    }
+    })
 
 module _ {these : ℕ} {old pairs : List ℕ} {left : ℕ} (w : Narrowing these old pairs left) where
-  module _ (some : left ≡ 0 → ⊥) {low : ℕ} (is : low ≡ lowest left) where
-    h : 0 < left
-    h = set_some some
+  module _ {low after : ℕ} (f : First left low after) where
+    narrowing_row : low < max_rows
+    unfolding max_rows
+    narrowing_row = f.below
 
-    pub narrowing_row : low < max_rows
-    unfolding max_rows max_members
-    narrowing_row = subst (λ (n : ℕ). n < 64) (sym is) (lowest_below left w.word h)
+    here : has left low ≡ true
+    here = first_member w.word f
 
-    fewer : (a : ℕ) → has (later left) a ≡ has left a && not (eqb low a)
-    fewer a = set_later left a w.word ∙ ap (λ (n : ℕ). has left a && not (eqb n a)) (sym is)
+    fewer : (a : ℕ) → has after a ≡ has left a && not (eqb low a)
+    fewer = first_others w.word f
 
     abbrev next : List ℕ
     next = set pairs low (bit_and (get_or pairs low 0) these)
 
-    here : has left low ≡ true
-    here = ap (has left) is ∙ (set_lowest left w.word h).member
-
     was : get_or pairs low 0 ≡ get_or old low 0
     was = w.each low ∙ simp (here, and-false)
 
-    last : has (later left) low ≡ false
+    last : has after low ≡ false
     last = fewer low ∙ simp (eq-eqb low low refl, and-false)
 
-    same : get_or next low 0 ≡ cond (has these low && not (has (later left) low)) (bit_and (get_or old low 0) these) (get_or old low 0)
+    same : get_or next low 0 ≡ cond (has these low && not (has after low)) (bit_and (get_or old low 0) these) (get_or old low 0)
     same =
         get_or-set_same pairs low (bit_and (get_or pairs low 0) these) 0 (subst (λ (n : ℕ). low < n) (sym w.size) narrowing_row)
         ∙ ap (λ (n : ℕ). bit_and n these) was ∙ simp (w.within low here, last)
 
     other : (a : ℕ) → eqb low a ≡ false
-        → get_or next a 0 ≡ cond (has these a && not (has (later left) a)) (bit_and (get_or old a 0) these) (get_or old a 0)
+        → get_or next a 0 ≡ cond (has these a && not (has after a)) (bit_and (get_or old a 0) these) (get_or old a 0)
     other a f =
         get_or-set_other pairs low a (bit_and (get_or pairs low 0) these) 0 (λ (e : a ≡ low). eqb-false low a f (sym e))
         ∙ w.each a
         ∙ ap (λ (t : Bool). cond (has these a && not t) (bit_and (get_or old a 0) these) (get_or old a 0))
         (sym (fewer a ∙ ap (λ (t : Bool). has left a && not t) f ∙ and-true (has left a)))
 
-    pub narrowing_next : {after : ℕ} → after ≡ later left → Narrowing these old (set pairs low (bit_and (get_or pairs low 0) these)) after
-    narrowing_next f =
-        subst (Narrowing these old next) (sym f)
-        (record {
-          word = later_word w.word;
+    pub narrowing_next : Narrowing these old next after
+    narrowing_next =
+        record {
+          word = first_word w.word f;
           size = length-set pairs low (bit_and (get_or pairs low 0) these) ∙ w.size;
           within = λ a t. w.within a (and_l (has left a) (not (eqb low a)) (sym (fewer a) ∙ t));
           each = λ a. by_test (eqb low a) (λ t. rw (← (eqb-true low a t)) same) (other a);
-        })
+        }
 
   pub narrowing_end : left ≡ 0 → Narrowed these old pairs
   narrowing_end z =
@@ -205,7 +193,7 @@ module _ (coef : ℕ → ℕ → ℕ) (e : ℕ) {old : List ℕ} {rows : ℕ} (s
         within = λ a t. t;
         closed = λ a b t u q. u;
         stays = λ a t. refl;
-        done = λ a b f. by_test (pair_of old a b) (λ t. absurd (clash (pair_listed s l a b t) f))
+        done = λ a b f. by_test (pair_of old a b) (λ t. absurd (clash (pair_listed l a b t) f))
             (λ t. t ∙ sym (ap (λ (x : Bool). x && equal_at coef e a b) t));
       }
 
@@ -213,10 +201,10 @@ module _ (coef : ℕ → ℕ → ℕ) (e : ℕ) {old : List ℕ} {rows : ℕ} (s
     here_left : {low : ℕ} → (left ≡ 0 → ⊥) → low ≡ lowest left → has left low ≡ true
     here_left h is = ap (has left) is ∙ (set_lowest left w.word (set_some h)).member
 
-    pub refining_row : {room width low : ℕ} → There room width old → (left ≡ 0 → ⊥) → low ≡ lowest left → suc low * width ≤ room
+    pub refining_row : {matrix : Matrix} {low : ℕ} → There matrix old → (left ≡ 0 → ⊥) → low ≡ lowest left → suc low * matrix.width ≤ length matrix.work.now
     refining_row {low = low} t h is = (listed_within s l t).each low (w.within low (here_left h is))
 
-    pub refining_within : {room width : ℕ} → There room width old → Within room width left
+    pub refining_within : {matrix : Matrix} → There matrix old → Within matrix left
     refining_within t = record { each = λ c h. (listed_within s l t).each c (w.within c h) }
 
     module _ (number : ℕ) {these : ℕ} (few : these < 2 ^ 64) (got : Having (λ k. eqb (coef k e) number) left these) where
@@ -263,7 +251,7 @@ module _ (coef : ℕ → ℕ → ℕ) (e : ℕ) {old : List ℕ} {rows : ℕ} (s
             (λ u. eq-eqb (coef a e) (coef b e) (of_number a t ∙ sym (of_number b u)))
             (λ u.
             let q : coef a e ≡ coef b e = eqb-true (coef a e) (coef b e) u in
-            got.each b ∙ and_i (w.closed a b (of_left a t) (pair_listed s l b a (s.back a b p)) q) (eq-eqb (coef b e) number (sym q ∙ of_number a t)))))
+            got.each b ∙ and_i (w.closed a b (of_left a t) (pair_listed l b a (s.back a b p)) q) (eq-eqb (coef b e) number (sym q ∙ of_number a t)))))
             (λ f. ap (λ (x : Bool). x && has these b) f ∙ sym (ap (λ (x : Bool). x && equal_at coef e a b) f))
 
         pub refining_next : Refining coef e old rows next (bit_xor left these)
@@ -290,5 +278,7 @@ module _ (coef : ℕ → ℕ → ℕ) (e : ℕ) {old : List ℕ} {rows : ℕ} (s
             }
 
     pub refining_end : left ≡ 0 → Leaves old (equal_at coef e) pairs
-    refining_end z =
-        record { size = w.size; word = w.words; each = λ a b. w.done a b (ap (λ (n : ℕ). has n a) z ∙ has_none a) }
+    refining_end z = record { each = λ a b. w.done a b (ap (λ (n : ℕ). has n a) z ∙ has_none a) }
+
+    pub refining_sound : left ≡ 0 → Sound pairs
+    refining_sound z = leaves_sound (refining_end z) (equal_alike coef e) s w.size w.words

@@ -2,8 +2,9 @@
 --
 --   some_word        a set that has a number is not empty
 --   positive         a number that is not 0 is greater
+--   pair_listed      rows that are a pair are in the set of the rows that are in a pair
+--   none_listed      where that is empty, there is no pair
 --   pair_below       rows that are a pair are rows
---   pair_listed      and are in the set of the rows that are in a pair
 --   listed_pair      a row of that set is paired with the lowest row of its own set
 --   listed_within    the rows of that set have their numbers in the work
 --   low_first        no row that it is paired with is lower
@@ -11,7 +12,7 @@
 --   sound_meets      a pair that passes a test that goes both ways, whichever row is lower
 --   equal_alike      to have equal numbers at an entry is an equivalence
 --   leaves_sound, leaves_there   the pairs that remain where an equivalence holds are sound, and their rows are there
-use Prim.Native.Nat.{ℕ, ◌≤◌, ◌<◌}
+use Prim.Native.Nat.{ℕ, ◌^◌, ◌≤◌, ◌<◌}
 use native.Mathlib.Nat.{eq-zero-or-pos}
 use native.Mathlib.Omega.{arith}
 use mathlib.Core.Path.{◌≡◌, refl, sym, ap, ap₂, subst, ◌∙◌}
@@ -20,14 +21,15 @@ use mathlib.Core.Logic.{⊎_elim}
 use mathlib.Core.List.{List}
 use borrow.Author.Tests.{eqb-true, eqb-false, eq-eqb, ne_eqb, not-true}
 use lib.Dec.{eqb}
-use lib.ListN.{get_or, get_or-eq_default}
+use lib.ListN.{length, get_or, get_or-eq_default}
 use Rattle.bits.specs.Sets.{has, lowest}
 use Rattle.bits.proofs.Below.{lt_or_ge}
 use Rattle.bits.proofs.Membership.{has_none, sets_equal, set_lowest}
-use Rattle.bits.proofs.Tests.{and_l, and_r, and_i, clash, same_test}
+use Rattle.bits.proofs.Tests.{and_l, and_r, and_i, clash, by_test, same_test}
 use Rattle.method.proofs.Bound.{Alike}
 use Rattle.chooser.specs.Matrix.{max_rows}
 use Rattle.chooser.specs.Pairing.{pair_of, Listed, Within, There, Sound, Leaves, meets, equal_at}
+use Rattle.chooser.specs.declared.matrix.Matrix.{Matrix}
 use Rattle.chooser.proofs.CommonPairs.{some_meets}
 
 pub some_word : (set k : ℕ) → has set k ≡ true → 0 < set
@@ -35,6 +37,15 @@ some_word set k t = ⊎_elim (λ e. absurd (clash t (ap (λ (n : ℕ). has n k) 
 
 pub positive : (n : ℕ) → not (eqb n 0) ≡ true → 0 < n
 positive n t = ⊎_elim (λ e. absurd (eqb-false n 0 (not-true (eqb n 0) t) e)) (λ h. h) (eq-zero-or-pos n)
+
+pub pair_listed : {rows : ℕ} {pairs : List ℕ} → Listed rows pairs → (a b : ℕ) → pair_of pairs a b ≡ true → has rows a ≡ true
+unfolding pair_of
+pair_listed {pairs = pairs} l a b t =
+    l.each a ∙ ap not (ne_eqb (get_or pairs a 0) 0 (λ e. clash t (ap (λ (n : ℕ). has n b) e ∙ has_none b)))
+
+pub none_listed : {rows : ℕ} {pairs : List ℕ} → Listed rows pairs → rows ≡ 0 → (a b : ℕ) → pair_of pairs a b ≡ false
+none_listed {pairs = pairs} l z a b =
+    by_test (pair_of pairs a b) (λ t. absurd (clash (pair_listed l a b t) (ap (λ (n : ℕ). has n a) z ∙ has_none a))) (λ f. f)
 
 module _ {pairs : List ℕ} (w : Sound pairs) where
   first_below : (a b : ℕ) → pair_of pairs a b ≡ true → a < max_rows
@@ -66,16 +77,11 @@ module _ {pairs : List ℕ} (w : Sound pairs) where
       ap lowest (sets_equal 64 (get_or pairs a 0) (get_or pairs c 0) (w.word a) (w.word c) (λ d h. w.alike a b c d t u f))
 
   module _ {rows : ℕ} (l : Listed rows pairs) where
-    pub pair_listed : (a b : ℕ) → pair_of pairs a b ≡ true → has rows a ≡ true
-    unfolding pair_of
-    pair_listed a b t =
-        l.each a ∙ ap not (ne_eqb (get_or pairs a 0) 0 (λ e. clash t (ap (λ (n : ℕ). has n b) e ∙ has_none b)))
-
     pub listed_pair : (a : ℕ) → has rows a ≡ true → pair_of pairs a (lowest (get_or pairs a 0)) ≡ true
     unfolding pair_of
     listed_pair a t = (set_lowest (get_or pairs a 0) (w.word a) (positive (get_or pairs a 0) (sym (l.each a) ∙ t))).member
 
-    pub listed_within : {room width : ℕ} → There room width pairs → Within room width rows
+    pub listed_within : {matrix : Matrix} → There matrix pairs → Within matrix rows
     listed_within t = record { each = λ c h. t.each c (lowest (get_or pairs c 0)) (listed_pair c h) }
 
   pub sound_meets : (test : ℕ → ℕ → Bool) → ((a b : ℕ) → test a b ≡ true → test b a ≡ true)
@@ -109,14 +115,14 @@ module _ {pairs left : List ℕ} {test : ℕ → ℕ → Bool} (w : Leaves pairs
   pair_passes : (a b : ℕ) → pair_of left a b ≡ true → test a b ≡ true
   pair_passes a b t = and_r (pair_of pairs a b) (test a b) (sym (w.each a b) ∙ t)
 
-  pub leaves_there : {room width : ℕ} → There room width pairs → There room width left
+  pub leaves_there : {matrix : Matrix} → There matrix pairs → There matrix left
   leaves_there t = record { each = λ a b h. t.each a b (pair_was a b h) }
 
-  pub leaves_sound : Alike test → Sound pairs → Sound left
-  leaves_sound like s =
+  pub leaves_sound : Alike test → Sound pairs → length left ≡ max_rows → ((a : ℕ) → get_or left a 0 < 2 ^ 64) → Sound left
+  leaves_sound like s long words =
       record {
-        size = w.size;
-        word = w.word;
+        size = long;
+        word = words;
         back = λ a b t. w.each b a ∙ and_i (s.back a b (pair_was a b t)) (like.back a b (pair_passes a b t));
         itself = λ a. w.each a a ∙ ap (λ (t : Bool). t && test a a) (s.itself a);
         alike = λ a b c d t u f.

@@ -1,5 +1,6 @@
 -- Kept by the code: the pairs of rows that are not told apart yet, as a set of rows for each row, and the method over them.
 --
+--   numbers      the number of a row at an entry, in a matrix
 --   pair_of      two rows are a pair
 --   base         the pairs before any entry is taken: two rows whose marks differ
 --   Counted      a set has the numbers below a bound
@@ -16,14 +17,17 @@
 --   meets        some pair passes a test
 --   clear        an entry tells no pair apart
 --   keeps        what is kept of the entries from here on: taking on the way down, dropping on the way up
---   seek         the place of the first entry of a list that fails a test
---   Goes, Stays  what becomes of an entry on the way up
---   Keeps        what the recursion leaves
-use Rattle.std.specs.Prelude.{ℕ, suc, ◌+◌, ◌*◌, ◌^◌, ◌≤◌, ◌<◌, ◌≡◌, Bool, true, false, not, cond, ◌&&◌, ◌⊎◌, List, [], ◌∷◌, eqb, ltb, length, get_or, drop}
+--   pair_or_nobody   a pair that may be none, as the method's
+use Rattle.std.specs.Prelude.{ℕ, suc, ◌+◌, ◌*◌, ◌^◌, ◌≤◌, ◌<◌, ◌≡◌, Bool, true, false, not, cond, ◌&&◌, List, [], ◌∷◌, Option, Some, None, eqb, ltb, length, get_or}
 use Rattle.std.specs.Int.Bits.{bit_and}
 use Rattle.bits.specs.Sets.{has}
-use Rattle.method.specs.Method.{agree, some_below}
-use Rattle.chooser.specs.Matrix.{max_rows, max_signature, cell, differ}
+use Rattle.method.specs.Method.{agree, some_below, Pair}
+use Rattle.method.specs.Method.Pair.{nobody, pair as first_two}
+use Rattle.chooser.specs.Matrix.{max_rows, cell, differ}
+use Rattle.chooser.specs.declared.matrix.Matrix.{Matrix}
+
+abbrev pub numbers : Matrix → ℕ → ℕ → ℕ
+numbers matrix = cell matrix.work.now matrix.width
 
 unfoldable pub pair_of : List ℕ → ℕ → ℕ → Bool
 pair_of pairs a b = has (get_or pairs a 0) b
@@ -55,11 +59,11 @@ pub record Paired (rows : ℕ) (marks pairs : List ℕ) : Type 0 where
 pub record Listed (rows : ℕ) (pairs : List ℕ) : Type 0 where
   pub each : (c : ℕ) → has rows c ≡ not (eqb (get_or pairs c 0) 0)
 
-pub record Within (room width set : ℕ) : Type 0 where
-  pub each : (c : ℕ) → has set c ≡ true → suc c * width ≤ room
+pub record Within (matrix : Matrix) (set : ℕ) : Type 0 where
+  pub each : (c : ℕ) → has set c ≡ true → suc c * matrix.width ≤ length matrix.work.now
 
-pub record There (room width : ℕ) (pairs : List ℕ) : Type 0 where
-  pub each : (a b : ℕ) → pair_of pairs a b ≡ true → suc a * width ≤ room
+pub record There (matrix : Matrix) (pairs : List ℕ) : Type 0 where
+  pub each : (a b : ℕ) → pair_of pairs a b ≡ true → suc a * matrix.width ≤ length matrix.work.now
 
 pub record Sound (pairs : List ℕ) : Type 0 where
   pub size : length pairs ≡ max_rows
@@ -76,8 +80,6 @@ pub record Narrowed (set : ℕ) (pairs left : List ℕ) : Type 0 where
   pub each : (a : ℕ) → get_or left a 0 ≡ cond (has set a) (bit_and (get_or pairs a 0) set) (get_or pairs a 0)
 
 pub record Leaves (pairs : List ℕ) (test : ℕ → ℕ → Bool) (left : List ℕ) : Type 0 where
-  pub size : length left ≡ max_rows
-  pub word : (a : ℕ) → get_or left a 0 < 2 ^ 64
   pub each : (a b : ℕ) → pair_of left a b ≡ pair_of pairs a b && test a b
 
 -- a pair, the lower row first
@@ -101,37 +103,6 @@ module _ (coef : ℕ → ℕ → ℕ) where
   keeps pair all [] = []
   keeps pair all (e ∷ scan) = cond (clear pair e) (keeps pair all scan) (puts pair all e (keeps (λ a b. pair a b && equal_at e a b) all scan))
 
--- the place of the first entry of a list that fails a test, where the list starts at a place
-unfoldable pub seek : (ℕ → Bool) → List ℕ → ℕ → ℕ
-seek test [] at = at
-seek test (e ∷ scan) at = cond (test e) (seek test scan (suc at)) at
-
--- ---- the way up
-
-pub record Goes (pairs rest entries : List ℕ) (start : ℕ) (rest₁ entries₁ : List ℕ) (start₁ : ℕ) : Type 0 where
-  pub none : meets (pair_of pairs) (pair_of rest) ≡ false
-  pub place : start₁ ≡ start
-  pub same : rest₁ ≡ rest
-  pub kept : entries₁ ≡ entries
-
-pub record Stays (coef : ℕ → ℕ → ℕ) (entry : ℕ) (pairs rest entries : List ℕ) (start : ℕ) (rest₁ entries₁ : List ℕ) (start₁ : ℕ) : Type 0 where
-  pub some : meets (pair_of pairs) (pair_of rest) ≡ true
-  pub place : start₁ + 1 ≡ start
-  pub size : length entries₁ ≡ max_signature
-  pub stands : drop start₁ entries₁ ≡ entry ∷ drop start entries
-  pub leaves : Leaves rest (equal_at coef entry) rest₁
-
-abbrev pub Put : List ℕ → ℕ → ℕ → List ℕ → List ℕ → List ℕ → ℕ → List ℕ → List ℕ → ℕ → Type 0
-Put work width entry pairs rest entries start rest₁ entries₁ start₁ =
-    Goes pairs rest entries start rest₁ entries₁ start₁ ⊎ Stays (cell work width) entry pairs rest entries start rest₁ entries₁ start₁
-
--- there is room for one entry more, where it stays
-abbrev pub Room : List ℕ → List ℕ → ℕ → Type 0
-Room pairs rest start = meets (pair_of pairs) (pair_of rest) ≡ true → 1 ≤ start
-
--- what is kept stands at the end of an array, from a start on; the rest are the pairs that it leaves of all
-pub record Keeps (coef : ℕ → ℕ → ℕ) (all kept : List ℕ) (start : ℕ) (rest entries : List ℕ) : Type 0 where
-  pub within : start ≤ max_signature
-  pub size : length entries ≡ max_signature
-  pub stands : drop start entries ≡ kept
-  pub leaves : Leaves all (agree coef kept) rest
+abbrev pub pair_or_nobody : Option (ℕ × ℕ) → Pair
+pair_or_nobody (Some p) = first_two p.0 p.1
+pair_or_nobody None = nobody

@@ -4,17 +4,128 @@
 // An entry tells nothing apart where every row has the number of its lowest partner (`is_clear`), so that one
 // comparison a row decides. An entry that is taken groups the rows by their numbers, and the rows of a group stay
 // paired with each other only (`refine`).
-ghost use Rattle.std.specs.Prelude.{suc, ◌*◌, ◌≤◌, ◌<◌, ◌≡◌, true, not, cond, eqb, length, drop, replicate};
-ghost use Rattle.bits.specs.Sets.{joined};
+ghost use Rattle.std.specs.Prelude.{ℕ, ◌≤◌, ◌<◌, ◌≡◌, true, not, eqb, List, length, replicate, position};
 ghost use Rattle.bits.specs.Bounds.{all_below};
-ghost use Rattle.chooser.specs.Matrix.{cell, max_rows};
-ghost use Rattle.chooser.specs.Pairing.{pair_of, max_marks, Counted, Marked, Paired, Listed, Within, There, Sound, Having, Narrowed, Leaves, meets, equal_at, clear, seek};
+ghost use Rattle.method.specs.Method.{first_pair};
+ghost use Rattle.chooser.specs.Matrix.{max_rows};
+ghost use Rattle.chooser.specs.Pairing.{numbers, pair_of, pair_or_nobody, max_marks, Counted, Marked, Paired, Listed, Within, There, Sound, Having, Narrowed, Leaves, meets, equal_at, clear};
+
+use std::marker::Model;
 
 use crate::MAX_ROWS;
+use crate::matrix::Matrix;
 use bits::sets;
 
 // A mark is a byte.
 const MARKS: usize = 256;
+
+#[derive(Clone, Copy)]
+pub(crate) struct Pairs {
+    partners: [u64; MAX_ROWS],
+}
+
+impl Model for Pairs {
+    ghost Value = { List ℕ };
+
+    ghost view = { λ p. p.partners };
+
+    ghost invariant = { λ p. Sound p.partners };
+
+    ghost inverse = { λ l. record { partners = l } };
+}
+
+impl Pairs {
+    // Every two rows whose marks differ.
+    pub(crate) fn new(rows: usize, marks: &[u8]) -> Self
+        requires { (rows ≤ max_rows) × (rows ≤ length marks.now) }
+        ensures { Paired rows marks.now result }
+    {
+        let mut of = [0u64; MARKS];
+        let all = by_mark(rows, marks, &mut of);
+        let mut partners = [0u64; MAX_ROWS];
+        pair_others(rows, marks, &of, all, &mut partners);
+        Pairs { partners }
+    }
+
+    // The rows that are in a pair: pairs go both ways, so these are the partners of all rows.
+    fn rows(&self) -> u64
+        ensures { Listed result self.now }
+    {
+        let mut rows = 0;
+        for partners in &self.partners {
+            rows |= *partners;
+        }
+        rows
+    }
+
+    // The lowest row that is in a pair, and the lowest that it is paired with.
+    pub(crate) fn first(&self) -> Option<(usize, usize)>
+        ensures { pair_or_nobody result ≡ first_pair max_rows (pair_of self.now) }
+    {
+        let rows = self.rows();
+        if rows == 0 {
+            return None;
+        }
+        let a = sets::lowest(rows);
+        Some((a, sets::lowest(self.partners[a])))
+    }
+
+    // Whether no pair is in both.
+    pub(crate) fn is_apart_from(&self, others: &Pairs) -> bool
+        ensures { result ≡ not (meets (pair_of self.now) (pair_of others.now)) }
+    {
+        let mut both = 0;
+        for c in 0..MAX_ROWS {
+            both |= self.partners[c] & others.partners[c];
+        }
+        both == 0
+    }
+
+    // Whether an entry tells no pair apart: every row has the number of the lowest row that it is paired with.
+    fn is_clear(&self, matrix: Matrix, entry: usize, rows: u64) -> bool
+        requires { There matrix self.now × Listed rows self.now × (entry < matrix.width) }
+        ensures { result ≡ clear (numbers matrix.entry) (pair_of self.now) entry }
+    {
+        for c in sets::members_of(rows) {
+            let k = sets::lowest(self.partners[c]);
+            if matrix.cell(c, entry) != matrix.cell(k, entry) {
+                return false;
+            }
+        }
+        true
+    }
+
+    // The place of the first entry that tells a pair apart.
+    pub(crate) fn next(&self, matrix: Matrix, scan: &[u16]) -> Option<usize>
+        requires { There matrix self.now × (all_below matrix.width scan.now ≡ true) }
+        ensures { result ≡ position (λ e. not (clear (numbers matrix.entry) (pair_of self.now) e)) scan.now }
+    {
+        let rows = self.rows();
+        if rows == 0 {
+            return None;
+        }
+        for (at, entry) in scan.iter().enumerate() {
+            if !self.is_clear(matrix, *entry as usize, rows) {
+                return Some(at);
+            }
+        }
+        None
+    }
+
+    // Only the pairs stay that an entry does not tell apart: the rows that have a number there are narrowed, number after number.
+    pub(crate) fn refine(&mut self, matrix: Matrix, entry: usize)
+        requires { There matrix self.old × (entry < matrix.width) }
+        ensures { Leaves self.old (equal_at (numbers matrix.entry) entry) self.new }
+    {
+        let mut left = self.rows();
+        while left != 0 {
+            let number = matrix.cell(sets::lowest(left), entry);
+            let set = having(matrix, entry, left, number);
+            narrow(&mut self.partners, set);
+            left ^= set;
+        }
+    }
+}
 
 // Puts each row into the set of its mark. Gives the set of all rows.
 fn by_mark(rows: usize, marks: &[u8], of: &mut [u64; MARKS]) -> u64
@@ -22,12 +133,10 @@ fn by_mark(rows: usize, marks: &[u8], of: &mut [u64; MARKS]) -> u64
     ensures { Counted rows result × Marked rows marks.now of.new }
 {
     let mut all = 0;
-    let mut c = 0;
-    while c < rows {
+    for c in 0..rows {
         let mark = marks[c] as usize;
         of[mark] = sets::joined(of[mark], c);
         all = sets::joined(all, c);
-        c += 1;
     }
     all
 }
@@ -37,122 +146,21 @@ fn pair_others(rows: usize, marks: &[u8], of: &[u64; MARKS], all: u64, pairs: &m
     requires { (rows ≤ max_rows) × (rows ≤ length marks.now) × Counted rows all × Marked rows marks.now of.now × (pairs.old ≡ replicate max_rows 0) }
     ensures { Paired rows marks.now pairs.new }
 {
-    let mut c = 0;
-    while c < rows {
+    for c in 0..rows {
         pairs[c] = all ^ of[marks[c] as usize];
-        c += 1;
     }
-}
-
-// Pairs every two rows whose marks differ.
-pub(crate) fn pair_up(rows: usize, marks: &[u8], pairs: &mut [u64; MAX_ROWS])
-    requires { (rows ≤ max_rows) × (rows ≤ length marks.now) × (pairs.old ≡ replicate max_rows 0) }
-    ensures { Paired rows marks.now pairs.new }
-{
-    let mut of = [0u64; MARKS];
-    let all = by_mark(rows, marks, &mut of);
-    pair_others(rows, marks, &of, all, pairs)
-}
-
-// The rows that are in a pair: pairs go both ways, so these are the partners of all rows.
-pub(crate) fn paired(pairs: &[u64; MAX_ROWS]) -> u64
-    requires { Sound pairs.now }
-    ensures { Listed result pairs.now }
-{
-    let mut rows: u64 = 0;
-    let mut c = 0;
-    while c < MAX_ROWS {
-        rows = rows | pairs[c];
-        c += 1;
-    }
-    rows
-}
-
-// Whether no pair is in both lists.
-pub(crate) fn apart(pairs: &[u64; MAX_ROWS], others: &[u64; MAX_ROWS]) -> bool
-    requires { Sound pairs.now × Sound others.now }
-    ensures { result ≡ not (meets (pair_of pairs.now) (pair_of others.now)) }
-{
-    let mut both: u64 = 0;
-    let mut c = 0;
-    while c < MAX_ROWS {
-        both = both | (pairs[c] & others[c]);
-        c += 1;
-    }
-    both == 0
-}
-
-// The number of a row at an entry.
-fn cell(work: &[u16], width: usize, row: usize, entry: usize) -> u16
-    requires { (suc row * width ≤ length work.now) × (entry < width) }
-    ensures { result ≡ cell work.now width row entry }
-{
-    work[row * width + entry]
-}
-
-// Whether an entry tells no pair apart: every row has the number of the lowest row that it is paired with.
-fn is_clear(work: &[u16], width: usize, entry: usize, pairs: &[u64; MAX_ROWS], rows: u64) -> bool
-    requires { Sound pairs.now × There (length work.now) width pairs.now × Listed rows pairs.now × (entry < width) }
-    ensures { result ≡ clear (cell work.now width) (pair_of pairs.now) entry }
-{
-    let mut left = rows;
-    while left != 0 {
-        let c = sets::lowest(left);
-        let k = sets::lowest(pairs[c]);
-        if cell(work, width, c, entry) != cell(work, width, k, entry) {
-            return false;
-        }
-        left = sets::later(left);
-    }
-    true
-}
-
-// The place of the first entry, from a place on, that tells a pair apart.
-pub(crate) fn next(
-    work: &[u16],
-    width: usize,
-    scan: &[u16],
-    from: usize,
-    pairs: &[u64; MAX_ROWS],
-) -> usize
-    requires { Sound pairs.now × There (length work.now) width pairs.now × (all_below width scan.now ≡ true) × (from ≤ length scan.now) }
-    ensures { result ≡ seek (clear (cell work.now width) (pair_of pairs.now)) (drop from scan.now) from }
-{
-    let rows = paired(pairs);
-    if rows == 0 {
-        return scan.len();
-    }
-    let mut at = from;
-    while at < scan.len() {
-        if !is_clear(work, width, scan[at] as usize, pairs, rows) {
-            return at;
-        }
-        at += 1;
-    }
-    at
-}
-
-// The set with a row that has a number.
-fn with_equal(set: u64, row: usize, a: u16, b: u16) -> u64
-    ensures { result ≡ cond (eqb a b) (joined set row) set }
-{
-    if a == b {
-        return sets::joined(set, row);
-    }
-    set
 }
 
 // Of a set of rows those that have a number at an entry.
-fn having(work: &[u16], width: usize, entry: usize, rows: u64, number: u16) -> u64
-    requires { Within (length work.now) width rows × (entry < width) }
-    ensures { Having (λ k. eqb (cell work.now width k entry) number) rows result }
+fn having(matrix: Matrix, entry: usize, rows: u64, number: u16) -> u64
+    requires { Within matrix rows × (entry < matrix.width) }
+    ensures { Having (λ k. eqb (numbers matrix.entry k entry) number) rows result }
 {
     let mut set = 0;
-    let mut left = rows;
-    while left != 0 {
-        let c = sets::lowest(left);
-        set = with_equal(set, c, cell(work, width, c, entry), number);
-        left = sets::later(left);
+    for c in sets::members_of(rows) {
+        if matrix.cell(c, entry) == number {
+            set = sets::joined(set, c);
+        }
     }
     set
 }
@@ -162,25 +170,7 @@ fn narrow(pairs: &mut [u64; MAX_ROWS], set: u64)
     requires { length pairs.old ≡ max_rows }
     ensures { Narrowed set pairs.old pairs.new }
 {
-    let mut left = set;
-    while left != 0 {
-        let c = sets::lowest(left);
-        pairs[c] = pairs[c] & set;
-        left = sets::later(left);
-    }
-}
-
-// Only the pairs stay that an entry does not tell apart: the rows that have a number there are narrowed, number after number.
-pub(crate) fn refine(work: &[u16], width: usize, entry: usize, pairs: &mut [u64; MAX_ROWS])
-    requires { Sound pairs.old × There (length work.now) width pairs.old × (entry < width) }
-    ensures { Leaves pairs.old (equal_at (cell work.now width) entry) pairs.new }
-{
-    let mut left = paired(pairs);
-    while left != 0 {
-        let c = sets::lowest(left);
-        let number = cell(work, width, c, entry);
-        let set = having(work, width, entry, left, number);
-        narrow(pairs, set);
-        left = left ^ set;
+    for c in sets::members_of(set) {
+        pairs[c] &= set;
     }
 }

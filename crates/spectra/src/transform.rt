@@ -155,9 +155,8 @@ fn transform_row(out: &mut [u16], sums: &HalfSums, table: &[u8], n: usize, k: us
     ensures { out.new ≡ spectrum kind n k (entries_from table.now 0) }
 {
     transform(out, sums, table, 0, n, k);
-    match kind {
-        Kind::Rm => parities(out),
-        Kind::Mrm => {}
+    if kind == Kind::Rm {
+        parities(out);
     }
 }
 

@@ -21,7 +21,7 @@ use lib.Dec.{eqb, ltb}
 use lib.ListN.{length}
 use mir.Syntax.{w64}
 use mir.Val.{Fits}
-use Rattle.bits.specs.Sets.{has, lowest, later}
+use Rattle.bits.specs.Sets.{has, lowest, later, First}
 use Rattle.bits.proofs.Below.{lt_or_ge}
 use Rattle.bits.proofs.Membership.{has_none, set_lowest, set_later, later_word}
 use Rattle.bits.proofs.Packed.{length_packed}
@@ -55,16 +55,17 @@ pub record Mending (j : Job) (b : Batch) (l : ℕ) (start : List ℕ) (left : �
   pub word : left < 2 ^ 64
   pub made : Made j b l left rows
 
-pub mending_none : {j : Job} {b : Batch} {l left : ℕ} {rows : List ℕ} → left < 2 ^ 64 → Made j b l left rows → Mending j b l rows left rows
-mending_none word made = record { long = refl; word = word; made = made }
+pub mending_none : {j : Job} {b : Batch} {l columns left : ℕ} {rows : List ℕ} → columns < 2 ^ 64 → Made j b l columns rows → left ≡ columns → Mending j b l rows left rows
+mending_none {j} {b} {l} {columns} {left} {rows} word made e =
+    subst (λ (s : ℕ). Mending j b l rows s rows) (sym e) (record { long = refl; word = word; made = made })
 
 module _ {j : Job} {shape : Shape} {b : Batch} {l left : ℕ} {start rows : List ℕ} (sound : Sound j shape b start) (below : l < lines j)
-    (m : Mending j b l start left rows) (some : left ≡ 0 → ⊥) where
+    (m : Mending j b l start left rows) {i rest : ℕ} (f : First left i rest) where
   now_sound : Sound j shape b rows
   now_sound = sound_kept sound m.long
 
   here : ltb (lowest left) b.count && fixes_line j (b.first + lowest left) l ≡ true
-  here = m.made.fixed (lowest left) (set_lowest left m.word (omega (arith, some))).member
+  here = m.made.fixed (lowest left) (set_lowest left m.word (omega (arith, f.some))).member
 
   column : lowest left < b.count
   column = ltb-true (lowest left) b.count (and_l (ltb (lowest left) b.count) (fixes_line j (b.first + lowest left) l) here)
@@ -85,23 +86,22 @@ module _ {j : Job} {shape : Shape} {b : Batch} {l left : ℕ} {start rows : List
   number : b.first + lowest left ≡ suc (b.first - 1 + lowest left)
   number = omega (arith, mending_faulty)
 
-  module _ {i : ℕ} (is : i ≡ lowest left) where
-    pub mending_index : b.first - 1 + i < max_faults
-    mending_index = subst (λ (n : ℕ). b.first - 1 + n < max_faults) (sym is) (fault_index sound.valid fault)
+  pub mending_index : b.first - 1 + i < max_faults
+  mending_index = subst (λ (n : ℕ). b.first - 1 + n < max_faults) (sym f.least) (fault_index sound.valid fault)
 
-    mending_column : i < b.count
-    mending_column = subst (λ (n : ℕ). n < b.count) (sym is) column
+  mending_column : i < b.count
+  mending_column = subst (λ (n : ℕ). n < b.count) (sym f.least) column
 
-    pub mending_offset : length start < 2 ^ 64 → Fits w64 (i * shape.bytes)
-    mending_offset = offset_fits sound below mending_column
+  pub mending_offset : length start < 2 ^ 64 → Fits w64 (i * shape.bytes)
+  mending_offset = offset_fits sound below mending_column
 
-    module _ {to : ℕ} (at : to ≡ row_of b l * shape.bytes) where
-      pub mending_place : length start < 2 ^ 64 → Fits w64 (to + i * shape.bytes)
-      mending_place short = column_fits sound below mending_column short at
+  module _ {to : ℕ} (at : to ≡ row_of b l * shape.bytes) where
+    pub mending_place : length start < 2 ^ 64 → Fits w64 (to + i * shape.bytes)
+    mending_place short = column_fits sound below mending_column short at
 
-      pub mending_below : Below shape (fault_a (fault_at j (b.first - 1 + i)) * shape.bytes) (fault_b (fault_at j (b.first - 1 + i)) * shape.bytes) (to + i * shape.bytes) rows
-      mending_below =
-          column_below now_sound below mending_column (subst (λ (n : ℕ). Fixes j (fault_at j (b.first - 1 + n))) (sym is) (fixes sound.valid fault)) mending_faulty at
+    pub mending_below : Below shape (fault_a (fault_at j (b.first - 1 + i)) * shape.bytes) (fault_b (fault_at j (b.first - 1 + i)) * shape.bytes) (to + i * shape.bytes) rows
+    mending_below =
+        column_below now_sound below mending_column (subst (λ (n : ℕ). Fixes j (fault_at j (b.first - 1 + n))) (sym f.least) (fixes sound.valid fault)) mending_faulty at
 
   -- where one column is put, a column that has its table still has it
   module _ (after : List ℕ) (puts : Puts j (row_of b l + lowest left) (side_table j b (lowest left) l) rows after) where
@@ -131,14 +131,14 @@ module _ {j : Job} {shape : Shape} {b : Batch} {l left : ℕ} {start rows : List
       (ap (λ (c : ℕ). fixes_line j c l) (sym number) ∙ fixed_here)
       ∙ ap (λ (c : ℕ). line_table (fixing_of j c) j l) (sym number)
 
-  pub mending_next : {to i : ℕ} → i ≡ lowest left → to ≡ row_of b l * shape.bytes → {after : List ℕ} → length after ≡ length rows
-      → after ≡ splice rows (to + i * shape.bytes) (fixed_row shape (fault_at j (b.first - 1 + i)) rows) → {rest : ℕ} → rest ≡ later left → Mending j b l start rest after
-  mending_next {to} {i} is at {after} long e {rest} then =
+  pub mending_next : {to : ℕ} → to ≡ row_of b l * shape.bytes → {after : List ℕ} → length after ≡ length rows
+      → after ≡ splice rows (to + i * shape.bytes) (fixed_row shape (fault_at j (b.first - 1 + i)) rows) → Mending j b l start rest after
+  mending_next {to} at {after} long e =
       record {
         long = long ∙ m.long;
-        word = subst (λ (s : ℕ). s < 2 ^ 64) (sym then) (later_word m.word);
+        word = subst (λ (s : ℕ). s < 2 ^ 64) (sym f.rest) (later_word m.word);
         made =
-            subst (λ (s : ℕ). Made j b l s after) (sym then)
+            subst (λ (s : ℕ). Made j b l s after) (sym f.rest)
             (put_next after
             (row_puts j (row_of b l + lowest left) (side_table j b (lowest left) l) rows after
             (length_packed (2 ^ j.inputs) (line_value (fixing_of j (b.first + lowest left)) j l)) (row_inside now_sound below column) put));
@@ -146,7 +146,7 @@ module _ {j : Job} {shape : Shape} {b : Batch} {l left : ℕ} {start rows : List
     where
       put : after ≡ splice rows ((row_of b l + lowest left) * table_bytes j.inputs) (side_table j b (lowest left) l)
       put =
-          e ∙ (λ t. splice rows (at t + is t * shape.bytes) (fixed_row shape (fault_at j (b.first - 1 + is t)) rows))
+          e ∙ (λ t. splice rows (at t + f.least t * shape.bytes) (fixed_row shape (fault_at j (b.first - 1 + f.least t)) rows))
           ∙ ap (λ (n : ℕ). splice rows n (fixed_row shape (fault_at j (b.first - 1 + lowest left)) rows)) (sym (add-mul (row_of b l) (lowest left) shape.bytes))
           ∙ ap (λ (s : Shape). splice rows ((row_of b l + lowest left) * s.bytes) (fixed_row s (fault_at j (b.first - 1 + lowest left)) rows)) sound.shaped
           ∙ ap (splice rows ((row_of b l + lowest left) * table_bytes j.inputs)) table

@@ -98,10 +98,7 @@ impl<'a> Circuits<'a> {
         let fixed = self.fixed_lines(batch);
         for line in 0..self.lines() {
             self.line_block(rows, batch, line);
-            let columns = fixed[line];
-            if columns != 0 {
-                self.fix_line(rows, batch, line, columns);
-            }
+            self.fix_line(rows, batch, line, fixed[line]);
         }
     }
 
@@ -162,13 +159,10 @@ impl<'a> Circuits<'a> {
     {
         let bytes = self.shape.bytes;
         let start = batch.block_place(line, bytes);
-        let mut left = columns;
-        while left != 0 {
-            let column = bits::sets::lowest(left);
+        for column in bits::sets::members_of(columns) {
             let entry = self.job.faults[batch.first - 1 + column];
-            self.shape
-                .fix_row(rows, start + column * bytes, entry.fault);
-            left = bits::sets::later(left);
+            let to = start + column * bytes;
+            self.shape.fix_row(rows, to, entry.fault);
         }
     }
 }

@@ -1,84 +1,73 @@
--- `chooser::choose_from` meets its contract. Its measure is the number of entries from the place on.
-use Prim.Native.Nat.{ℕ, ◌+◌, ◌-◌, ◌<◌}
-use native.Mathlib.Numerals.{add-one-le}
-use mathlib.Core.Path.{subst}
-use mir.Syntax.{w16}
-use mir.Facts.{Fits-widen}
-use lib.ListN.{length, get_or}
-use borrow.Author.Rules.{scaled_Fits}
-use Rattle.chooser.specs.Matrix.{max_signature, cell}
-use Rattle.chooser.specs.Pairing.{pair_of}
-use Rattle.chooser.proofs.Cells.{place_fits}
-use Rattle.chooser.proofs.KeptEntries.{keeps_short}
-use Rattle.chooser.proofs.Recursion.{sought_falls, keeps_none, keeps_step, keeps_start, rest_sound, rest_there, put_room, put_keeps}
-use Rattle.chooser.proofs.Soundness.{equal_alike, leaves_sound, leaves_there}
+-- `chooser::choose_from` meets its contract. Its measure is the number of entries that are left to look at.
+use Rattle.std.proofs.Common.{◌∙◌, sym, ◌≡◌, ◌<◌, ℕ, get_or, length, subst}
 use Rattle.bits.proofs.Bounds.{entry_below}
+use Rattle.std.specs.Prelude.{Some, position}
+use Rattle.std.proofs.lemmas.List.Quantifiers.{position-Some}
+use Rattle.chooser.specs.Pairing.{numbers, pair_of, keeps, puts}
+use Rattle.chooser.proofs.KeptEntries.{keeps_short}
+use Rattle.chooser.proofs.Recursion.{useful, behind_below, behind_less, keeps_none, keeps_step, keeps_start, rest_there, put_goes, put_stays, put_room, put_leaves}
+use Rattle.chooser.proofs.Soundness.{leaves_there}
 use Rattle.chooser.proofs.+choose_from.Goals as goal
+use Rattle.chooser.proofs.+choose_from.Goals.{In-Some, After-choose_from}
 
-pub next-at-requires : goal.next-at-requires
-next-at-requires t c = (c.requires.0, c.requires.1, c.requires.4, c.requires.5)
+module _ (t : ℕ) (c : goal.In-Some t) where
+  found : position (useful (numbers c.args.matrix) (pair_of c.args.pairs.now)) c.args.scan.now ≡ Some c.in-Some.at
+  found = sym c.next.ensures ∙ c.in-Some.is
 
-pub returns-then-scan-at : goal.returns-then-scan-at
-unfolding max_signature
-returns-then-scan-at t c =
-    let a = c.args in
-    keeps_start (cell a.work.now a.width) c.requires.2 c.requires.6
-    (keeps_none (cell a.work.now a.width) (pair_of a.pairs.now) (pair_of a.rest.now) a.scan.now a.from c.next-at.ensures c.if-scan-at.true)
+  inside : c.in-Some.at < length c.args.scan.now
+  inside = (position-Some _ c.args.scan.now c.in-Some.at 0 found).0
 
-pub offset_bounds-scan-at : goal.offset_bounds-scan-at
-offset_bounds-scan-at t c = scaled_Fits _ (length c.args.scan.now) 2 c.if-scan-at.false c.well_formed.1.1.0.1
+  entry : get_or c.args.scan.now c.in-Some.at 0 < c.args.matrix.width
+  entry = entry_below c.args.matrix.width c.args.scan.now c.in-Some.at c.requires.within inside
 
-pub bounds-scan-at : goal.bounds-scan-at
-bounds-scan-at t c = c.if-scan-at.false
+module _ (t : ℕ) (c : goal.After-choose_from t) where
+  step : keeps (numbers c.args.matrix) (pair_of c.args.pairs.now) (pair_of c.args.rest.now) c.args.scan.now
+      ≡ puts (numbers c.args.matrix) (pair_of c.args.pairs.now) (pair_of c.args.rest.now) (get_or c.args.scan.now c.in-Some.at 0) c.choose_from.new.kept
+  step =
+      keeps_step (numbers c.args.matrix) c.args.pairs.now c.args.rest.now c.args.scan.now c.in-Some.at (sym c.next.ensures ∙ c.in-Some.is)
+      c.refine.ensures c.choose_from.ensures.kept
 
-pub overflow_cast-entry : goal.overflow_cast-entry
-overflow_cast-entry t c = Fits-widen {w = w16} tt (c.type_inv.scan c.next-at.result)
+pub returns-in_default-clause-kept : goal.returns-in_default-clause-kept
+returns-in_default-clause-kept t c =
+    c.requires.none
+    ∙ sym (keeps_none (numbers c.args.matrix) (pair_of c.args.pairs.now) (pair_of c.args.rest.now) c.args.scan.now (sym c.next.ensures ∙ c.in_default.is))
+
+pub returns-in_default-clause-left : goal.returns-in_default-clause-left
+returns-in_default-clause-left t c = keeps_start (numbers c.args.matrix) c.args.rest.now c.requires.none
 
 pub refine-requires : goal.refine-requires
-refine-requires t c =
-    (c.requires.0, c.requires.1, entry_below c.args.width c.args.scan.now c.next-at.result c.requires.4 c.if-scan-at.false)
+refine-requires t c = (c.requires.there, entry t (goal.at.refine-requires t c).In-Some)
 
-pub overflow_add-at : goal.overflow_add-at
-overflow_add-at t c = place_fits 1 c.well_formed.1.1.0.1 (add-one-le c.if-scan-at.false)
+pub choose_from-requires : goal.choose_from-requires
+choose_from-requires t c = (
+  behind_less c.args.scan.now c.in-Some.at c.decreases (inside t (goal.at.choose_from-requires t c).In-Some),
+  (leaves_there c.refine.ensures c.requires.there,
+  (c.requires.rest_there,
+  (behind_below c.args.scan.now c.in-Some.at c.args.matrix.width c.requires.within, c.requires.none))),
+)
 
-pub choose_from-start-requires : goal.choose_from-start-requires
-choose_from-start-requires t c =
-    let a = c.args in
-    let coef = cell a.work.now a.width in (
-      subst (λ (n : ℕ). length a.scan.now - (c.next-at.result + 1) < n) c.decreases
-          (sought_falls coef (pair_of a.pairs.now) (pair_of a.rest.now) a.scan.now a.from c.next-at.ensures c.if-scan-at.false),
-      (
-        leaves_sound c.refine.ensures (equal_alike coef _) c.requires.0,
-        leaves_there c.refine.ensures c.requires.1,
-        c.requires.2,
-        c.requires.3,
-        c.requires.4,
-        add-one-le c.if-scan-at.false,
-        c.requires.6,
-      ),
-    )
+pub refine-requires-then-not-is_apart_from : goal.refine-requires-then-not-is_apart_from
+refine-requires-then-not-is_apart_from t c =
+    (rest_there (numbers c.args.matrix) c.choose_from.new.kept c.choose_from.ensures.left c.requires.rest_there,
+    entry t (goal.at.refine-requires-then-not-is_apart_from t c).In-Some)
 
-pub put-requires : goal.put-requires
-put-requires t c =
-    let a = c.args in
-    let coef = cell a.work.now a.width in
-    let pairs = a.pairs.now in
-    let all = a.rest.now in
-    let step = keeps_step coef pairs all a.scan.now a.from c.next-at.ensures c.if-scan-at.false c.refine.ensures in (
-      c.requires.0,
-      rest_sound c.choose_from-start.ensures c.requires.2,
-      rest_there c.choose_from-start.ensures c.requires.3,
-      entry_below a.width a.scan.now c.next-at.result c.requires.4 c.if-scan-at.false,
-      c.choose_from-start.ensures.size,
-      c.choose_from-start.ensures.within,
-      put_room c.choose_from-start.ensures pairs (get_or a.scan.now c.next-at.result 0) step (keeps_short coef (pair_of pairs) (pair_of all) _),
-    )
+pub push-requires : goal.push-requires
+push-requires t c =
+    let coef = numbers c.args.matrix in
+    put_room coef c.choose_from.new.kept c.choose_from.ensures.left c.args.pairs.now _ c.is_apart_from.ensures c.if-not-is_apart_from.true
+    (step t (goal.at.push-requires t c).After-choose_from) (keeps_short coef (pair_of c.args.pairs.now) (pair_of c.args.rest.now) c.args.scan.now)
 
-pub returns : goal.returns
-returns t c =
-    let a = c.args in
-    let coef = cell a.work.now a.width in
-    let pairs = a.pairs.now in
-    let all = a.rest.now in
-    let step = keeps_step coef pairs all a.scan.now a.from c.next-at.ensures c.if-scan-at.false c.refine.ensures in
-    put_keeps c.choose_from-start.ensures pairs (get_or a.scan.now c.next-at.result 0) step c.put.ensures
+pub returns-then-not-is_apart_from-clause-kept : goal.returns-then-not-is_apart_from-clause-kept
+returns-then-not-is_apart_from-clause-kept t c =
+    c.push.ensures
+    ∙ put_stays (numbers c.args.matrix) c.choose_from.new.kept c.choose_from.ensures.left c.args.pairs.now _ c.is_apart_from.ensures c.if-not-is_apart_from.true
+    ∙ sym (step t (goal.at.returns-then-not-is_apart_from-clause-kept t c).After-choose_from)
+
+pub returns-then-not-is_apart_from-clause-left : goal.returns-then-not-is_apart_from-clause-left
+returns-then-not-is_apart_from-clause-left t c =
+    rw c.push.ensures (put_leaves (numbers c.args.matrix) c.choose_from.new.kept c.choose_from.ensures.left _ c.refine-then-not-is_apart_from.ensures)
+
+pub returns-else-not-is_apart_from-clause-kept : goal.returns-else-not-is_apart_from-clause-kept
+returns-else-not-is_apart_from-clause-kept t c =
+    put_goes (numbers c.args.matrix) c.choose_from.new.kept c.choose_from.ensures.left c.args.pairs.now _ c.is_apart_from.ensures c.if-not-is_apart_from.false
+    ∙ sym (step t (goal.at.returns-else-not-is_apart_from-clause-kept t c).After-choose_from)

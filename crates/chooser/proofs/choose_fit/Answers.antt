@@ -1,34 +1,43 @@
 -- `chooser::choose_fit` meets its contract.
-use Prim.Native.Nat.{zero-le}
-use mathlib.Core.Path.{refl, sym}
-use Rattle.chooser.specs.Matrix.{max_rows, max_signature}
+use Rattle.std.proofs.Common.{◌≡◌, ◌∙◌, ap}
+use Rattle.std.specs.Prelude.{Result, Ok}
+use Rattle.method.specs.Method.{Pair, first_pair}
+use Rattle.chooser.specs.Matrix.{max_rows, signature_of, choice_by, choice}
+use Rattle.chooser.specs.Pairing.{pair_of}
+use Rattle.chooser.specs.declared.Signature.{Signature}
+use Rattle.chooser.specs.declared.Untold.{Untold}
 use Rattle.chooser.proofs.Conclusion.{choice_kept}
 use Rattle.chooser.proofs.Fits.{fits_most, fits_filled, fits_within}
-use Rattle.chooser.proofs.Marks.{base_sound, base_there}
-use Rattle.chooser.proofs.Recursion.{rest_sound}
+use Rattle.chooser.proofs.Marks.{base_there}
 use Rattle.chooser.proofs.choose_fit.Goals as goal
+use Rattle.chooser.proofs.choose_fit.Goals.{After-choose_from}
 
-pub pair_up-requires : goal.pair_up-requires
-unfolding max_rows
-pair_up-requires c = let a = c.args in (fits_most a.work.now a.width a.rows a.scan.now c.requires.1, c.requires.0, refl)
+pub new-pairs-requires : goal.new-pairs-requires
+new-pairs-requires c = let m = c.args.matrix in (fits_most m.work.now m.width c.args.rows c.args.scan.now c.requires.1, c.requires.0)
 
-pub choose_from-start-requires : goal.choose_from-start-requires
-unfolding max_signature
-choose_from-start-requires c =
-    let a = c.args in
-    let sound = base_sound c.pair_up.ensures in
-    let there = base_there c.pair_up.ensures (fits_filled a.work.now a.width a.rows a.scan.now c.requires.1) in
-    (sound, there, sound, there, fits_within a.work.now a.width a.rows a.scan.now c.requires.1, zero-le, refl)
+pub choose_from-requires-clause-there : goal.choose_from-requires-clause-there
+choose_from-requires-clause-there c =
+    let m = c.args.matrix in base_there c.new-pairs.ensures (fits_filled m.work.now m.width c.args.rows c.args.scan.now c.requires.1)
 
-pub slice_bounds-conclude-end : goal.slice_bounds-conclude-end
-unfolding max_signature
-slice_bounds-conclude-end c = sym c.choose_from-start.ensures.size
+pub choose_from-requires-clause-rest_there : goal.choose_from-requires-clause-rest_there
+choose_from-requires-clause-rest_there c =
+    let m = c.args.matrix in base_there c.new-pairs.ensures (fits_filled m.work.now m.width c.args.rows c.args.scan.now c.requires.1)
 
-pub conclude-requires : goal.conclude-requires
-conclude-requires c = (rest_sound c.choose_from-start.ensures (base_sound c.pair_up.ensures), c.choose_from-start.ensures.within, c.choose_from-start.ensures.size)
+pub choose_from-requires-clause-within : goal.choose_from-requires-clause-within
+choose_from-requires-clause-within c = let m = c.args.matrix in fits_within m.work.now m.width c.args.rows c.args.scan.now c.requires.1
+
+module _ (c : goal.After-choose_from) where
+  kept_lem : {r : Result Signature Untold} → r ≡ choice_by (first_pair max_rows (pair_of c.choose_from.new.rest)) c.choose_from.new.kept
+      → r ≡ choice c.args.matrix.work.now c.args.matrix.width c.args.rows c.args.marks.now c.args.scan.now
+  kept_lem e =
+      let m = c.args.matrix in
+      choice_kept m.work.now m.width c.args.rows c.args.marks.now c.args.scan.now c.requires.0 c.requires.1
+      (fits_most m.work.now m.width c.args.rows c.args.scan.now c.requires.1) c.new-pairs.ensures c.choose_from.ensures.kept c.choose_from.ensures.left e
+
+pub returns-in-Some : goal.returns-in-Some
+returns-in-Some c = kept_lem (goal.at.returns-in-Some c).After-choose_from (ap (λ (p : Pair). choice_by p c.choose_from.new.kept) c.in-Some.ensures)
 
 pub returns : goal.returns
 returns c =
-    let a = c.args in
-    choice_kept a.work.now a.width a.rows a.marks.now a.scan.now c.requires.0 c.requires.1
-    (fits_most a.work.now a.width a.rows a.scan.now c.requires.1) c.pair_up.ensures c.choose_from-start.ensures c.conclude.ensures
+    kept_lem (goal.at.returns c).After-choose_from
+    (ap Ok (c.of-signature.ensures ∙ ap signature_of c.as_slice.ensures.0) ∙ ap (λ (p : Pair). choice_by p c.choose_from.new.kept) c.in_default.ensures)

@@ -1,10 +1,6 @@
 -- `chooser::pairs::by_mark` meets its contract: the first rows are in the sets of their marks.
-use Prim.Native.Nat.{◌-◌}
 use Rattle.chooser.proofs.Marks.{Marking}
 use Rattle.chooser.proofs.pairs.by_mark.Given as goal
 
 abbrev pub invariant-loop-c : goal.invariant-loop-c
 invariant-loop-c l = Marking l.rows l.marks l.of l.all l.c
-
-abbrev pub decreases-loop-c : goal.decreases-loop-c
-decreases-loop-c l = l.rows - l.c

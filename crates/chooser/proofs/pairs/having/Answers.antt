@@ -1,24 +1,23 @@
 -- `chooser::pairs::having` meets its contract: the rows passed that have the number are gathered.
-use Prim.Native.Nat.{ℕ}
-use mathlib.Core.Path.{ap, ◌∙◌}
-use mathlib.Core.Bool.{cond}
-use lib.Dec.{eqb}
-use Rattle.bits.specs.Sets.{joined}
-use Rattle.bits.proofs.Membership.{later_less}
-use Rattle.chooser.proofs.Refinement.{gathering_start, gathering_row, gathering_next, gathering_end}
+use Rattle.std.proofs.Common.{◌∙◌, sym}
+use borrow.Author.Tests.{eq-eqb, ne_eqb}
+use Rattle.chooser.proofs.Refinement.{gathering_start, gathering_row, gathering_in, gathering_out, gathering_end}
 use Rattle.chooser.proofs.pairs.having.Goals as goal
 
-pub loop-left-init : goal.loop-left-init
-loop-left-init c = gathering_start _ c.ranges.rows.fits
+pub loop-c-init : goal.loop-c-init
+loop-c-init c = gathering_start _ c.ranges.rows.fits (c.into_iter-c-iterator.ensures.into_iter_gives ∙ c.members_of-c-items.ensures)
 
 pub cell-requires : goal.cell-requires
-cell-requires c = (c.requires.0.each c.lowest-c.result (gathering_row c.loop-left.invariant c.loop-left-test.true c.lowest-c.ensures), c.requires.1)
+cell-requires c = (c.requires.0.each c.in-Some.c (gathering_row c.loop-c.invariant c.in-Some.ensures.steps), c.requires.1)
 
-pub loop-left-smaller : goal.loop-left-smaller
-loop-left-smaller c = later_less c.loop-left-test.true c.later-left.ensures
+pub loop-c-preserved-then-cell-number : goal.loop-c-preserved-then-cell-number
+loop-c-preserved-then-cell-number c =
+    rw c.joined-set.ensures
+    (gathering_in c.loop-c.invariant c.in-Some.ensures.steps (eq-eqb _ c.args.number (sym c.cell.ensures ∙ c.if-cell-number.true)))
 
-pub loop-left-preserved : goal.loop-left-preserved
-loop-left-preserved c = gathering_next c.loop-left.invariant c.loop-left-test.true c.lowest-c.ensures (c.with_equal-set.ensures ∙ ap (λ (n : ℕ). cond (eqb n c.args.number) (joined c.loop-left.set c.lowest-c.result) c.loop-left.set) c.cell.ensures) c.later-left.ensures
+pub loop-c-preserved : goal.loop-c-preserved
+loop-c-preserved c =
+    gathering_out c.loop-c.invariant c.in-Some.ensures.steps (ne_eqb _ c.args.number (λ e. c.if-cell-number.false (c.cell.ensures ∙ e)))
 
 pub returns : goal.returns
-returns c = gathering_end c.loop-left.invariant c.loop-left-test.false
+returns c = gathering_end c.loop-c.invariant c.in-None.ensures.steps

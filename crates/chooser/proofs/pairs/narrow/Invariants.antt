@@ -2,8 +2,5 @@
 use Rattle.chooser.proofs.Refinement.{Narrowing}
 use Rattle.chooser.proofs.pairs.narrow.Given as goal
 
-abbrev pub invariant-loop-left : goal.invariant-loop-left
-invariant-loop-left l = Narrowing l.set l.initial.pairs l.pairs l.left
-
-abbrev pub decreases-loop-left : goal.decreases-loop-left
-decreases-loop-left l = l.left
+abbrev pub invariant-loop-c : goal.invariant-loop-c
+invariant-loop-c l = Narrowing l.set l.initial.pairs l.pairs l.c-iterator

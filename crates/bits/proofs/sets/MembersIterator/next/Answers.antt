@@ -1,7 +1,20 @@
--- The members of a set come one after the other: the set that is left is a smaller word.
-use Rattle.std.proofs.Common.{rules, arith, ◌<◌}
-use Rattle.bits.proofs.Membership.{later_less}
+-- The members of a set come one after the other: the lowest is a number that a set may have, and the set that is left is a smaller word.
+use Rattle.std.proofs.Common.{rules, arith, ◌^◌, ◌<◌}
+use Rattle.bits.specs.Sets.{max_members, First}
+use Rattle.bits.proofs.Membership.{low_below, later_less}
 use Rattle.bits.proofs.sets.MembersIterator.next.Goals as goal
+
+pub returns-clause-steps : goal.returns-clause-steps
+unfolding max_members
+returns-clause-steps c =
+    let few : c.self.inside.left < 2 ^ 64 = omega arith in
+    rw (← c.self.view_is)
+    (record {
+      some = c.if-self-eq0.false;
+      least = c.lowest-member.ensures;
+      below = low_below few c.if-self-eq0.false c.lowest-member.ensures;
+      rest = c.later-self-inside.ensures;
+    })
 
 pub returns-clause-goes : goal.returns-clause-goes
 returns-clause-goes c =

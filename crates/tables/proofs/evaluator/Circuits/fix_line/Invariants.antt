@@ -2,8 +2,5 @@
 use Rattle.tables.proofs.FixedColumns.{Mending}
 use Rattle.tables.proofs.evaluator.Circuits.fix_line.Given as goal
 
-abbrev pub invariant-loop-left : goal.invariant-loop-left
-invariant-loop-left l = Mending l.self.job.now l.batch l.line l.initial.rows l.left l.rows
-
-abbrev pub decreases-loop-left : goal.decreases-loop-left
-decreases-loop-left l = l.left
+abbrev pub invariant-loop-column : goal.invariant-loop-column
+invariant-loop-column l = Mending l.self.job.now l.batch l.line l.initial.rows l.column-iterator l.rows
