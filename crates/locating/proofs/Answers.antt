@@ -2,14 +2,15 @@
 --
 --   passing_same       the numbers that pass depend on the test below the bound alone
 --   sought_refused     what the preparation refuses
---   sought_rows        past it, the rows of the circuits lie within the work
+--   sought_indexed     past it, there is a reading for each index
+--   sought_rows        and the rows of the circuits lie within the work
 --   numbers_readings   the numbers of a row of the filled work are the circuit's readings
 --   sought_done        success
 use Prim.Native.Nat.{ℕ, zero, suc, ◌+◌, ◌*◌, ◌^◌, ◌≤◌, ◌<◌}
 use native.Mathlib.Nat.{mul_assoc}
 use native.Mathlib.Omega.{arith}
 use mathlib.Core.Path.{◌≡◌, refl, sym, ap, ap₂, subst, ◌∙◌}
-use mathlib.Core.Bool.{Bool, cond}
+use mathlib.Core.Bool.{Bool, true, ◌&&◌, cond}
 use mathlib.Core.List.{List, [], ◌∷◌, ◌++◌, Memᴰ}
 use borrow.Author.Tests.{eqb-true}
 use lib.Dec.{eqb}
@@ -82,22 +83,28 @@ module _ (counts : Counts) (s : List ℕ) (kind : Kind) (k : ℕ) (indices outpu
         subst (λ (x : ℕ). x ≤ length after) (length_family_spectra kind k F ∙ mul_assoc (counts.faults + 1) counts.outputs (2 ^ counts.inputs))
         (omega (arith, long))
 
-    pub sought_rows : RowsIn counts indices outputs (length after) × (length indices ≡ length readings)
+    abbrev first : Bool
+    first = eqb (length indices) (length readings)
+
+    abbrev second : Bool
+    second = eqb (length outputs) (length readings)
+
+    both : first && second ≡ true
+    both = sym lengths ∙ w.pairs
+
+    pub sought_indexed : length indices ≡ length readings
+    sought_indexed = eqb-true (length indices) (length readings) (and_l first second both)
+
+    pub sought_rows : RowsIn counts indices outputs (length after)
     sought_rows =
-        let first = eqb (length indices) (length readings) in
-        let second = eqb (length outputs) (length readings) in
-        let both = sym lengths ∙ w.pairs in
-        let indexed = eqb-true (length indices) (length readings) (and_l first second both) in (
-          record {
-            inputs_few = w.fits.few;
-            faults_few = w.fits.faults_few;
-            enough = room;
-            paired = indexed ∙ sym (eqb-true (length outputs) (length readings) (and_r first second both));
-            indices_below = w.indices_below;
-            outputs_below = w.outputs_below;
-          },
-          indexed,
-        )
+        record {
+          inputs_few = w.fits.few;
+          faults_few = w.fits.faults_few;
+          enough = room;
+          paired = sought_indexed ∙ sym (eqb-true (length outputs) (length readings) (and_r first second both));
+          indices_below = w.indices_below;
+          outputs_below = w.outputs_below;
+        }
 
     -- a number of the work is a coefficient
     number_at : (c : ℕ) → c < counts.faults + 1 → (e : Entry) → Memᴰ e list

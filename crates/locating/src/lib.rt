@@ -1,8 +1,8 @@
 // A unit located from its readings (document 01, "Locating"; document 02, CR 3).
 //
-// The list is lent as its indices and its outputs. `prepare` has the checks and fills the work: 13, 16, 20 and 17 come
-// before 10, so they are judged before the spectra are made; 16 over all indices, then 20 over all outputs, then 17.
-// Then each circuit's coefficients at the entries are compared with the readings.
+// The list is lent as its indices and its outputs, two slices as C lends them. `prepare` has the checks and fills the
+// work: 13, 16, 20 and 17 come before 10, so they are judged before the spectra are made; 16 over all indices, then 20
+// over all outputs, then 17. Then each circuit's coefficients at the entries are compared with the readings.
 #![tactic(auto)]
 
 ghost use Rattle.std.specs.Prelude.{◌+◌, ◌<◌, ◌≡◌, length, IfSome};
@@ -35,25 +35,29 @@ struct Agreeing {
     part: Option<u8>,
 }
 
-// Whether the numbers of the work at the entries, from the place `start` on, are the readings.
-fn agrees(
-    work: &[u16],
-    indices: &[u16],
-    outputs: &[u16],
-    readings: &[u16],
-    size: usize,
-    start: usize,
-) -> bool
-    requires { Within start size indices.now outputs.now (length work.now) × (length indices.now ≡ length readings.now) }
-    ensures { result ≡ same_numbers (numbers_at work.now start size (entries_at indices.now outputs.now)) readings.now }
-{
-    for (i, reading) in readings.iter().enumerate() {
-        let place = outputs[i] as usize * size + indices[i] as usize;
-        if work[start + place] != *reading {
-            return false;
+// The readings of a unit, one for each entry of a list.
+#[derive(Clone, Copy)]
+struct Observed<'a> {
+    indices: &'a [u16],
+    outputs: &'a [u16],
+    readings: &'a [u16],
+    ghost indexed: { length indices.now ≡ length readings.now },
+}
+
+impl Observed<'_> {
+    // Whether the numbers of the work at the entries, from the place `start` on, are the readings.
+    fn agree(&self, work: &[u16], size: usize, start: usize) -> bool
+        requires { Within start size self.now.indices.now self.now.outputs.now (length work.now) }
+        ensures { result ≡ same_numbers (numbers_at work.now start size (entries_at self.now.indices.now self.now.outputs.now)) self.now.readings.now }
+    {
+        for (i, reading) in self.readings.iter().enumerate() {
+            let place = self.outputs[i] as usize * size + self.indices[i] as usize;
+            if work[start + place] != *reading {
+                return false;
+            }
         }
+        true
     }
-    true
 }
 
 // The agreeing circuits so far, with circuit c of a part behind them.
@@ -89,15 +93,15 @@ fn told(seen: Option<Agreeing>) -> Located
 }
 
 // Which of the counted circuits, whose rows of the work have N numbers an output, agree with the readings.
-fn scan(work: &[u16], counts: Counts, indices: &[u16], outputs: &[u16], readings: &[u16]) -> Located
-    requires { RowsIn counts indices.now outputs.now (length work.now) × (length indices.now ≡ length readings.now) }
-    ensures { location_of result ≡ location (part_in counts.parts) (passing (work_agrees work.now counts (entries_at indices.now outputs.now) readings.now) (counts.faults + 1)) }
+fn scan(work: &[u16], counts: Counts, observed: &Observed) -> Located
+    requires { RowsIn counts observed.now.indices.now observed.now.outputs.now (length work.now) }
+    ensures { location_of result ≡ location (part_in counts.parts) (passing (work_agrees work.now counts (entries_at observed.now.indices.now observed.now.outputs.now) observed.now.readings.now) (counts.faults + 1)) }
 {
     let size = bits::table_size(counts.inputs);
     let width = counts.outputs * size;
     let mut seen = None;
     for c in 0..counts.faults + 1 {
-        if agrees(work, indices, outputs, readings, size, c * width) {
+        if observed.agree(work, size, c * width) {
             seen = Some(joined(seen, c, counts.parts[c]));
         }
     }
@@ -159,7 +163,12 @@ pub fn locate_tables(
     prepare(
         counts, tables, kind, polarity, indices, outputs, paired, work,
     )?;
-    Ok(scan(work, counts, indices, outputs, readings))
+    let observed = Observed {
+        indices,
+        outputs,
+        readings,
+    };
+    Ok(scan(work, counts, &observed))
 }
 
 // Which circuits of a job agree with readings at a list of entries; the work then holds the spectra of all circuits.
