@@ -2,22 +2,21 @@
 --
 --   each_all, all_each   a test that holds of every number below a bound
 --   each_same            equal tests
---   Bounding             what a loop knows that has found the first i numbers of a list below a bound
---   bounding_none, bounding_stop, bounding_next, bounding_all   its start, its ways out and its step
 --   entry_below          the number at a place of such a list is below the bound
+--   found_below          what a search for a number that is not below it finds
 --   members_below        if each number is, they all are
-use Prim.Native.Nat.{ℕ, zero, suc, ◌+◌, ◌≤◌, ◌<◌}
+use Prim.Native.Nat.{ℕ, zero, suc, ◌≤◌, ◌<◌, suc-le-suc}
 use native.Mathlib.Nat.{not-suc-le-zero, eq-or-lt_of_le, le_of_suc-le-suc}
-use native.Mathlib.Numerals.{add-one}
 use native.Mathlib.Omega.{arith}
 use mathlib.Core.Path.{◌≡◌, refl, sym, ap, ap₂, ◌∙◌}
 use mathlib.Core.Bool.{Bool, true, false, ◌&&◌}
 use mathlib.Core.Logic.{⊎_elim}
 use mathlib.Core.List.{List, [], ◌∷◌, Memᴰ}
-use borrow.Author.Tests.{ltb-true, lt-ltb, le-ltb}
+use borrow.Author.Tests.{ltb-true, lt-ltb}
 use lib.Dec.{ltb}
-use lib.ListN.{length, get_or, drop, drop_of_length-le}
-use lib.Seq.{drop-cons}
+use lib.ListN.{length, get_or}
+use Rattle.std.specs.Prelude.{MatchBool, HoldsAt}
+use Rattle.std.specs.List.{AllWithin}
 use Rattle.bits.specs.Bounds.{each_below, all_below}
 use Rattle.bits.proofs.Tests.{and_l, and_r, and_i}
 
@@ -39,38 +38,28 @@ each_same (suc n) p q h = ap₂ ◌&&◌ (each_same n p q (λ i l. h i (omega ar
 
 -- ---- lists
 
-pub record Bounding (bound : ℕ) (list : List ℕ) (i : ℕ) : Type 0 where
-  pub within : i ≤ length list
-  pub rest : all_below bound list ≡ all_below bound (drop i list)
-
-pub bounding_none : (bound : ℕ) (list : List ℕ) → Bounding bound list 0
-bounding_none bound list = record { within = omega arith; rest = refl }
-
-module _ {bound : ℕ} {list : List ℕ} {i : ℕ} (w : Bounding bound list i) where
-  next : i < length list → all_below bound list ≡ ltb (get_or list i 0) bound && all_below bound (drop (suc i) list)
-  unfolding all_below
-  next h = w.rest ∙ ap (all_below bound) (drop-cons list i 0 h)
-
-  pub bounding_stop : i < length list → bound ≤ get_or list i 0 → false ≡ all_below bound list
-  bounding_stop h k = sym (next h ∙ ap (λ (t : Bool). t && all_below bound (drop (suc i) list)) (le-ltb (get_or list i 0) bound k))
-
-  pub bounding_next : i < length list → get_or list i 0 < bound → Bounding bound list (i + 1)
-  bounding_next h k =
-      record {
-        within = omega arith;
-        rest = next h ∙ ap (λ (t : Bool). t && all_below bound (drop (suc i) list)) (lt-ltb (get_or list i 0) bound k)
-            ∙ ap (λ (j : ℕ). all_below bound (drop j list)) (sym (add-one i));
-      }
-
-  pub bounding_all : length list ≤ i → true ≡ all_below bound list
-  unfolding all_below
-  bounding_all h = sym (w.rest ∙ ap (all_below bound) (drop_of_length-le list {i = i} h))
-
 pub entry_below : (bound : ℕ) (l : List ℕ) (i : ℕ) → all_below bound l ≡ true → i < length l → get_or l i 0 < bound
 unfolding all_below
 entry_below bound [] i e h = absurd (not-suc-le-zero h)
 entry_below bound (x ∷ l) zero e h = ltb-true x bound (and_l (ltb x bound) (all_below bound l) e)
 entry_below bound (x ∷ l) (suc i) e h = entry_below bound l i (and_r (ltb x bound) (all_below bound l) e) (le_of_suc-le-suc h)
+
+each_entry_below : (bound : ℕ) (l : List ℕ) → ((i : ℕ) → i < length l → get_or l i 0 < bound) → all_below bound l ≡ true
+unfolding all_below
+each_entry_below bound [] h = refl
+each_entry_below bound (x ∷ l) h =
+    and_i (lt-ltb x bound (h 0 (omega arith))) (each_entry_below bound l (λ i k. h (suc i) (suc-le-suc k)))
+
+-- what a search for a number that is not below the bound finds
+pub found_below : (bound : ℕ) (list : List ℕ) (t : Bool)
+    → MatchBool t (AllWithin (λ x. x < bound) list 0 (length list)) ((k : ℕ) × (k < length list) × HoldsAt (λ x. bound ≤ x) list k)
+    → t ≡ all_below bound list
+found_below bound list true h = sym (each_entry_below bound list (λ i l. h i 0 (omega arith) l))
+found_below bound list false h = not_below (all_below bound list) refl
+  where
+    not_below : (t : Bool) → all_below bound list ≡ t → false ≡ all_below bound list
+    not_below false e = sym e
+    not_below true e = let low = entry_below bound list h.0 e h.1 in let high : bound ≤ get_or list h.0 0 = h.2 0 in absurd (omega arith)
 
 pub members_below : (bound : ℕ) (l : List ℕ) → ((x : ℕ) → Memᴰ x l → x < bound) → all_below bound l ≡ true
 unfolding all_below

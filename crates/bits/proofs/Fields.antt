@@ -23,6 +23,7 @@ use native.Mathlib.Nat.{one-mul}
 use native.Mathlib.Omega.{arith}
 use borrow.Author.Tests.{le-leb, lt-leb, leb-true, le-ltb, lt-ltb}
 use lib.Dec.{leb, ltb, eqb, lit<}
+use Rattle.std.specs.Prelude.{Option, Some, None, unwrap_or}
 use lib.Pow.{shl_exact}
 use lib.ListN.{length, get_or, take, drop, length-drop, drop_of_length-le}
 use lib.Seq.{drop-drop, length-take-le}
@@ -32,7 +33,6 @@ use Rattle.bits.specs.Bits.{bits_of, string_of, value_of, value_from}
 use Rattle.bits.specs.Field.{from, past, max_place, max_width, is_width, field_at, spare_only, window_at}
 use Rattle.bits.specs.Parser.{parsed, field}
 use Rattle.bits.specs.declared.Cursor.{Cursor}
-use Rattle.bits.specs.declared.Field.TheVariants.{Value, Cut}
 use Rattle.bits.proofs.FieldParser.{field_room}
 use Rattle.bits.proofs.Tests.{and_l, and_r, and_i}
 use Rattle.bits.proofs.Bits.{AllBits, bits_take, bits_drop, bits_string_of, length_bits_of, length_string_of, bits_of_drop, drop_at_byte, value_of_bits_of, value_of_lt}
@@ -57,11 +57,11 @@ is_field c w = is_width w && leb c.bit max_place
 
 -- which of the two a field is goes by one test
 field_at_test : (s : List ℕ) (c : Cursor) (w : ℕ) (t : Bool) → is_field c w && leb w (length (from s c)) ≡ t
-    → field_at s c w ≡ cond t (Value (value_of (take w (from s c))) (past c w)) Cut
+    → field_at s c w ≡ cond t (Some (value_of (take w (from s c)), past c w)) None
 unfolding field_at
-field_at_test s c w t e = ap (λ (b : Bool). cond b (Value (value_of (take w (from s c))) (past c w)) Cut) e
+field_at_test s c w t e = ap (λ (b : Bool). cond b (Some (value_of (take w (from s c)), past c w)) None) e
 
-pub field_at_cut : (s : List ℕ) (c : Cursor) (w : ℕ) → (1 ≤ w → w ≤ max_width → c.bit ≤ max_place → length (from s c) < w) → field_at s c w ≡ Cut
+pub field_at_cut : (s : List ℕ) (c : Cursor) (w : ℕ) → (1 ≤ w → w ≤ max_width → c.bit ≤ max_place → length (from s c) < w) → field_at s c w ≡ None
 field_at_cut s c w h = field_at_test s c w false (go (leb 1 w) refl (leb w max_width) refl (leb c.bit max_place) refl)
   where
     go : (t : Bool) → leb 1 w ≡ t → (u : Bool) → leb w max_width ≡ u → (v : Bool) → leb c.bit max_place ≡ v → is_field c w && leb w (length (from s c)) ≡ false
@@ -76,7 +76,7 @@ field_at_cut s c w h = field_at_test s c w false (go (leb 1 w) refl (leb w max_w
         ∙ lt-leb w (length (from s c)) (h (leb-true 1 w p) (leb-true w max_width q) (leb-true c.bit max_place r))
 
 pub field_at_value : (s : List ℕ) (c : Cursor) (w : ℕ) → 1 ≤ w → w ≤ max_width → c.bit ≤ max_place → w ≤ length (from s c)
-    → field_at s c w ≡ Value (value_of (take w (from s c))) (past c w)
+    → field_at s c w ≡ Some (value_of (take w (from s c)), past c w)
 field_at_value s c w p q r h =
     field_at_test s c w true
     (ap₂ (λ (b d : Bool). b && d && leb c.bit max_place && leb w (length (from s c))) (le-leb 1 w p) (le-leb w max_width q)
@@ -94,10 +94,10 @@ module _ (s : List ℕ) (c : Cursor) (w : ℕ) where
   abbrev to_bit : ℕ
   to_bit = c.bit % 8 + w
 
-  pub field_at_far : max_place < c.bit → field_at s c w ≡ Cut
+  pub field_at_far : max_place < c.bit → field_at s c w ≡ None
   field_at_far h = field_at_cut s c w (λ p q r. absurd (omega arith))
 
-  pub field_at_short : length s < at_byte + (to_bit + 7) / 8 → field_at s c w ≡ Cut
+  pub field_at_short : length s < at_byte + (to_bit + 7) / 8 → field_at s c w ≡ None
   field_at_short h = field_at_cut s c w (λ p q r. rw length_from (omega arith))
 
   module _ {early : ℕ} (e : (early ≤ length s - 1) × (early * 8 ≤ max_place)) (h : at_byte < early) where
@@ -112,13 +112,13 @@ module _ (s : List ℕ) (c : Cursor) (w : ℕ) where
 
   pub field_at_window : {v word : ℕ} → Bytes s → 1 ≤ w → w ≤ max_width → c.bit ≤ max_place → at_byte + (to_bit + 7) / 8 ≤ length s
       → word ≡ window_at s at_byte → v ≡ word / 2 ^ (16 - to_bit) % 2 ^ w
-      → Value v (past c w) ≡ field_at s c w
+      → Some (v, past c w) ≡ field_at s c w
   unfolding from
   field_at_window bytes p q r h f e =
       let start : c.bit ≡ at_byte * 8 + c.bit % 8 = omega arith in
       let l : w ≤ length s * 8 - c.bit = omega arith in
       let inside : at_byte * 8 + c.bit % 8 + w ≤ length s * 8 = omega arith in
-      ap (λ (x : ℕ). Value x (past c w))
+      ap (λ (x : ℕ). Some (x, past c w))
       (e
       ∙ ap (λ (x : ℕ). x / 2 ^ (16 - to_bit) % 2 ^ w) f
       ∙ sym (value_of_window s at_byte (c.bit % 8) w bytes inside (omega arith))
@@ -132,36 +132,37 @@ pub record Found (s : List ℕ) (c : Cursor) (w v : ℕ) (next : Cursor) : Type 
   pub value : value_of (take w (from s c)) ≡ v
   pub behind : past c w ≡ next
 
-pub field_found : (s : List ℕ) (c : Cursor) (w v : ℕ) (next : Cursor) → field_at s c w ≡ Value v next → Found s c w v next
+pub field_found : (s : List ℕ) (c : Cursor) (w v : ℕ) (next : Cursor) → field_at s c w ≡ Some (v, next) → Found s c w v next
 field_found s c w v next e = go (is_field c w && leb w (length (from s c))) refl
   where
     go : (t : Bool) → is_field c w && leb w (length (from s c)) ≡ t → Found s c w v next
     go false p = let z : ◌≡◌ {A = ℕ} 0 1 = cc (field_at_test s c w false p, e) in absurd (omega arith)
     go true p =
+        let pair : Some (value_of (take w (from s c)), past c w) ≡ Some (v, next) = cc (field_at_test s c w true p, e) in
         record {
           narrow =
               leb-true w max_width
               (and_r (leb 1 w) (leb w max_width)
               (and_l (is_width w) (leb c.bit max_place) (and_l (is_field c w) (leb w (length (from s c))) p)));
           room = leb-true w (length (from s c)) (and_r (is_field c w) (leb w (length (from s c))) p);
-          value = cc (field_at_test s c w true p, e);
-          behind = cc (field_at_test s c w true p, e);
+          value = ap (λ (o : Option (ℕ × Cursor)). (unwrap_or o (0, c)).0) pair;
+          behind = ap (λ (o : Option (ℕ × Cursor)). (unwrap_or o (0, c)).1) pair;
         }
 
-pub field_near : (s : List ℕ) (c : Cursor) (w v : ℕ) (next : Cursor) → field_at s c w ≡ Value v next → next.bit ≤ c.bit + max_width
+pub field_near : (s : List ℕ) (c : Cursor) (w v : ℕ) (next : Cursor) → field_at s c w ≡ Some (v, next) → next.bit ≤ c.bit + max_width
 field_near s c w v next e =
     let f = field_found s c w v next e in
     let b : c.bit + w ≡ next.bit = ap (λ (x : Cursor). x.bit) f.behind in
     omega (arith, f.narrow)
 
-pub field_value : (s : List ℕ) (c : Cursor) (w v : ℕ) (next : Cursor) → field_at s c w ≡ Value v next → field w (from s c) ≡ parsed v (from s next)
+pub field_value : (s : List ℕ) (c : Cursor) (w v : ℕ) (next : Cursor) → field_at s c w ≡ Some (v, next) → field w (from s c) ≡ parsed v (from s next)
 unfolding field
 field_value s c w v next e =
     let f = field_found s c w v next e in
     field_room w (from s c) f.room
     ∙ ap₂ (λ (x : ℕ) (rest : List ℕ). parsed x rest) f.value (sym (from_past s c w) ∙ ap (from s) f.behind)
 
-pub field_cut : (s : List ℕ) (c : Cursor) (w : ℕ) → is_width w ≡ true → c.bit ≤ max_place → field_at s c w ≡ Cut → field w (from s c) ≡ refused 1
+pub field_cut : (s : List ℕ) (c : Cursor) (w : ℕ) → is_width w ≡ true → c.bit ≤ max_place → field_at s c w ≡ None → field w (from s c) ≡ refused 1
 unfolding field
 field_cut s c w h near e = ap (λ (t : Bool). unless t 1 (parsed (value_of (take w (from s c))) (drop w (from s c)))) (go (leb w (length (from s c))) refl)
   where
@@ -169,7 +170,7 @@ field_cut s c w h near e = ap (λ (t : Bool). unless t 1 (parsed (value_of (take
     go false p = p
     go true p = let z : ◌≡◌ {A = ℕ} 0 1 = cc (field_at_test s c w true (and_i (and_i h (le-leb c.bit max_place near)) p), e) in absurd (omega arith)
 
-pub field_lt : (s : List ℕ) (c : Cursor) (w v : ℕ) (next : Cursor) → field_at s c w ≡ Value v next → v < 2 ^ w
+pub field_lt : (s : List ℕ) (c : Cursor) (w v : ℕ) (next : Cursor) → field_at s c w ≡ Some (v, next) → v < 2 ^ w
 field_lt s c w v next e =
     let f = field_found s c w v next e in
     subst (λ (x : ℕ). x < 2 ^ w) f.value

@@ -17,6 +17,8 @@
 --   joined_beyond   a larger number is no member
 --   set_joined      what a set has with one more
 --   later_word, joined_word, union_word   these are words
+--   first_member, first_below   the lowest member of a set (`First`) is a member, and a number that a set may have
+--   first_others, first_word    what the others have, and that they are a word
 --   less_falls      where there are some, it is a smaller word
 use Prim.Native.Nat.{ℕ, zero, suc, ◌+◌, ◌-◌, ◌*◌, ◌/◌, ◌%◌, ◌^◌, ◌≤◌, ◌<◌, min, max}
 use native.Mathlib.Nat.{mod-lt, div-add-mod', mul-mod_left, mul-div_cancel, one-mul, pow-suc, le_of_suc-le-suc, not-suc-le-zero, lt_of_le_of_lt}
@@ -30,7 +32,7 @@ use lib.Bits.{bit_and, bit_or, bit_xor, differ, and_step, or_step, xor_step, and
 use lib.Count.{count_trailing_zeros, under}
 use lib.Dec.{eqb, eqb-zero-suc, eqb-suc-zero, eqb-suc-suc, lit<}
 use lib.Pow.{shr_lt, shl_exact, pow-lt}
-use Rattle.bits.specs.Sets.{max_members, has, lowest, later, joined}
+use Rattle.bits.specs.Sets.{max_members, has, lowest, later, joined, First}
 use Rattle.bits.proofs.Tests.{clash}
 use Rattle.bits.proofs.Below.{lt_or_ge}
 
@@ -246,6 +248,19 @@ later_less {set} h e = subst (λ (n : ℕ). n < set) (sym e) (later_falls (set_s
 pub later_word : {set : ℕ} → set < 2 ^ 64 → later set < 2 ^ 64
 unfolding later
 later_word {set} h = lt_of_le_of_lt (and_le_l set (set - 1)) h
+
+module _ {set low others : ℕ} (few : set < 2 ^ 64) (f : First set low others) where
+  pub first_member : has set low ≡ true
+  first_member = ap (has set) f.least ∙ (set_lowest set few (set_some f.some)).member
+
+  pub first_below : low < max_members
+  first_below = low_below few f.some f.least
+
+  pub first_others : (k : ℕ) → has others k ≡ has set k && not (eqb low k)
+  first_others k = ap (λ (n : ℕ). has n k) f.rest ∙ set_later set k few ∙ ap (λ (n : ℕ). has set k && not (eqb n k)) (sym f.least)
+
+  pub first_word : others < 2 ^ 64
+  first_word = subst (λ (n : ℕ). n < 2 ^ 64) (sym f.rest) (later_word few)
 
 -- ---- one member more
 

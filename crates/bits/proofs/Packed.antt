@@ -6,6 +6,7 @@
 --   length_bytes_to    so many bytes are asked for, so many there are
 --   tabulate_more      one entry more
 --   length_tabulate    the number of entries
+--   tabulate_constant  copies of one entry
 --   tabulate_at        the entries of a list of entries
 --   tabulate_past      past its end stands 0
 --   tabulate_list      a list is the list of its elements
@@ -29,6 +30,7 @@ use mathlib.Core.Path.{◌≡◌, refl, sym, ap, ◌∙◌}
 use mathlib.Core.List.{List, [], ◌∷◌, ◌++◌}
 use mathlib.Core.Logic.{⊎_elim}
 use lib.Arith.{digits_lt}
+use Rattle.std.proofs.lemmas.List.{replicate-append-replicate}
 use lib.ListN.{length, get_or, take, drop, replicate, length-append, length-take, get_or-append, get_or-eq_default}
 use lib.Pow.{pow_pos, high}
 use lib.Seq.{ext_get_or, get_or-take, get_or-drop, drop-drop, get_or-append_seam}
@@ -148,6 +150,11 @@ pub length_tabulate : (n : ℕ) (f : ℕ → ℕ) → length (tabulate n f) ≡ 
 unfolding tabulate
 length_tabulate zero f = refl
 length_tabulate (suc n) f = rw (length-append, length_tabulate n f) (add-one n)
+
+pub tabulate_constant : (n x : ℕ) → tabulate n (λ i. x) ≡ replicate n x
+unfolding tabulate
+tabulate_constant zero x = refl
+tabulate_constant (suc n) x = ap (λ (l : List ℕ). l ++ (x ∷ [])) (tabulate_constant n x) ∙ replicate-append-replicate n 1 x ∙ ap (λ (k : ℕ). replicate k x) (add-one n)
 
 pub tabulate_at : (n : ℕ) (f : ℕ → ℕ) (m : ℕ) → m < n → get_or (tabulate n f) m 0 ≡ f m
 unfolding tabulate

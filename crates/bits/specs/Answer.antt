@@ -2,16 +2,14 @@
 --
 --   number       the number of a refusal ("Refusal by operation")
 --   Answer A     a value of A, or a refusal's number
---   outcome      the answer of an operation that gives success alone
+--   outcome      what the result of an operation stands for
 --   unless       goes on where a test holds, and refuses with a number where it does not
 --   onward       goes on with the value of an answer; a refusal stays
 --   Fills A      a value, and the numbers that go to the start of the lent memory
 --   leaves       the answer, and the whole lent memory at exit
-use Rattle.std.specs.Prelude.{ℕ, Bool, true, false, List, ◌++◌, length, drop}
+use Rattle.std.specs.Prelude.{ℕ, Bool, true, false, List, Result, Ok, Err, ◌++◌, length, drop}
 use Rattle.bits.specs.declared.Refusal.{Refusal}
 use Rattle.bits.specs.declared.Refusal.TheVariants.{BytesEnd, Inputs, Gates, GateLine, OneLine, Output, FaultLine, FaultPair, Spare, Memory, Circuit, Table, Polarity, NoSpectrum, Alike, Index, Readings, Faults, LooseGate, OutputNumber, Part}
-use Rattle.bits.specs.declared.Outcome.{Outcome}
-use Rattle.bits.specs.declared.Outcome.TheVariants.{Done, Refused}
 
 -- "Refusal by operation", and the numbers that document 02 adds: the number of each cause
 abbrev pub number : Refusal → ℕ
@@ -41,10 +39,10 @@ pub data Answer (A : Type 0) : Type 0 where
   gives : A → Answer A
   refused : ℕ → Answer A
 
--- "table, spectrum and undoing give success alone"
-abbrev pub outcome : Outcome → Answer (Unit {0})
-outcome Done = gives tt
-outcome (Refused e) = refused (number e)
+-- what an operation's result stands for: its value, or the number of its refusal
+abbrev pub outcome : {A : Type 0} → Result A Refusal → Answer A
+outcome (Ok a) = gives a
+outcome (Err e) = refused (number e)
 
 abbrev pub unless : {A : Type 0} → Bool → ℕ → Answer A → Answer A
 unless true k a = a

@@ -1,9 +1,7 @@
 -- Kept by the code: a field of a string of bits, as it is found at a place.
-use Rattle.std.specs.Prelude.{ℕ, ◌+◌, ◌*◌, ◌^◌, List, Bool, ◌&&◌, cond, length, get_or, take, drop, leb, ltb, eqb}
+use Rattle.std.specs.Prelude.{ℕ, ◌+◌, ◌*◌, ◌^◌, List, Option, Some, None, Bool, ◌&&◌, cond, length, get_or, take, drop, leb, ltb, eqb}
 use Rattle.bits.specs.Bits.{string_of, value_of}
 use Rattle.bits.specs.declared.Cursor.{Cursor}
-use Rattle.bits.specs.declared.Field.{Field}
-use Rattle.bits.specs.declared.Field.TheVariants.{Value, Cut}
 
 -- the string from a place on
 unfoldable pub from : List ℕ → Cursor → List ℕ
@@ -24,8 +22,8 @@ is_width w = leb 1 w && leb w max_width
 abbrev pub max_place : ℕ
 max_place = 2 ^ 62
 
-unfoldable pub field_at : List ℕ → Cursor → ℕ → Field
-field_at s c w = cond (is_width w && leb c.bit max_place && leb w (length (from s c))) (Value (value_of (take w (from s c))) (past c w)) Cut
+unfoldable pub field_at : List ℕ → Cursor → ℕ → Option (ℕ × Cursor)
+field_at s c w = cond (is_width w && leb c.bit max_place && leb w (length (from s c))) (Some (value_of (take w (from s c)), past c w)) None
 
 -- "then zero bits up to a whole byte, and nothing after": less than a byte is left, and no bit of it is 1
 unfoldable pub spare_only : List ℕ → Bool

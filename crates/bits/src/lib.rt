@@ -18,10 +18,10 @@ ghost use Rattle.bits.specs.Field.{field_at, from, max_place, max_width, spare_o
 
 pub mod sets;
 
-// The causes for which an operation refuses, in the order of their numbers in documents 01 and 02.
-#[derive(Clone, Copy)]
+// The causes for which an operation refuses, each with its number in documents 01 and 02.
+#[derive(Clone, Copy, Debug, PartialEq, Eq)]
 pub enum Refusal {
-    BytesEnd,
+    BytesEnd = 1,
     Inputs,
     Gates,
     GateLine,
@@ -49,50 +49,14 @@ impl Refusal {
     pub fn number(self) -> usize
         ensures { result ≡ number self }
     {
-        match self {
-            Refusal::BytesEnd => 1,
-            Refusal::Inputs => 2,
-            Refusal::Gates => 3,
-            Refusal::GateLine => 4,
-            Refusal::OneLine => 5,
-            Refusal::Output => 6,
-            Refusal::FaultLine => 7,
-            Refusal::FaultPair => 8,
-            Refusal::Spare => 9,
-            Refusal::Memory => 10,
-            Refusal::Circuit => 11,
-            Refusal::Table => 12,
-            Refusal::Polarity => 13,
-            Refusal::NoSpectrum => 14,
-            Refusal::Alike => 15,
-            Refusal::Index => 16,
-            Refusal::Readings => 17,
-            Refusal::Faults => 18,
-            Refusal::LooseGate => 19,
-            Refusal::OutputNumber => 20,
-            Refusal::Part => 21,
-        }
+        self as usize
     }
 }
 
-// Success alone, or the refusal.
-#[derive(Clone, Copy)]
-pub enum Outcome {
-    Done,
-    Refused(Refusal),
-}
-
 // A place in a string of bits: how many bits stand before it.
-#[derive(Clone, Copy)]
+#[derive(Clone, Copy, Debug, PartialEq, Eq)]
 pub struct Cursor {
     pub bit: usize,
-}
-
-// What stands at a place: a field's value with the place behind it, or bytes that end inside the field.
-#[derive(Clone, Copy)]
-pub enum Field {
-    Value(usize, Cursor),
-    Cut,
 }
 
 // The lesser of two numbers.
@@ -106,7 +70,7 @@ pub fn least(a: usize, b: usize) -> usize
 fn byte_or_zero(s: &[u8], at: usize) -> usize
     ensures { (result ≡ get_or s.now at 0) × (result < 256) }
 {
-    if at < s.len() { s[at] as usize } else { 0 }
+    s.get(at).map_or(0, |&byte| byte as usize)
 }
 
 // The number that the two bytes from a place on make.
@@ -153,32 +117,32 @@ fn early_bytes(size: usize) -> usize
 }
 
 // The field at a place among the last bytes or past them, where it may be cut.
-fn late_field(s: &[u8], c: Cursor, width: usize) -> Field
+fn late_field(s: &[u8], c: Cursor, width: usize) -> Option<(usize, Cursor)>
     requires { (1 ≤ width) × (width ≤ max_width) }
     ensures { result ≡ field_at s.now c width }
 {
     let bit = c.bit;
     if MAX_PLACE < bit {
-        return Field::Cut;
+        return None;
     }
     let at = bit / 8;
     let end = bit % 8 + width;
     if s.len() < at + (end + 7) / 8 {
-        return Field::Cut;
+        return None;
     }
     let next = Cursor { bit: bit + width };
-    Field::Value(bits_before(last_bytes(s, at), end, width), next)
+    Some((bits_before(last_bytes(s, at), end, width), next))
 }
 
 // The field of `width` bits at a place. A width outside 1 to MAX_WIDTH is no field of the layout, and is answered as cut.
-pub fn read_field(s: &[u8], c: Cursor, width: usize) -> Field
+pub fn read_field(s: &[u8], c: Cursor, width: usize) -> Option<(usize, Cursor)>
     ensures { result ≡ field_at s.now c width }
 {
     if width < 1 {
-        return Field::Cut;
+        return None;
     }
     if MAX_WIDTH < width {
-        return Field::Cut;
+        return None;
     }
     let bit = c.bit;
     let at = bit / 8;
@@ -188,7 +152,7 @@ pub fn read_field(s: &[u8], c: Cursor, width: usize) -> Field
     }
     let end = bit % 8 + width;
     let next = Cursor { bit: bit + width };
-    Field::Value(bits_before(two_bytes(s, at), end, width), next)
+    Some((bits_before(two_bytes(s, at), end, width), next))
 }
 
 // Whether from a place on there are only spare bits: less than a byte, no bit of it 1.
@@ -247,18 +211,7 @@ pub fn fill(rows: &mut [u8], to: usize, count: usize, byte: u8)
     if !has_room(rows.len(), to, count) {
         return;
     }
-    fill_bytes(rows, to, count, byte);
-}
-
-fn fill_bytes(rows: &mut [u8], to: usize, count: usize, byte: u8)
-    requires { to + count ≤ length rows.old }
-    ensures { rows.new ≡ splice rows.old to (tabulate count (λ i. byte)) }
-{
-    let mut i = 0;
-    while i < count {
-        rows[to + i] = byte;
-        i += 1;
-    }
+    rows[to..to + count].fill(byte);
 }
 
 // Copies `count` bytes at `at` of the rows to `to`, if they end within both.
@@ -271,30 +224,12 @@ pub fn copy(out: &mut [u8], to: usize, rows: &[u8], at: usize, count: usize)
     if !has_room(rows.len(), at, count) {
         return;
     }
-    copy_bytes(out, to, rows, at, count);
-}
-
-fn copy_bytes(out: &mut [u8], to: usize, rows: &[u8], at: usize, count: usize)
-    requires { (to + count ≤ length out.old) × (at + count ≤ length rows.now) }
-    ensures { out.new ≡ splice out.old to (slice at count rows.now) }
-{
-    let mut i = 0;
-    while i < count {
-        out[to + i] = rows[at + i];
-        i += 1;
-    }
+    out[to..to + count].copy_from_slice(&rows[at..at + count]);
 }
 
 // Whether all numbers of a list are below a bound.
 pub fn all_below(list: &[u16], bound: usize) -> bool
     ensures { result ≡ all_below bound list.now }
 {
-    let mut i = 0;
-    while i < list.len() {
-        if bound <= list[i] as usize {
-            return false;
-        }
-        i += 1;
-    }
-    true
+    list.iter().all(|&x| (x as usize) < bound)
 }

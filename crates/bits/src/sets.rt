@@ -1,6 +1,9 @@
 // Sets of numbers below 64, a number a bit of a word.
-ghost use Rattle.std.specs.Prelude.{◌≡◌};
-ghost use Rattle.bits.specs.Sets.{joined, later, lowest};
+ghost use Rattle.std.specs.Prelude.{ℕ, ◌≡◌};
+ghost use Rattle.std.specs.Iterator.{at_most};
+ghost use Rattle.bits.specs.Sets.{joined, later, lowest, YieldsLowest};
+
+use std::marker::Model;
 
 // So many numbers a set may have.
 pub const MAX_MEMBERS: usize = 64;
@@ -30,4 +33,39 @@ pub fn joined(set: u64, member: usize) -> u64
         return set;
     }
     set | (1 << member)
+}
+
+// The members of a set, the lowest first.
+#[derive(Drop)]
+pub struct Members {
+    left: u64,
+}
+
+impl Model for Members {
+    ghost Value = { ℕ };
+
+    ghost view = { λ m. m.left };
+}
+
+pub fn members_of(set: u64) -> Members
+    ensures { result ≡ set }
+{
+    Members { left: set }
+}
+
+impl Iterator for Members {
+    type Item = usize;
+
+    ghost next_gives = { YieldsLowest };
+
+    ghost remaining = { at_most };
+
+    fn next(&mut self) -> Option<usize> {
+        if self.left == 0 {
+            return None;
+        }
+        let member = lowest(self.left);
+        self.left = later(self.left);
+        Some(member)
+    }
 }

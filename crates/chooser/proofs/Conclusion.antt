@@ -7,15 +7,14 @@
 --   conclude_none, conclude_pair   what is answered without a first pair, and with one
 --   signature_agree   a needed pair agrees on the signature when it agrees on the scan
 --   choice_kept       what is concluded from the entries kept is the choice
---   choice_unmarked, choice_unfit, choice-fit   the tests before it
 use Prim.Native.Nat.{ℕ, zero, suc, ◌^◌, ◌≤◌, ◌<◌}
 use native.Mathlib.Nat.{lt_of_lt_of_le}
 use native.Mathlib.Omega.{arith}
 use mathlib.Core.Path.{◌≡◌, refl, sym, ap, ap₂, subst, ◌∙◌}
-use mathlib.Core.Bool.{Bool, true, not, ◌&&◌, and-false}
+use mathlib.Core.Bool.{Bool, true, ◌&&◌, and-false}
 use mathlib.Core.Logic.{◌⊎◌, inl, inr, ⊎_elim}
 use mathlib.Core.List.{List, []}
-use borrow.Author.Tests.{ltb-true, lt-ltb, le-leb, lt-leb, not-true}
+use borrow.Author.Tests.{ltb-true, lt-ltb, le-leb}
 use lib.Dec.{ltb}
 use lib.ListN.{length, get_or, drop}
 use Rattle.bits.specs.Sets.{has, lowest}
@@ -28,11 +27,11 @@ use Rattle.method.proofs.Agreement.{agree_without}
 use Rattle.method.proofs.Firsts.{first_pair_nobody, nobody_first_pair, first_pair_pair}
 use Rattle.method.proofs.Signatures.{signature_tell}
 use Rattle.method.proofs.Takes.{takes_agree}
-use Rattle.chooser.specs.Matrix.{max_rows, cell, differ, fits, signature_of, choice_by, choice_over, choice, no_matrix}
+use Rattle.chooser.specs.Matrix.{max_rows, cell, differ, fits, signature_of, choice_by, choice_over, choice}
 use Rattle.chooser.specs.Pairing.{pair_of, base, Paired, Listed, Sound, keeps, Keeps}
-use Rattle.chooser.specs.declared.Choice.{Choice}
+use Rattle.std.specs.Prelude.{Result, Ok, Err}
 use Rattle.chooser.specs.declared.Signature.{Signature}
-use Rattle.chooser.specs.declared.Untold.TheVariants.{Nobody}
+use Rattle.chooser.specs.declared.Untold.{Untold}
 use Rattle.chooser.specs.declared.Untold.TheVariants as two
 use Rattle.chooser.proofs.KeptEntries.{signature_keeps}
 use Rattle.chooser.proofs.Soundness.{pair_below, pair_listed, listed_pair, low_first}
@@ -116,16 +115,13 @@ module _ {rest : List ℕ} {rows : ℕ} (s : Sound rest) (l : Listed rows rest) 
         inr (e, low_first s low y (subst (λ (v : ℕ). pair_of rest v y ≡ true) (sym e) t)))
         (lt_or_ge low x))
 
-  pub conclude_none : (l : List ℕ) {s : Signature} → rows ≡ 0 → s ≡ signature_of l
-      → ◌≡◌ {A = Choice} (record { untold = Nobody; signature = s }) (choice_by (first_pair max_rows (pair_of rest)) l)
-  conclude_none l z e =
-      ap (λ (s : Signature). record { untold = Nobody; signature = s }) e ∙ ap (λ (p : Pair). choice_by p l) (sym (first_none z))
+  pub conclude_none : (l : List ℕ) {s : Signature} → rows ≡ 0 → s ≡ signature_of l → ◌≡◌ {A = Result Signature Untold} (Ok s) (choice_by (first_pair max_rows (pair_of rest)) l)
+  conclude_none l z e = ap Ok e ∙ ap (λ (p : Pair). choice_by p l) (sym (first_none z))
 
-  pub conclude_pair : (l : List ℕ) {s : Signature} {a b : ℕ} → rows < 2 ^ 64 → (rows ≡ 0 → ⊥) → a ≡ lowest rows → b ≡ lowest (get_or rest a 0) → s ≡ signature_of []
-      → ◌≡◌ {A = Choice} (record { untold = two.Pair a b; signature = s }) (choice_by (first_pair max_rows (pair_of rest)) l)
-  conclude_pair l {a = a} {b} few some p q e =
-      ap (λ (s : Signature). record { untold = two.Pair a b; signature = s }) e
-      ∙ ap₂ (λ (x y : ℕ). choice_by (pair x y) l) p (q ∙ ap (λ (n : ℕ). lowest (get_or rest n 0)) p)
+  pub conclude_pair : (l : List ℕ) {a b : ℕ} → rows < 2 ^ 64 → (rows ≡ 0 → ⊥) → a ≡ lowest rows → b ≡ lowest (get_or rest a 0)
+      → ◌≡◌ {A = Result Signature Untold} (Err (two.Pair a b)) (choice_by (first_pair max_rows (pair_of rest)) l)
+  conclude_pair l {a} {b} few some p q =
+      ap₂ (λ (x y : ℕ). choice_by (pair x y) l) p (q ∙ ap (λ (n : ℕ). lowest (get_or rest n 0)) p)
       ∙ ap (λ (x : Pair). choice_by x l) (sym (first_low few (set_some some)))
 
 -- ---- the signature and the scan
@@ -148,14 +144,6 @@ module _ (coef : ℕ → ℕ → ℕ) (rows : ℕ) (needed : ℕ → ℕ → Boo
 -- ---- the answer
 
 module _ (work : List ℕ) (width rows : ℕ) (marks scan : List ℕ) where
-  pub choice_unmarked : {r : Choice} → length marks < rows → r ≡ no_matrix → r ≡ choice work width rows marks scan
-  unfolding choice
-  choice_unmarked h e = e ∙ simp (lt-leb rows (length marks) h)
-
-  pub choice_unfit : {t : Bool} {r : Choice} → t ≡ fits work width rows scan → not t ≡ true → r ≡ no_matrix → r ≡ choice work width rows marks scan
-  unfolding choice
-  choice_unfit {t} e f n = n ∙ simp (sym e ∙ not-true t f, and-false)
-
   module _ (marked : rows ≤ length marks) (fit : fits work width rows scan ≡ true) (most : rows ≤ max_rows) where
     choice_over_lem : choice_over work width rows (differ marks) scan ≡ choice work width rows marks scan
     unfolding choice
@@ -185,7 +173,7 @@ module _ (work : List ℕ) (width rows : ℕ) (marks scan : List ℕ) where
               (λ n. simp (t, n, and-false)))
               (λ t. simp (t, and-false))
 
-      pub choice_kept : {start : ℕ} {rest entries : List ℕ} {r : Choice} → Keeps coef pairs (keeps coef (pair_of pairs) (pair_of pairs) scan) start rest entries
+      pub choice_kept : {start : ℕ} {rest entries : List ℕ} {r : Result Signature Untold} → Keeps coef pairs (keeps coef (pair_of pairs) (pair_of pairs) scan) start rest entries
           → r ≡ choice_by (first_pair max_rows (pair_of rest)) (drop start entries) → r ≡ choice work width rows marks scan
       unfolding choice_over
       choice_kept {start} {rest} w e =

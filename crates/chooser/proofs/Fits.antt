@@ -1,15 +1,14 @@
 -- The tests of a matrix (specs/Matrix.antt).
 --
---   fits_told       the tests hold, as the code finds them
 --   fits_most, fits_filled, fits_within   what the tests tell
 --   unfit_none, unfit_many, unfit_width, unfit_work  one of the tests fails
 --   fit_entries     all but the last hold
 use Prim.Native.Nat.{ℕ, ◌*◌, ◌/◌, ◌≤◌, ◌<◌}
 use native.Mathlib.Nat.{le-div_iff_mul-le, div-lt_iff_lt-mul}
-use mathlib.Core.Path.{◌≡◌, sym, ◌∙◌}
-use mathlib.Core.Bool.{Bool, true, false, not, ◌&&◌, and-false}
+use mathlib.Core.Path.{◌≡◌}
+use mathlib.Core.Bool.{Bool, true, false, ◌&&◌, and-false}
 use mathlib.Core.List.{List}
-use borrow.Author.Tests.{not-false, leb-true, le-leb, lt-leb}
+use borrow.Author.Tests.{leb-true, le-leb, lt-leb}
 use lib.Dec.{leb}
 use lib.ListN.{length}
 use Rattle.bits.specs.Bounds.{all_below}
@@ -40,9 +39,6 @@ module _ (work : List ℕ) (width rows : ℕ) (scan : List ℕ) where
   unfolding fits
   fit_entries h k m n =
       simp (le-leb 1 rows h, le-leb rows max_rows k, le-leb 1 width m, le-leb (rows * width) (length work) ((le-div_iff_mul-le m).0 n))
-
-  pub fits_told : {t : Bool} → t ≡ fits work width rows scan → not t ≡ false → fits work width rows scan ≡ true
-  fits_told {t} e n = sym e ∙ not-false t n
 
   module _ (e : fits work width rows scan ≡ true) where
     abbrev wide : Bool

@@ -8,13 +8,13 @@
 --   signature_of    entries as a signature, the places past them 0
 --   choice_over     what the method chooses, over a relation of needed pairs
 --   choice          the same where each row has a mark, and rows are to be told apart whose marks differ
-use Rattle.std.specs.Prelude.{ℕ, zero, suc, ◌-◌, ◌+◌, ◌*◌, Bool, not, cond, ◌&&◌, List, [], ◌∷◌, ◌++◌, leb, eqb, length, get_or}
+use Rattle.std.specs.Prelude.{ℕ, zero, suc, ◌-◌, ◌+◌, ◌*◌, Bool, not, cond, ◌&&◌, List, [], ◌∷◌, ◌++◌, Result, Ok, Err, leb, eqb, length, get_or}
 use Rattle.bits.specs.Bounds.{all_below}
 use Rattle.method.specs.Method.{agree, signature, first_pair}
 use Rattle.method.specs.Method as method
 use Rattle.method.specs.Method.Pair.{nobody, pair}
-use Rattle.chooser.specs.declared.Choice.{Choice}
-use Rattle.chooser.specs.declared.Untold.TheVariants.{Nobody, Pair, NoMatrix}
+use Rattle.chooser.specs.declared.Untold.{Untold}
+use Rattle.chooser.specs.declared.Untold.TheVariants.{Pair, NoMatrix}
 use Rattle.chooser.specs.declared.Signature.{Signature}
 
 -- as many rows as a job has circuits, "0 to f"
@@ -43,16 +43,16 @@ abbrev pub signature_of : List ℕ → Signature
 signature_of l = record { count = length l; entries = l ++ zeros (max_signature - length l) }
 
 -- a signature, unless there is a pair that nothing tells apart
-abbrev pub choice_by : method.Pair → List ℕ → Choice
-choice_by nobody l = record { untold = Nobody; signature = signature_of l }
-choice_by (pair a b) l = record { untold = Pair a b; signature = signature_of [] }
+abbrev pub choice_by : method.Pair → List ℕ → Result Signature Untold
+choice_by nobody l = Ok (signature_of l)
+choice_by (pair a b) l = Err (Pair a b)
 
-unfoldable pub choice_over : List ℕ → ℕ → ℕ → (ℕ → ℕ → Bool) → List ℕ → Choice
+unfoldable pub choice_over : List ℕ → ℕ → ℕ → (ℕ → ℕ → Bool) → List ℕ → Result Signature Untold
 choice_over work width rows needed scan =
     choice_by (first_pair rows (λ a b. needed a b && agree (cell work width) scan a b)) (signature (cell work width) rows needed scan)
 
-abbrev pub no_matrix : Choice
-no_matrix = record { untold = NoMatrix; signature = signature_of [] }
+abbrev pub no_matrix : Result Signature Untold
+no_matrix = Err NoMatrix
 
-unfoldable pub choice : List ℕ → ℕ → ℕ → List ℕ → List ℕ → Choice
+unfoldable pub choice : List ℕ → ℕ → ℕ → List ℕ → List ℕ → Result Signature Untold
 choice work width rows marks scan = cond (leb rows (length marks) && fits work width rows scan) (choice_over work width rows (differ marks) scan) no_matrix

@@ -9,10 +9,10 @@
 // rows, which is why there is always room for one more.
 #![tactic(auto)]
 
-ghost use Rattle.std.specs.Prelude.{◌≤◌, ◌<◌, ◌≡◌, true, [], length, drop};
+ghost use Rattle.std.specs.Prelude.{◌≤◌, ◌<◌, ◌≡◌, true, length, drop};
 ghost use Rattle.method.specs.Method.{first_pair};
 ghost use Rattle.bits.specs.Bounds.{all_below};
-ghost use Rattle.chooser.specs.Matrix.{cell, max_rows, max_signature, fits, choice, choice_by, no_matrix, signature_of};
+ghost use Rattle.chooser.specs.Matrix.{cell, max_rows, max_signature, fits, choice, choice_by, signature_of};
 ghost use Rattle.chooser.specs.Pairing.{pair_of, There, Sound, Room, Put, keeps, Keeps};
 
 mod pairs;
@@ -24,43 +24,17 @@ pub const MAX_ROWS: usize = 64;
 pub const MAX_SIGNATURE: usize = 63;
 
 // Entries in the order of taking; the places past the count are 0.
-#[derive(Clone, Copy)]
+#[derive(Clone, Copy, Debug, PartialEq, Eq)]
 pub struct Signature {
     pub count: usize,
     pub entries: [u16; MAX_SIGNATURE],
 }
 
-// Nobody: all rows that should be are told apart. Or the first two that are not; or the lent memory is no such matrix.
-#[derive(Clone, Copy)]
+// Why there is no signature: the first two rows that should be told apart and are not, or the lent memory is no such matrix.
+#[derive(Clone, Copy, Debug, PartialEq, Eq)]
 pub enum Untold {
-    Nobody,
     Pair(usize, usize),
     NoMatrix,
-}
-
-#[derive(Clone, Copy)]
-pub struct Choice {
-    pub untold: Untold,
-    pub signature: Signature,
-}
-
-fn no_signature() -> Signature
-    ensures { result ≡ signature_of [] }
-{
-    Signature {
-        count: 0,
-        entries: [0u16; MAX_SIGNATURE],
-    }
-}
-
-// The answer that the lent memory is no such matrix.
-fn no_choice() -> Choice
-    ensures { result ≡ no_matrix }
-{
-    Choice {
-        untold: Untold::NoMatrix,
-        signature: no_signature(),
-    }
 }
 
 // Whether there are so many rows of so many numbers, and every entry lies within a row.
@@ -145,27 +119,28 @@ fn choose_from(
 }
 
 // The first pair that is left, or the entries kept.
-fn conclude(start: usize, rest: &[u64; MAX_ROWS], kept: &[u16]) -> Choice
+fn conclude(start: usize, rest: &[u64; MAX_ROWS], kept: &[u16]) -> Result<Signature, Untold>
     requires { Sound rest.now × (start ≤ max_signature) × (length kept.now ≡ max_signature) }
     ensures { result ≡ choice_by (first_pair max_rows (pair_of rest.now)) (drop start kept.now) }
 {
     let rows = pairs::paired(rest);
     if rows == 0 {
-        return Choice {
-            untold: Untold::Nobody,
-            signature: aligned(start, kept),
-        };
+        let signature = aligned(start, kept);
+        return Ok(signature);
     }
     let a = bits::sets::lowest(rows);
     let b = bits::sets::lowest(rest[a]);
-    Choice {
-        untold: Untold::Pair(a, b),
-        signature: no_signature(),
-    }
+    Err(Untold::Pair(a, b))
 }
 
 // The answer of a matrix.
-fn choose_fit(work: &[u16], width: usize, rows: usize, marks: &[u8], scan: &[u16]) -> Choice
+fn choose_fit(
+    work: &[u16],
+    width: usize,
+    rows: usize,
+    marks: &[u8],
+    scan: &[u16],
+) -> Result<Signature, Untold>
     requires { (rows ≤ length marks.now) × (fits work.now width rows scan.now ≡ true) }
     ensures { result ≡ choice work.now width rows marks.now scan.now }
 {
@@ -178,14 +153,18 @@ fn choose_fit(work: &[u16], width: usize, rows: usize, marks: &[u8], scan: &[u16
 }
 
 // The signature of the method, or the first two rows that should be told apart and are not.
-pub fn choose(work: &[u16], width: usize, rows: usize, marks: &[u8], scan: &[u16]) -> Choice
+#[tactic(auto, unfolding(crate::specs::Matrix::choice))]
+pub fn choose(
+    work: &[u16],
+    width: usize,
+    rows: usize,
+    marks: &[u8],
+    scan: &[u16],
+) -> Result<Signature, Untold>
     ensures { result ≡ choice work.now width rows marks.now scan.now }
 {
-    if marks.len() < rows {
-        return no_choice();
-    }
-    if !fitting(work, width, rows, scan) {
-        return no_choice();
+    if marks.len() < rows || !fitting(work, width, rows, scan) {
+        return Err(Untold::NoMatrix);
     }
     choose_fit(work, width, rows, marks, scan)
 }

@@ -5,29 +5,27 @@
 --   length_outputs  as many as there are outputs
 --   length_codes    those of indices are as many as indices times outputs
 --   codes_at, codes_block   and stand index after index
---   output_fits, index_fits   what an entry's number is taken apart into fits two bytes
---   index_rest      its index is what is left of it
+--   size_shifted, size_some   the number of coefficients of an output fits two bytes, and is not 0
 --   decoded_map     numbers taken apart one by one
 --   codes_within    the numbers of entries within a circuit's
 --   decoded_codes   entries as numbers, taken apart
 --   scan_size       as many indices are looked at as there are
---   scan_count, scan_few, scan_bounded, scan_room, scan_fits   what putting their entries asks
+--   scan_within, scan_length, scan_bounded, scan_room   what putting their entries asks
 --   scan_coded      the entries in the order of looking, each as its number
 use Prim.Native.Nat.{ℕ, zero, suc, ◌+◌, ◌-◌, ◌*◌, ◌/◌, ◌%◌, ◌^◌, ◌≤◌, ◌<◌}
-use native.Mathlib.Nat.{zero-mul, suc-mul, lt_of_le_of_lt, mul_comm, mul-le-mul, div-le_self, div-mul-le_self, div-add-mod, mod-eq_of_lt, zero-div, zero-mod}
+use native.Mathlib.Nat.{zero-mul, one-mul, suc-mul, mul_comm, mul-le-mul, mod-eq_of_lt, zero-div, zero-mod}
 use native.Mathlib.Omega.{arith}
 use mathlib.Core.Bool.{true}
 use mathlib.Core.Path.{◌≡◌, refl, sym, ap, ap₂, subst, ◌∙◌}
 use mathlib.Core.List.{List, [], ◌∷◌, ◌++◌, map, map-append, Memᴰ}
-use mir.Syntax.{w64}
-use mir.Val.{Fits}
 use lib.Count.{ones-le}
-use lib.Pow.{pow_mono}
+use lib.Pow.{pow_mono, pow_pos}
 use lib.ListN.{length, get_or, take, drop, length-map, length-append, get_or-map}
 use lib.Seq.{take_at}
 use Rattle.bits.specs.Blocks.{block}
 use Rattle.bits.specs.Bounds.{all_below}
 use Rattle.bits.specs.Packed.{tabulate}
+use Rattle.bits.specs.Sizes.{table_size_of}
 use Rattle.bits.specs.Slices.{splice}
 use Rattle.bits.proofs.Blocks.{block_ext, block_append}
 use Rattle.bits.proofs.Bounds.{members_below}
@@ -42,8 +40,8 @@ use Rattle.chooser.specs.Matrix.{max_signature, zeros}
 use Rattle.choosing.specs.Choosing.{scan_order, outputs_at, entries_of, signature_of}
 use Rattle.choosing.specs.Looking.{max_places, max_entries, Listed, decoded_from}
 use Rattle.choosing.proofs.Indices.{scan_below, length_all}
-use Rattle.choosing.proofs.Order.{listed_length}
-use Rattle.choosing.proofs.Sizes.{entries_fit}
+use Rattle.choosing.proofs.Order.{size_few, listed_sized, listed_length, listed_within}
+use Rattle.choosing.proofs.Sizes.{entries_fit, inputs_small}
 
 -- ---- the entries of an index
 
@@ -91,20 +89,12 @@ codes_block size outputs (x ∷ l) =
 
 -- ---- numbers taken apart
 
-pub output_fits : (x n : ℕ) → x < 2 ^ 16 → x / 2 ^ n < 2 ^ 16
-output_fits x n h = lt_of_le_of_lt (div-le_self x (2 ^ n)) h
+-- the size as the code works it out
+pub size_shifted : (n : ℕ) → n ≤ max_inputs → 1 * 2 ^ n % 2 ^ 16 ≡ 2 ^ n
+size_shifted n h = rw one-mul (mod-eq_of_lt (omega (arith, inputs_small, pow_mono {i = n} {j = max_inputs} h)))
 
-whole : (x n : ℕ) → x < 2 ^ 16 → x / 2 ^ n * 2 ^ n % 2 ^ 64 ≡ x / 2 ^ n * 2 ^ n
-whole x n h = mod-eq_of_lt (omega (arith, div-mul-le_self x (2 ^ n)))
-
-pub whole_within : (x n : ℕ) → x < 2 ^ 16 → x / 2 ^ n * 2 ^ n % 2 ^ 64 ≤ x
-whole_within x n h = rw (whole x n h) (div-mul-le_self x (2 ^ n))
-
-pub index_rest : (x n : ℕ) → x < 2 ^ 16 → x - x / 2 ^ n * 2 ^ n % 2 ^ 64 ≡ x % 2 ^ n
-index_rest x n h = rw (whole x n h) (omega (arith, div-add-mod x (2 ^ n), div-mul-le_self x (2 ^ n), mul_comm (2 ^ n) (x / 2 ^ n)))
-
-pub rest_fits : (x n : ℕ) → x < 2 ^ 16 → x - x / 2 ^ n * 2 ^ n % 2 ^ 64 < 2 ^ 16
-rest_fits x n h = omega arith
+pub size_some : (n : ℕ) → n ≤ max_inputs → 0 < 1 * 2 ^ n % 2 ^ 16
+size_some n h = rw (size_shifted n h) (pow_pos n)
 
 pub decoded_map : (f : ℕ → ℕ) (l : List ℕ) → f 0 ≡ 0 → tabulate (length l) (λ i. f (get_or l i 0)) ≡ map f l
 decoded_map f l z =
@@ -148,41 +138,44 @@ decoded_codes size l h i =
 pub scan_size : (n : ℕ) → length (scan_order n) ≡ 2 ^ n
 scan_size n = length_all (2 ^ n) (n + 1) (λ e h. omega (arith, ones-le n e h))
 
-module _ (n outputs : ℕ) (few : n ≤ max_inputs) (outputs_few : outputs ≤ max_outputs) {count : ℕ} {places : List ℕ} (w : Listed (scan_order n) count places) where
-  pub scan_count : count ≡ 2 ^ n
-  scan_count = w.counted ∙ scan_size n
+module _ (n outputs : ℕ) (few : n ≤ max_inputs) (outputs_few : outputs ≤ max_outputs) {size : ℕ} (answered : size ≡ table_size_of n)
+    {places : List ℕ} (listed : Listed (scan_order n) (2 ^ n) places) where
+  w : Listed (scan_order n) size places
+  w = listed_sized few answered (λ k. k) listed
 
-  pub scan_few : count ≤ max_places
-  unfolding max_places
-  scan_few = subst (λ (k : ℕ). k ≤ 2 ^ max_inputs) (sym scan_count) (pow_mono few)
+  sized : size ≡ 2 ^ n
+  sized = w.counted ∙ scan_size n
 
-  pub scan_bounded : all_below count (take count places) ≡ true
+  pub scan_within : size ≤ length places
+  scan_within = listed_within w
+
+  pub scan_length : size ≡ length (take size places)
+  scan_length = listed_length w
+
+  pub scan_bounded : all_below size (take size places) ≡ true
   scan_bounded =
-      ap₂ all_below scan_count w.done ∙ members_below (2 ^ n) (scan_order n) (λ e m. scan_below n m)
+      ap₂ all_below sized w.done ∙ members_below (2 ^ n) (scan_order n) (λ e m. scan_below n m)
 
-  entries_few : count * outputs ≤ max_entries
+  entries_few : size * outputs ≤ max_entries
   unfolding max_entries
-  entries_few = subst (λ (k : ℕ). k ≤ max_outputs * max_places) (mul_comm outputs count) (mul-le-mul outputs_few scan_few)
+  entries_few = subst (λ (k : ℕ). k ≤ max_outputs * max_places) (mul_comm outputs size) (mul-le-mul outputs_few (size_few few answered))
 
-  pub scan_room : {room : ℕ} → room ≡ max_entries → length (take count places) * outputs ≤ room
+  pub scan_room : {room : ℕ} → room ≡ max_entries → length (take size places) * outputs ≤ room
   scan_room {room} e =
-      subst (λ (k : ℕ). length (take count places) * outputs ≤ k) (sym e)
-      (subst (λ (k : ℕ). k * outputs ≤ max_entries) (listed_length w) entries_few)
+      subst (λ (k : ℕ). length (take size places) * outputs ≤ k) (sym e)
+      (subst (λ (k : ℕ). k * outputs ≤ max_entries) scan_length entries_few)
 
-  pub scan_fits : Fits w64 (count * outputs)
-  scan_fits = omega (arith, entries_few, entries_fit)
-
-  pub scan_coded : (start : List ℕ) {after : List ℕ} → after ≡ splice start 0 (codes_of count (entries_of outputs (take count places)))
-      → Listed (codes_of (2 ^ n) (entries_of outputs (scan_order n))) (count * outputs) after
+  pub scan_coded : (start : List ℕ) {after : List ℕ} → after ≡ splice start 0 (codes_of size (entries_of outputs (take size places)))
+      → Listed (codes_of (2 ^ n) (entries_of outputs (scan_order n))) (2 ^ n * outputs) after
   scan_coded start {after} e =
       let codes = codes_of (2 ^ n) (entries_of outputs (scan_order n)) in
-      let long : count * outputs ≡ length codes =
-      ap (λ (k : ℕ). k * outputs) w.counted ∙ sym (length_codes (2 ^ n) outputs (scan_order n))
+      let long : 2 ^ n * outputs ≡ length codes =
+      ap (λ (k : ℕ). k * outputs) listed.counted ∙ sym (length_codes (2 ^ n) outputs (scan_order n))
       in
       record {
         counted = long;
         done =
-            ap (take (count * outputs))
-            (e ∙ ap₂ (λ (k : ℕ) (l : List ℕ). splice start 0 (codes_of k (entries_of outputs l))) scan_count w.done ∙ splice_start start codes)
-            ∙ take_at codes (drop (length codes) start) (count * outputs) (sym long);
+            ap (take (2 ^ n * outputs))
+            (e ∙ ap₂ (λ (k : ℕ) (l : List ℕ). splice start 0 (codes_of k (entries_of outputs l))) sized w.done ∙ splice_start start codes)
+            ∙ take_at codes (drop (length codes) start) (2 ^ n * outputs) (sym long);
       }

@@ -4,7 +4,6 @@
 --   needed_same       which pairs are needed depends on the parts alone
 --   filled_answer     what the method chooses from the spectra in the work, by the marks of a purpose
 --   chosen_same       choosing sees no more of a family than its parts and entries
---   exited            what a call answers and leaves
 --   chosen_room       where the spectra are filled, there was room for them
 --   chosen_unfilled   a refusal of the spectra is choosing's
 --   chosen_filled     and what is chosen over the work is choosing's answer
@@ -17,14 +16,12 @@ use mathlib.Core.Path.{◌≡◌, refl, sym, ap, ap₂, subst, ◌∙◌}
 use mathlib.Core.Bool.{Bool, true, not, ◌&&◌}
 use mathlib.Core.List.{List, [], ◌++◌, Memᴰ}
 use borrow.Author.Tests.{le-leb, ltb-true, ne_eqb}
+use Rattle.std.specs.Prelude.{Result}
 use lib.Dec.{leb, eqb}
 use lib.ListN.{length, get_or, take, drop, length-append}
 use lib.Pow.{pow_pos}
-use Rattle.bits.specs.Answer.{Answer, Fills, Leaves, leaves, number, outcome, unless, onward}
+use Rattle.bits.specs.Answer.{Answer, Fills, Leaves, leaves, unless, onward}
 use Rattle.bits.specs.Answer.Answer.{gives, refused}
-use Rattle.bits.specs.declared.Outcome.{Outcome}
-use Rattle.bits.specs.declared.Outcome.TheVariants as outcomes
-use Rattle.bits.specs.declared.Refusal.{Refusal}
 use Rattle.bits.proofs.Answers.{never_gives, refused_same, unless_onward, onward_onward}
 use Rattle.job.specs.Layout.{max_faults}
 use Rattle.job.specs.declared.Job.{Job}
@@ -50,15 +47,14 @@ use Rattle.method.proofs.Names.{agree_named, signature_named}
 use Rattle.bits.proofs.Tests.{by_test}
 use Rattle.chooser.specs.Matrix as chooser
 use Rattle.chooser.specs.Matrix.{cell, differ, max_rows, fits, choice_over}
-use Rattle.chooser.specs.declared.Choice as picked
 use Rattle.bits.proofs.Bounds.{each_same}
 use Rattle.chooser.proofs.Relation.{choice_needed}
-use Rattle.choosing.specs.Choosing.{needed, scan_order, entries_of, scan_entries, signature_in, alike_pair, signature_of, Finding, finding_by, finding, chosen_from, chosen_of, AtExit, found, at_exit, counts_in, verdict_number, verdict_pair}
-use Rattle.choosing.specs.Looking.{marks_of, wanted, Filled, unchosen, chosen_by, decoded_from, chosen_for, scan_codes, chosen_in}
+use Rattle.choosing.specs.Choosing.{needed, scan_order, entries_of, scan_entries, signature_in, alike_pair, signature_of, Finding, finding_by, finding, chosen_from, chosen_of, found, at_exit, told, counts_in}
+use Rattle.choosing.specs.Looking.{marks_of, wanted, Filled, chosen_by, scan_codes, chosen_in}
 use Rattle.choosing.specs.declared.Chosen.{Chosen}
 use Rattle.choosing.specs.declared.Purpose.{Purpose}
 use Rattle.choosing.specs.declared.Purpose.TheVariants.{Isolating, Detecting}
-use Rattle.choosing.specs.declared.Verdict.TheVariants.{Refused}
+use Rattle.choosing.specs.declared.Unchosen.{Unchosen}
 use Rattle.choosing.specs.declared.Signature.{Signature}
 use Rattle.choosing.proofs.Arrays.{faulty_mark}
 use Rattle.choosing.proofs.Bound.{signature_below}
@@ -115,10 +111,6 @@ module _ (counts : Counts) (work : List ℕ) (enough : Filled counts (length wor
       )
 
   module _ (purpose : Purpose) where
-    told : (p : Pair) (l : List ℕ) → chosen_by counts (chooser.choice_by p l).untold (decoded_from (2 ^ n) (chooser.choice_by p l).signature) ≡ chosen_for p counts l
-    told nobody l = refl
-    told (pair a b) l = refl
-
     -- the marks of the purpose tell which pairs are needed
     marked : (marks : List ℕ) → length marks ≡ max_rows → marks ≡ marks_of purpose counts.parts
         → chooser.choice work width rows marks (scan_codes counts) ≡ choice_over work width rows (wanted purpose counts) (scan_codes counts)
@@ -127,18 +119,15 @@ module _ (counts : Counts) (work : List ℕ) (enough : Filled counts (length wor
         choice_needed work width rows marks (scan_codes counts) (wanted purpose counts) filled_fits (subst (λ (m : ℕ). rows ≤ m) (sym long) few)
         (λ a b h k. ap (λ (l : List ℕ). differ l a b) of ∙ marks_needed purpose counts.parts a b h (omega (arith, enough.faults_few)))
 
-    pub filled_answer : (c : picked.Choice) (marks : List ℕ) (count : ℕ) (list : List ℕ) → length marks ≡ max_rows → marks ≡ marks_of purpose counts.parts
-        → count ≡ length (scan_codes counts) → list ≡ scan_codes counts → c ≡ chooser.choice work count rows marks list
-        → chosen_by counts c.untold (decoded_from (2 ^ n) c.signature) ≡ chosen_in purpose counts (cell work width)
+    pub filled_answer : (marks : List ℕ) (count : ℕ) (list : List ℕ) → length marks ≡ max_rows → marks ≡ marks_of purpose counts.parts
+        → count ≡ length (scan_codes counts) → list ≡ scan_codes counts
+        → chosen_by counts (chooser.choice work count rows marks list) ≡ chosen_in purpose counts (cell work width)
     unfolding choice_over
-    filled_answer c marks count list long of p q e =
+    filled_answer marks count list long of p q =
         let wide : count ≡ width =
         p ∙ length_codes (2 ^ n) counts.outputs (scan_order n) ∙ ap (λ (x : ℕ). x * counts.outputs) (scan_size n) ∙ mul_comm (2 ^ n) counts.outputs
         in
-        ap (λ (x : picked.Choice). chosen_by counts x.untold (decoded_from (2 ^ n) x.signature))
-        (e ∙ ap₂ (λ (x : ℕ) (l : List ℕ). chooser.choice work x rows marks l) wide q ∙ marked marks long of)
-        ∙ told (first_pair rows (λ a b. wanted purpose counts a b && agree (cell work width) (scan_codes counts) a b))
-        (signature (cell work width) rows (wanted purpose counts) (scan_codes counts))
+        ap (chosen_by counts) (ap₂ (λ (x : ℕ) (l : List ℕ). chooser.choice work x rows marks l) wide q ∙ marked marks long of)
 
 -- ---- families with the same entries
 
@@ -191,18 +180,13 @@ module _ (purpose : Purpose) (kind : Kind) (k room : ℕ) where
 
 -- ---- the operation from tables
 
--- what a call answers and leaves
-abbrev pub exited : Chosen → List ℕ → AtExit
-exited c memory =
-    record { number = verdict_number c.verdict; pair = verdict_pair c.verdict; counts = c.counts; signature = c.signature; memory = memory }
-
 -- the signature's entries, or nothing beside a pair
-exited_found : (p : Pair) (counts : Counts) (l : List Entry) (memory : List ℕ) → ((e : Entry) → Memᴰ e l → e.index < 2 ^ counts.inputs)
-    → exited (chosen_for p counts (codes_of (2 ^ counts.inputs) l)) memory ≡ found counts (finding_by p l) memory
-exited_found nobody counts l memory h =
+told_found : (p : Pair) (counts : Counts) (l : List Entry) (memory : List ℕ) → ((e : Entry) → Memᴰ e l → e.index < 2 ^ counts.inputs)
+    → told (chosen_by counts (chooser.choice_by p (codes_of (2 ^ counts.inputs) l))) memory ≡ found counts (finding_by p l) memory
+told_found nobody counts l memory h =
     ap (λ (x : Signature). record { number = 0; pair = nobody; counts = counts; signature = x; memory = memory })
     (decoded_codes (2 ^ counts.inputs) l h)
-exited_found (pair a b) counts l memory h = refl
+told_found (pair a b) counts l memory h = refl
 
 module _ (purpose : Purpose) (counts : Counts) (s : List ℕ) (kind : Kind) (k : ℕ) (work : List ℕ) where
   abbrev room : ℕ
@@ -238,24 +222,21 @@ module _ (purpose : Purpose) (counts : Counts) (s : List ℕ) (kind : Kind) (k :
       onward_onward (tables_checked counts s) (λ _. filled_from family kind k room) (adds family)
       ∙ ap (λ (x : Answer (Fills Finding)). onward (tables_checked counts s) (λ _. x)) (goes_on family)
 
-  module _ (r : Outcome) (after : List ℕ) (p : record { answer = outcome r; memory = after } ≡ leaves spectra work) where
-    unfilled : (x : Answer (Fills (Unit {0}))) → x ≡ spectra → (cause : Refusal) → r ≡ outcomes.Refused cause
-        → exited (unchosen (Refused cause)) after ≡ at_exit counts answer work
-    unfilled (refused i) e cause q =
-        let both : ◌≡◌ {A = Leaves (Unit {0})} (record { answer = refused (number cause); memory = after }) (record { answer = refused i; memory = work }) =
-        ap (λ (x : Outcome). record { answer = outcome x; memory = after }) (sym q) ∙ p ∙ ap (λ (x : Answer (Fills (Unit {0}))). leaves x work) (sym e) in
-        let same : number cause ≡ i = refused_same {A = Unit {0}} (ap (λ (x : Leaves (Unit {0})). x.answer) both) in
-        ap₂ (λ (x : ℕ) (m : List ℕ). record { number = x; pair = nobody; counts = no_counts; signature = signature_of []; memory = m }) same
-        (ap (λ (x : Leaves (Unit {0})). x.memory) both)
+  module _ {i : ℕ} {after : List ℕ} (p : record { answer = refused i; memory = after } ≡ leaves spectra work) where
+    unfilled : (x : Answer (Fills (Unit {0}))) → x ≡ spectra → at_exit counts (refused i) after ≡ at_exit counts answer work
+    unfilled (gives w) e = absurd (never_gives (ap (λ (x : Leaves (Unit {0})). x.answer) (p ∙ ap (λ (x : Answer (Fills (Unit {0}))). leaves x work) (sym e))))
+    unfilled (refused j) e =
+        let both : ◌≡◌ {A = Leaves (Unit {0})} (record { answer = refused i; memory = after }) (record { answer = refused j; memory = work }) =
+        p ∙ ap (λ (x : Answer (Fills (Unit {0}))). leaves x work) (sym e) in
+        ap₂ (λ (x : ℕ) (m : List ℕ). record { number = x; pair = nobody; counts = no_counts; signature = signature_of []; memory = m })
+        (refused_same {A = Unit {0}} (ap (λ (x : Leaves (Unit {0})). x.answer) both)) (ap (λ (x : Leaves (Unit {0})). x.memory) both)
         ∙ ap (λ (x : Answer (Fills Finding)). at_exit counts x work)
         (ap (λ (x : Answer (Fills (Unit {0}))). onward x (adds family)) e ∙ answer_onward)
-    unfilled (gives w) e cause q =
-        absurd (never_gives (sym (ap outcome q) ∙ ap (λ (x : Leaves (Unit {0})). x.answer) (p ∙ ap (λ (x : Answer (Fills (Unit {0}))). leaves x work) (sym e))))
 
-    pub chosen_unfilled : {cause : Refusal} {c : Chosen} → r ≡ outcomes.Refused cause → c ≡ unchosen (Refused cause)
-        → exited c after ≡ at_exit counts answer work
-    chosen_unfilled {cause} q e = ap (λ (x : Chosen). exited x after) e ∙ unfilled spectra refl cause q
+    pub chosen_unfilled : at_exit counts (refused i) after ≡ at_exit counts answer work
+    chosen_unfilled = unfilled spectra refl
 
+  module _ {after : List ℕ} (p : record { answer = gives tt; memory = after } ≡ leaves spectra work) where
     -- the work once it is filled
     record Full : Type 0 where
       now : Fills (Unit {0})
@@ -263,10 +244,10 @@ module _ (purpose : Purpose) (counts : Counts) (s : List ℕ) (kind : Kind) (k :
       done : after ≡ now.filled ++ drop (length now.filled) work
       given : Given counts s kind k room now.filled
 
-    fully : (x : Answer (Fills (Unit {0}))) → x ≡ spectra → r ≡ outcomes.Done → Full
-    fully (refused i) e q =
-        absurd (never_gives (sym (ap (λ (x : Leaves (Unit {0})). x.answer) (p ∙ ap (λ (x : Answer (Fills (Unit {0}))). leaves x work) (sym e))) ∙ ap outcome q))
-    fully (gives w) e q =
+    fully : (x : Answer (Fills (Unit {0}))) → x ≡ spectra → Full
+    fully (refused i) e =
+        absurd (never_gives (sym (ap (λ (x : Leaves (Unit {0})). x.answer) (p ∙ ap (λ (x : Answer (Fills (Unit {0}))). leaves x work) (sym e)))))
+    fully (gives w) e =
         record {
           now = w;
           is = sym e;
@@ -274,82 +255,79 @@ module _ (purpose : Purpose) (counts : Counts) (s : List ℕ) (kind : Kind) (k :
           given = rows_given counts s kind k room (sym e);
         }
 
-    module _ (q : r ≡ outcomes.Done) where
-      full : Full
-      full = fully spectra refl q
+    full : Full
+    full = fully spectra refl
 
-      length_filled : length full.now.filled ≡ (counts.faults + 1) * counts.outputs * 2 ^ counts.inputs
-      length_filled = ap length full.given.spectra ∙ length_family_spectra kind k family
+    length_filled : length full.now.filled ≡ (counts.faults + 1) * counts.outputs * 2 ^ counts.inputs
+    length_filled = ap length full.given.spectra ∙ length_family_spectra kind k family
 
-      pub chosen_room : Filled counts (length after)
-      chosen_room =
-          let long : length after ≡ length full.now.filled + length (drop (length full.now.filled) work) =
-          ap length full.done ∙ length-append full.now.filled _ in
-          record {
-            inputs_few = full.given.fits.few;
-            one = full.given.fits.one;
-            outputs_few = full.given.fits.outputs_few;
-            faults_few = full.given.fits.faults_few;
-            enough = omega (arith, length_filled);
-          }
+    pub chosen_room : Filled counts (length after)
+    chosen_room =
+        let long : length after ≡ length full.now.filled + length (drop (length full.now.filled) work) =
+        ap length full.done ∙ length-append full.now.filled _ in
+        record {
+          inputs_few = full.given.fits.few;
+          one = full.given.fits.one;
+          outputs_few = full.given.fits.outputs_few;
+          faults_few = full.given.fits.faults_few;
+          enough = omega (arith, length_filled);
+        }
 
-      abbrev size : ℕ
-      size = 2 ^ counts.inputs
+    abbrev size : ℕ
+    size = 2 ^ counts.inputs
 
-      -- the work's numbers are the coefficients
-      coef : ℕ → ℕ → ℕ
-      coef = cell after (counts.outputs * size)
+    -- the work's numbers are the coefficients
+    coef : ℕ → ℕ → ℕ
+    coef = cell after (counts.outputs * size)
 
-      coef_at : (c : ℕ) (e : Entry) → c < counts.faults + 1 → Memᴰ e (scan_entries family) → coef c (code_of size e) ≡ coef_of kind k family c e
-      unfolding coef
-      coef_at c e h m =
-          ap (λ (l : List ℕ). get_or l (c * (counts.outputs * size) + code_of size e) 0)
-          (full.done ∙ ap (λ (x : List ℕ). x ++ drop (length full.now.filled) work) full.given.spectra)
-          ∙ work_entry kind k family (drop (length full.now.filled) work) c e h (looked_entry family m).0 (looked_entry family m).1
+    coef_at : (c : ℕ) (e : Entry) → c < counts.faults + 1 → Memᴰ e (scan_entries family) → coef c (code_of size e) ≡ coef_of kind k family c e
+    unfolding coef
+    coef_at c e h m =
+        ap (λ (l : List ℕ). get_or l (c * (counts.outputs * size) + code_of size e) 0)
+        (full.done ∙ ap (λ (x : List ℕ). x ++ drop (length full.now.filled) work) full.given.spectra)
+        ∙ work_entry kind k family (drop (length full.now.filled) work) c e h (looked_entry family m).0 (looked_entry family m).1
 
-      -- a row's number at an entry
-      abbrev numbered : ℕ → Entry → ℕ
-      numbered c e = coef c (code_of size e)
+    -- a row's number at an entry
+    abbrev numbered : ℕ → Entry → ℕ
+    numbered c e = coef c (code_of size e)
 
-      agree_tables : (a b : ℕ) → a < b → b < counts.faults + 1 → agree coef (scan_codes counts) a b ≡ same_tables family a b
-      agree_tables a b h l =
-          agree_named (code_of size) coef (scan_entries family) a b
-          ∙ agree_same numbered (coef_of kind k family) (scan_entries family) a b
-          (λ e m. coef_at a e (omega arith) m) (λ e m. coef_at b e l m)
-          ∙ alike_tables kind k family (table_family_valid counts s full.given.fits) full.given.below a b
+    agree_tables : (a b : ℕ) → a < b → b < counts.faults + 1 → agree coef (scan_codes counts) a b ≡ same_tables family a b
+    agree_tables a b h l =
+        agree_named (code_of size) coef (scan_entries family) a b
+        ∙ agree_same numbered (coef_of kind k family) (scan_entries family) a b
+        (λ e m. coef_at a e (omega arith) m) (λ e m. coef_at b e l m)
+        ∙ alike_tables kind k family (table_family_valid counts s full.given.fits) full.given.below a b
 
-      -- the signature over the work has the entries' numbers
-      signed_so : signature coef (counts.faults + 1) (wanted purpose counts) (scan_codes counts) ≡ codes_of size (signature_in purpose kind k family)
-      signed_so =
-          signature_named (code_of size) coef (counts.faults + 1) (wanted purpose counts) (scan_entries family)
-          ∙ ap (codes_of size)
-          (signature_same numbered (coef_of kind k family) (counts.faults + 1) (wanted purpose counts) (wanted purpose counts) (scan_entries family)
-          (λ c e h m. coef_at c e h m) (λ a b h l. refl))
+    -- the signature over the work has the entries' numbers
+    signed_so : signature coef (counts.faults + 1) (wanted purpose counts) (scan_codes counts) ≡ codes_of size (signature_in purpose kind k family)
+    signed_so =
+        signature_named (code_of size) coef (counts.faults + 1) (wanted purpose counts) (scan_entries family)
+        ∙ ap (codes_of size)
+        (signature_same numbered (coef_of kind k family) (counts.faults + 1) (wanted purpose counts) (wanted purpose counts) (scan_entries family)
+        (λ c e h m. coef_at c e h m) (λ a b h l. refl))
 
-      paired_so : first_pair (counts.faults + 1) (λ a b. wanted purpose counts a b && agree coef (scan_codes counts) a b) ≡ alike_pair purpose family
-      paired_so =
-          first_pair_same (counts.faults + 1) (λ a b. wanted purpose counts a b && agree coef (scan_codes counts) a b)
-          (λ a b. wanted purpose counts a b && same_tables family a b)
-          (λ a b h l. ap (λ (t : Bool). wanted purpose counts a b && t) (agree_tables a b h l))
+    paired_so : first_pair (counts.faults + 1) (λ a b. wanted purpose counts a b && agree coef (scan_codes counts) a b) ≡ alike_pair purpose family
+    paired_so =
+        first_pair_same (counts.faults + 1) (λ a b. wanted purpose counts a b && agree coef (scan_codes counts) a b)
+        (λ a b. wanted purpose counts a b && same_tables family a b)
+        (λ a b h l. ap (λ (t : Bool). wanted purpose counts a b && t) (agree_tables a b h l))
 
-      pub chosen_filled : {c : Chosen} → c ≡ chosen_in purpose counts (cell after (counts.outputs * size)) → exited c after ≡ at_exit counts answer work
-      unfolding coef
-      chosen_filled {c} e =
-          ap (λ (x : Chosen). exited x after) e
-          ∙ ap₂ (λ (p : Pair) (l : List ℕ). exited (chosen_for p counts l) after) paired_so signed_so
-          ∙ exited_found (alike_pair purpose family) counts (signature_in purpose kind k family) after (λ e m. (signature_below purpose kind k family e m).0)
-          ∙ ap (found counts (finding purpose kind k family)) full.done
-          ∙ ap (λ (x : Answer (Fills Finding)). at_exit counts x work)
-          (ap (λ (x : Answer (Fills (Unit {0}))). onward x (adds family)) (sym full.is) ∙ answer_onward)
+    pub chosen_filled : {r : Result Chosen Unchosen} → r ≡ chosen_in purpose counts (cell after (counts.outputs * size)) → told r after ≡ at_exit counts answer work
+    unfolding coef
+    chosen_filled {r} e =
+        ap (λ (x : Result Chosen Unchosen). told x after) e
+        ∙ ap₂ (λ (p : Pair) (l : List ℕ). told (chosen_by counts (chooser.choice_by p l)) after) paired_so signed_so
+        ∙ told_found (alike_pair purpose family) counts (signature_in purpose kind k family) after (λ e m. (signature_below purpose kind k family e m).0)
+        ∙ ap (found counts (finding purpose kind k family)) full.done
+        ∙ ap (λ (x : Answer (Fills Finding)). at_exit counts x work)
+        (ap (λ (x : Answer (Fills (Unit {0}))). onward x (adds family)) (sym full.is) ∙ answer_onward)
 
 -- ---- the operation for a job
 
 module _ (purpose : Purpose) (s : List ℕ) (kind : Kind) (k : ℕ) (work : List ℕ) where
-  pub job_unread : {cause : Refusal} {c : Chosen} → reading s ≡ refused (number cause) → c ≡ unchosen (Refused cause)
-      → exited c work ≡ at_exit (counts_in (reading s)) (chosen_of purpose s kind k (length work)) work
-  job_unread {cause} {c} e q =
-      ap (λ (x : Chosen). exited x work) q
-      ∙ ap (λ (x : Answer Job). at_exit (counts_in x) (onward x (λ j. chosen_from purpose (family_of j) kind k (length work))) work) (sym e)
+  pub job_unread : {i : ℕ} → reading s ≡ refused i
+      → at_exit no_counts (refused i) work ≡ at_exit (counts_in (reading s)) (chosen_of purpose s kind k (length work)) work
+  job_unread {i} e = ap (λ (x : Answer Job). at_exit (counts_in x) (onward x (λ j. chosen_from purpose (family_of j) kind k (length work))) work) (sym e)
 
   pub job_chosen : {r : Delivery} {packed : List ℕ} (d : Delivers s r packed)
       → at_exit r.counts (from_tables r.counts (take r.bytes packed) (λ F. chosen_from purpose F kind k (length work))) work

@@ -6,14 +6,13 @@
 --   Raised                     numbers, one for each order, that each index below e has raised by one
 --   raised_none, raised_at, raised_next      their start, the one that index e raises, and their step
 --   Summing                    what a loop has done from the highest order down to one: each number has the one before added
---   summing_none, summing_next, summing_all                     its start, its step and its end
---   summing_inside, summing_before, summing_fits                its two places, and the room for their sum
+--   summing_none, summing_fits, summing_next, summing_all       its start, the room for a sum, its step and its end
 --   Starting                   the first place of each order, with so many inputs
---   starting_none, starting_few, starting_next, starting_all    its start, its room, its step and its end
+--   starting_none, starting_few, starting_next                  its start, its room and its step
 --   Placing                    what a loop has done after e turns: the indices below e stand at their places
---   placing_none, placing_inside, placing_next, placing_all     its start, its room, its step and its end
+--   placing_none, placing_inside, placing_next                  its start, its room and its step
 --   placed_listed              indices that stand at their places are listed in the order of looking
---   size_few, size_firsts      the number of indices as the code works it out
+--   size_few, size_firsts, listed_sized      the number of indices as the code works it out
 --   listed_length, listed_within             a list that stands in an array is no longer than the array
 use Prim.Native.Nat.{ℕ, zero, suc, ◌+◌, ◌-◌, ◌^◌, ◌≤◌, ◌<◌, min}
 use native.Mathlib.Nat.{not-suc-le-zero, eq-or-lt_of_le, le_of_suc-le-suc, le_refl}
@@ -46,9 +45,9 @@ use Rattle.choosing.proofs.Sizes.{places_fit}
 
 -- ---- one index
 
-pub order_within : {e order : ℕ} → e < max_places → order ≡ ones e → order < max_orders
+pub order_within : (e : ℕ) → e < max_places → ones e < max_orders
 unfolding max_places max_orders
-order_within {e} h o = omega (arith, ones-le max_inputs e h)
+order_within e h = omega (arith, ones-le max_inputs e h)
 
 pub index_fits : (index : ℕ) → index < max_places → Fits w16 index
 index_fits index h = omega (arith, places_fit)
@@ -113,92 +112,81 @@ raised_none : (base : ℕ → ℕ) (l : List ℕ) → length l ≡ max_orders �
 unfolding passing
 raised_none base l e h = record { long = e; done = λ order k. h order k ∙ omega arith }
 
-module _ {base : ℕ → ℕ} {e order : ℕ} {l : List ℕ} (w : Raised base e l) (h : e < max_places) (o : order ≡ ones e) where
-  raised_inside : order < length l
-  raised_inside = omega (arith, order_within {e = e} h refl, w.long)
+module _ {base : ℕ → ℕ} {e : ℕ} {l : List ℕ} (w : Raised base e l) (h : e < max_places) where
+  raised_at : get_or l (ones e) 0 ≡ base (ones e) + length (of_order (ones e) e)
+  raised_at = w.done (ones e) (order_within e h)
 
-  raised_at : get_or l order 0 ≡ base (ones e) + length (of_order (ones e) e)
-  raised_at = ap (λ (x : ℕ). get_or l x 0) o ∙ w.done (ones e) (order_within {e = e} h refl)
-
-  raised_same : (k x : ℕ) → k ≡ order → x ≡ get_or l order 0 → get_or (set l order (x + 1)) k 0 ≡ base k + length (of_order k (e + 1))
-  raised_same k x q p =
-      let own : k ≡ ones e = q ∙ o in
-      let now : x ≡ base k + length (of_order k e) = p ∙ raised_at ∙ ap (λ (i : ℕ). base i + length (of_order i e)) (sym own) in
+  raised_same : (k : ℕ) → k ≡ ones e → get_or (set l (ones e) (get_or l (ones e) 0 + 1)) k 0 ≡ base k + length (of_order k (e + 1))
+  raised_same k own =
+      let x = get_or l (ones e) 0 in
+      let now : x ≡ base k + length (of_order k e) = raised_at ∙ ap (λ (i : ℕ). base i + length (of_order i e)) (sym own) in
       let more : length (of_order k (e + 1)) ≡ length (of_order k e) + 1 =
       ap₂ (λ (i j : ℕ). length (of_order i j)) own (add-one e) ∙ order_next e ∙ ap (λ (i : ℕ). length (of_order i e) + 1) (sym own) in
-      let put : get_or (set l order (x + 1)) k 0 ≡ x + 1 =
-      ap (λ (i : ℕ). get_or (set l order (x + 1)) i 0) q ∙ get_or-set_same l order (x + 1) 0 raised_inside in
+      let put : get_or (set l (ones e) (x + 1)) k 0 ≡ x + 1 =
+      ap (λ (i : ℕ). get_or (set l (ones e) (x + 1)) i 0) own
+      ∙ get_or-set_same l (ones e) (x + 1) 0 (omega (arith, order_within e h, w.long)) in
       put ∙ omega arith
 
-  raised_other : (k x : ℕ) → k < max_orders → (k ≡ order → ⊥) → get_or (set l order (x + 1)) k 0 ≡ base k + length (of_order k (e + 1))
-  raised_other k x b d =
-      let same : length (of_order k (e + 1)) ≡ length (of_order k e) =
-      ap (λ (j : ℕ). length (of_order k j)) (add-one e) ∙ order_same k e (λ p. d (p ∙ sym o)) in
-      get_or-set_other l order k (x + 1) 0 d ∙ w.done k b ∙ ap (λ (i : ℕ). base k + i) (sym same)
+  raised_other : (k v : ℕ) → k < max_orders → (k ≡ ones e → ⊥) → get_or (set l (ones e) v) k 0 ≡ base k + length (of_order k (e + 1))
+  raised_other k v b d =
+      let same : length (of_order k (e + 1)) ≡ length (of_order k e) = ap (λ (j : ℕ). length (of_order k j)) (add-one e) ∙ order_same k e d in
+      get_or-set_other l (ones e) k v 0 d ∙ w.done k b ∙ ap (λ (i : ℕ). base k + i) (sym same)
 
-  raised_next : {x : ℕ} → x ≡ get_or l order 0 → Raised base (e + 1) (set l order (x + 1))
-  raised_next {x} p =
+  raised_next : Raised base (e + 1) (set l (ones e) (get_or l (ones e) 0 + 1))
+  raised_next =
+      let v = get_or l (ones e) 0 + 1 in
       record {
-        long = length-set l order (x + 1) ∙ w.long;
-        done = λ k b.
-            by_test (eqb k order)
-            (λ t. raised_same k x (eqb-true k order t) p)
-            (λ f. raised_other k x b (eqb-false k order f));
+        long = length-set l (ones e) v ∙ w.long;
+        done = λ k b. by_test (eqb k (ones e)) (λ t. raised_same k (eqb-true k (ones e) t)) (λ f. raised_other k v b (eqb-false k (ones e) f));
       }
 
 -- ---- the first place of each order
 
 pub record Summing (start : List ℕ) (order : ℕ) (l : List ℕ) : Type 0 where
-  pub within : order < max_orders
+  pub within : order ≤ max_orders
   pub long : length l ≡ max_orders
-  pub done : (k : ℕ) → order < k → k < max_orders → get_or l k 0 ≡ summed start k
-  pub kept : (k : ℕ) → k ≤ order → get_or l k 0 ≡ get_or start k 0
+  pub done : (k : ℕ) → order ≤ k → k < max_orders → get_or l k 0 ≡ summed start k
+  pub kept : (k : ℕ) → k < order → get_or l k 0 ≡ get_or start k 0
 
-pub summing_none : (start : List ℕ) → length start ≡ max_orders → Summing start max_inputs start
-unfolding max_orders
+pub summing_none : (start : List ℕ) → length start ≡ max_orders → Summing start max_orders start
 summing_none start e =
-    record { within = omega arith; long = e; done = λ k (a : max_inputs < k) (b : k < suc max_inputs). absurd (omega arith); kept = λ k h. refl }
+    record { within = omega arith; long = e; done = λ k (a : max_orders ≤ k) (b : k < max_orders). absurd (omega arith); kept = λ k h. refl }
 
 summed_before : (l : List ℕ) (order : ℕ) → 0 < order → get_or l order 0 + get_or l (order - 1) 0 ≡ summed l order
 summed_before l zero h = absurd (not-suc-le-zero h)
 summed_before l (suc order) h = let e : suc order - 1 ≡ order = omega arith in ap (λ (x : ℕ). get_or l (suc order) 0 + get_or l x 0) e
 
 module _ {start l : List ℕ} {order : ℕ} (w : Summing start order l) where
-  pub summing_inside : order < length l
-  summing_inside = omega (arith, w.within, w.long)
+  pub summing_fits : 1 < order → Few start → Fits w64 (get_or l (order - 1) 0 + get_or l (order - 1 - 1) 0)
+  summing_fits h few =
+      let a = w.kept (order - 1) (omega arith) in
+      let b = w.kept (order - 1 - 1) (omega arith) in
+      omega (arith, few (order - 1) (omega (arith, w.within)), few (order - 1 - 1) (omega (arith, w.within)), places_fit)
 
-  pub summing_before : order - 1 < length l
-  summing_before = omega (arith, w.within, w.long)
+  summed_at : 1 < order → get_or l (order - 1) 0 + get_or l (order - 1 - 1) 0 ≡ summed start (order - 1)
+  summed_at h = ap₂ (λ (x y : ℕ). x + y) (w.kept (order - 1) (omega arith)) (w.kept (order - 1 - 1) (omega arith)) ∙ summed_before start (order - 1) (omega arith)
 
-  pub summing_fits : Few start → Fits w64 (get_or l order 0 + get_or l (order - 1) 0)
-  summing_fits few =
-      let a = w.kept order (le_refl order) in
-      let b = w.kept (order - 1) (omega arith) in
-      omega (arith, few order w.within, few (order - 1) (omega (arith, w.within)), places_fit)
-
-  summed_at : 0 < order → get_or l order 0 + get_or l (order - 1) 0 ≡ summed start order
-  summed_at h = ap₂ (λ (x y : ℕ). x + y) (w.kept order (le_refl order)) (w.kept (order - 1) (omega arith)) ∙ summed_before start order h
-
-  pub summing_next : {v : ℕ} → v ≡ get_or l order 0 + get_or l (order - 1) 0 → 0 < order → Summing start (order - 1) (set l order v)
-  summing_next {v} e h =
+  pub summing_next : 1 < order → Summing start (order - 1) (set l (order - 1) (get_or l (order - 1) 0 + get_or l (order - 1 - 1) 0))
+  summing_next h =
+      let at = order - 1 in
+      let v = get_or l (order - 1) 0 + get_or l (order - 1 - 1) 0 in
       record {
         within = omega (arith, w.within);
-        long = length-set l order v ∙ w.long;
-        done = λ k (a : order - 1 < k) b.
+        long = length-set l at v ∙ w.long;
+        done = λ k (a : order - 1 ≤ k) b.
             ⊎_elim
-            (λ (p : order ≡ k). ap (λ (x : ℕ). get_or (set l order v) x 0) (sym p) ∙ get_or-set_same l order v 0 summing_inside ∙ e ∙ summed_at h ∙ ap (summed start) p)
-            (λ (m : order < k). get_or-set_other l order k v 0 (λ (p : k ≡ order). absurd (omega arith)) ∙ w.done k m b)
-            (eq-or-lt_of_le (omega arith));
-        kept = λ k (a : k ≤ order - 1). get_or-set_other l order k v 0 (λ (p : k ≡ order). absurd (omega arith)) ∙ w.kept k (omega arith);
+            (λ (p : order - 1 ≡ k).
+            ap (λ (x : ℕ). get_or (set l at v) x 0) (sym p) ∙ get_or-set_same l at v 0 (omega (arith, w.within, w.long)) ∙ summed_at h ∙ ap (summed start) p)
+            (λ (m : order - 1 < k). get_or-set_other l at k v 0 (λ (p : k ≡ order - 1). absurd (omega arith)) ∙ w.done k (omega arith) b)
+            (eq-or-lt_of_le a);
+        kept = λ k (a : k < order - 1). get_or-set_other l at k v 0 (λ (p : k ≡ order - 1). absurd (omega arith)) ∙ w.kept k (omega arith);
       }
 
-  pub summing_all : order ≤ 0 → Tabulates max_orders (summed start) l
-  summing_all h zero b = w.kept zero (omega arith)
+  pub summing_all : order ≤ 1 → Tabulates max_orders (summed start) l
+  summing_all h zero b = ⊎_elim (λ (k : 0 < order). w.kept zero k) (λ (k : order ≤ 0). w.done zero k b) (lt_or_ge zero order)
   summing_all h (suc k) b = w.done (suc k) (omega arith) b
 
-pub record Starting (n m : ℕ) (l : List ℕ) : Type 0 where
-  pub within : m ≤ n
-  pub long : length l ≡ max_orders
+pub record Starting (m : ℕ) (l : List ℕ) : Type 0 where
   pub done : Tabulates max_orders (λ order. length (scan_to (2 ^ m) order)) l
 
 start_done : Tabulates max_orders (λ order. length (scan_to 1 order)) (set (replicate max_orders 1) 0 0)
@@ -208,31 +196,25 @@ start_done (suc order) h =
     get_or-set_other (replicate max_orders 1) 0 (suc order) 0 0 (λ (e : suc order ≡ 0). absurd (omega arith))
     ∙ get_or-replicate max_orders (suc order) 1 0 h ∙ sym (length_one order)
 
-pub starting_none : (n : ℕ) → Starting n 0 (set (replicate max_orders 1) 0 0)
-starting_none n =
-    record { within = omega arith; long = length-set (replicate max_orders 1) 0 0 ∙ length-replicate max_orders 1; done = start_done }
+pub starting_none : Starting 0 (set (replicate max_orders 1) 0 0)
+starting_none = record { done = start_done }
 
-module _ {n m : ℕ} {l : List ℕ} (w : Starting n m l) (h : m < n) where
-  pub starting_few : n ≤ max_inputs → (length l ≡ max_orders) × Few l
+module _ {m : ℕ} {l : List ℕ} (w : Starting m l) where
+  pub starting_few : m ≤ max_inputs → Few l
   unfolding max_places
-  starting_few few =
-      (w.long, λ order b. omega (arith, w.done order b, length_scan_to (2 ^ m) order, pow_mono {i = m} {j = max_inputs} (omega arith)))
+  starting_few few order b = omega (arith, w.done order b, length_scan_to (2 ^ m) order, pow_mono {i = m} {j = max_inputs} few)
 
   summed_start : (order : ℕ) → order < max_orders → summed l order ≡ length (scan_to (2 ^ (m + 1)) order)
   unfolding scan_to
   summed_start zero b = w.done zero b
   summed_start (suc order) b = ap₂ (λ (x y : ℕ). x + y) (w.done (suc order) b) (w.done order (omega arith)) ∙ sym (pascal m order)
 
-  pub starting_next : {after : List ℕ} → length after ≡ length l → Tabulates max_orders (summed l) after → Starting n (m + 1) after
-  starting_next e s = record { within = omega arith; long = e ∙ w.long; done = λ order b. s order b ∙ summed_start order b }
-
-pub starting_all : {n m : ℕ} {l : List ℕ} → Starting n m l → n ≤ m → Tabulates max_orders (λ order. length (scan_to (2 ^ n) order)) l
-starting_all {n} {m} w h order b = let e : m ≡ n = omega (arith, w.within) in w.done order b ∙ ap (λ (x : ℕ). length (scan_to (2 ^ x) order)) e
+  pub starting_next : {after : List ℕ} → Tabulates max_orders (summed l) after → Starting (m + 1) after
+  starting_next s = record { done = λ order b. s order b ∙ summed_start order b }
 
 -- ---- all indices
 
 pub record Placing (size e : ℕ) (next places : List ℕ) : Type 0 where
-  pub within : e ≤ size
   pub long : length places ≡ max_places
   pub raised : Raised (λ order. length (scan_to size order)) e next
   pub placed : (i : ℕ) → i < e → get_or places (place_of size i) 0 ≡ i
@@ -241,29 +223,27 @@ pub placing_none : (size : ℕ) (next places : List ℕ) → length next ≡ max
     → Placing size 0 next places
 placing_none size next places n e h =
     record {
-      within = omega arith;
       long = e;
       raised = raised_none (λ order. length (scan_to size order)) next n h;
       placed = λ i k. absurd (not-suc-le-zero k);
     }
 
-module _ {size e order : ℕ} {next places : List ℕ} (w : Placing size e next places) (few : size ≤ max_places) (h : e < size) (o : order ≡ ones e) where
+module _ {size e : ℕ} {next places : List ℕ} (w : Placing size e next places) (few : size ≤ max_places) (h : e < size) where
   below : e < max_places
   below = omega arith
 
-  placing_at : get_or next order 0 ≡ place_of size e
-  placing_at = raised_at w.raised below o
+  placing_at : get_or next (ones e) 0 ≡ place_of size e
+  placing_at = raised_at w.raised below
 
-  pub placing_inside : get_or next order 0 < max_places
+  pub placing_inside : get_or next (ones e) 0 < max_places
   placing_inside = omega (arith, placing_at, place_few size e h)
 
-  pub placing_next : Placing size (e + 1) (set next order (get_or next order 0 + 1)) (set places (get_or next order 0) e)
+  pub placing_next : Placing size (e + 1) (set next (ones e) (get_or next (ones e) 0 + 1)) (set places (get_or next (ones e) 0) e)
   placing_next =
-      let at = get_or next order 0 in
+      let at = get_or next (ones e) 0 in
       record {
-        within = omega arith;
         long = length-set places at e ∙ w.long;
-        raised = raised_next w.raised below o refl;
+        raised = raised_next w.raised below;
         placed = λ i (k : i < e + 1).
             ⊎_elim
             (λ (b : i < e). get_or-set_other places at (place_of size i) e 0 (λ p. place_apart size i e b h (p ∙ placing_at)) ∙ w.placed i b)
@@ -275,9 +255,6 @@ module _ {size e order : ℕ} {next places : List ℕ} (w : Placing size e next 
             ∙ sym p)
             (lt_or_ge i e);
       }
-
-pub placing_all : {size e : ℕ} {next places : List ℕ} → Placing size e next places → size ≤ e → Placed size places
-placing_all w h i k = w.placed i (omega arith)
 
 -- ---- the list that they make
 
@@ -332,17 +309,19 @@ module _ {n size : ℕ} (few : n ≤ max_inputs) (answered : size ≡ table_size
       → Tabulates max_orders (λ order. length (scan_to size order)) l
   size_firsts l h order b = h order b ∙ ap (λ (x : ℕ). length (scan_to x order)) (sym sized)
 
-  pub placed_listed : {count : ℕ} {places : List ℕ} → length places ≡ max_places → (count ≡ size) × Placed size places
-      → Listed (scan_order n) count places
-  placed_listed {count} {places} e p =
-      let all : length (scan_order n) ≡ 2 ^ n = length_all (2 ^ n) (n + 1) (λ i h. omega (arith, ones-le n i h)) in
-      let counted : count ≡ length (scan_order n) = p.0 ∙ sized ∙ sym all in
+  pub placed_listed : {places : List ℕ} → length places ≡ max_places → Placed size places → Listed (scan_order n) (2 ^ n) places
+  placed_listed {places} e p =
+      let counted : 2 ^ n ≡ length (scan_order n) = sym (length_all (2 ^ n) (n + 1) (λ i h. omega (arith, ones-le n i h))) in
       let room : 2 ^ n ≤ length places = omega (arith, size_few, sized, e) in
       record {
         counted = counted;
         done = ap (λ (x : ℕ). take x places) counted
-            ∙ scan_starts (2 ^ n) places room (subst (λ (x : ℕ). Placed x places) sized p.1) (n + 1);
+            ∙ scan_starts (2 ^ n) places room (subst (λ (x : ℕ). Placed x places) sized p) (n + 1);
       }
+
+  -- a number of places that follows from the size
+  pub listed_sized : (f : ℕ → ℕ) {list places : List ℕ} → Listed list (f (2 ^ n)) places → Listed list (f size) places
+  listed_sized f {list} {places} w = subst (λ (k : ℕ). Listed list (f k) places) (sym sized) w
 
 pub listed_length : {list places : List ℕ} {count : ℕ} → Listed list count places → count ≡ length (take count places)
 listed_length w = w.counted ∙ ap length (sym w.done)

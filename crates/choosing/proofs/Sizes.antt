@@ -2,10 +2,13 @@
 --
 --   faults_rows      the method has a row for each circuit of a job
 --   faults_entries   a signature has room for as many entries as a job has faults
---   places_fit       an index fits in two bytes
+--   shift_fits       the inputs are fewer than the bits of two bytes
+--   inputs_small     the number of indices fits in two bytes
+--   places_fit       and so does an index
 --   entries_fit      so does an entry's number
-use Prim.Native.Nat.{◌+◌, ◌^◌, ◌≤◌}
-use lib.Dec.{lit≤}
+use Prim.Native.Nat.{ℕ, ◌+◌, ◌^◌, ◌≤◌, ◌<◌}
+use native.Mathlib.Omega.{arith}
+use lib.Dec.{lit<, lit≤}
 use Rattle.job.specs.Layout.{max_inputs, max_outputs, max_faults}
 use Rattle.chooser.specs.Matrix.{max_rows, max_signature}
 use Rattle.choosing.specs.Looking.{max_places, max_entries}
@@ -17,6 +20,14 @@ faults_rows = lit≤ tt
 pub faults_entries : max_faults ≤ max_signature
 unfolding max_faults max_signature
 faults_entries = lit≤ tt
+
+pub shift_fits : {n : ℕ} → n ≤ max_inputs → n < 16
+unfolding max_inputs
+shift_fits h = omega arith
+
+pub inputs_small : 2 ^ max_inputs < 2 ^ 16
+unfolding max_inputs
+inputs_small = lit< tt
 
 pub places_fit : max_places ≤ 2 ^ 16
 unfolding max_places max_inputs

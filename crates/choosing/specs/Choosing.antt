@@ -11,7 +11,8 @@
 --   chosen_of      the same for a job
 --   signature_of   entries as the signature that is answered
 --   at_exit        what a call answers and leaves
-use Rattle.std.specs.Prelude.{ℕ, zero, suc, ◌+◌, ◌-◌, ◌^◌, Bool, not, ◌&&◌, List, [], ◌∷◌, ◌++◌, leb, eqb, length}
+--   told           what the operation's result stands for
+use Rattle.std.specs.Prelude.{ℕ, zero, suc, ◌+◌, ◌-◌, ◌^◌, Bool, not, ◌&&◌, List, [], ◌∷◌, ◌++◌, Result, Ok, Err, leb, eqb, length}
 use Rattle.std.specs.Int.Count.{ones}
 use Rattle.bits.specs.Answer.{Answer, Fills, leaves, number, unless, onward}
 use Rattle.bits.specs.Answer.Answer.{gives, refused}
@@ -27,11 +28,12 @@ use Rattle.spectra.specs.declared.Kind.{Kind}
 use Rattle.method.specs.Method.{signature, first_pair, Pair}
 use Rattle.method.specs.Method.Pair.{nobody, pair}
 use Rattle.chooser.specs.Matrix.{max_signature, zeros}
+use Rattle.choosing.specs.declared.Chosen.{Chosen}
 use Rattle.choosing.specs.declared.Purpose.{Purpose}
 use Rattle.choosing.specs.declared.Purpose.TheVariants.{Isolating, Detecting}
 use Rattle.choosing.specs.declared.Signature.{Signature}
-use Rattle.choosing.specs.declared.Verdict.{Verdict}
-use Rattle.choosing.specs.declared.Verdict.TheVariants.{Done, Alike, Refused}
+use Rattle.choosing.specs.declared.Unchosen.{Unchosen}
+use Rattle.choosing.specs.declared.Unchosen.TheVariants.{Alike, Refused}
 
 -- of circuits a below b, each with its part: "Isolating now needs only pairs whose parts differ"; "detecting, of circuit 0 and each fault."
 abbrev pub needed : Purpose → (ℕ → ℕ) → ℕ → ℕ → Bool
@@ -119,13 +121,8 @@ abbrev pub counts_in : Answer Job → Counts
 counts_in (gives j) = counts_of j
 counts_in (refused i) = no_counts
 
--- the document's number and values of each verdict
-abbrev pub verdict_number : Verdict → ℕ
-verdict_number Done = 0
-verdict_number (Alike a b) = 15
-verdict_number (Refused e) = number e
-
-abbrev pub verdict_pair : Verdict → Pair
-verdict_pair Done = nobody
-verdict_pair (Alike a b) = pair a b
-verdict_pair (Refused e) = nobody
+-- what the operation's result stands for, with the work that it leaves
+abbrev pub told : Result Chosen Unchosen → List ℕ → AtExit
+told (Ok c) memory = record { number = 0; pair = nobody; counts = c.counts; signature = c.signature; memory = memory }
+told (Err (Alike a b)) memory = record { number = 15; pair = pair a b; counts = no_counts; signature = signature_of []; memory = memory }
+told (Err (Refused e)) memory = record { number = number e; pair = nobody; counts = no_counts; signature = signature_of []; memory = memory }

@@ -12,32 +12,31 @@
 --   Filled       the counts are a job's, and its spectra lie within the work
 --   marks_of     the circuits' marks: their parts, or whether each is a faulty one
 --   wanted       the pairs of counted circuits that a purpose needs told apart
---   chosen_by    the answer that the method's choice gives
 --   decoded_of   the entries of a signature whose numbers are taken apart
+--   unchosen_by  why nothing is chosen, by the method's answer
+--   chosen_by    what the method's answer gives
 --   scan_codes   the entries in the order of looking, each as one number
 --   chosen_in    the answer over any coefficients of the counted circuits, by an entry's number
-use Rattle.std.specs.Prelude.{ℕ, zero, suc, ◌+◌, ◌*◌, ◌/◌, ◌%◌, ◌^◌, ◌≤◌, ◌<◌, ◌≡◌, Bool, ◌&&◌, List, [], ◌∷◌, map, eqb, length, take, get_or, replicate}
+use Rattle.std.specs.Prelude.{ℕ, zero, suc, ◌+◌, ◌*◌, ◌/◌, ◌%◌, ◌^◌, ◌≤◌, ◌<◌, ◌≡◌, Bool, ◌&&◌, List, [], ◌∷◌, map, eqb, length, take, get_or, replicate, Result, Ok, Err}
 use Rattle.std.specs.Int.Count.{ones}
 use Rattle.bits.specs.Passing.{passing}
 use Rattle.job.specs.Layout.{max_inputs, max_outputs, max_faults}
-use Rattle.tables.specs.Operations.{no_counts, part_in}
+use Rattle.tables.specs.Operations.{part_in}
 use Rattle.tables.specs.declared.Counts.{Counts}
 use Rattle.bits.specs.declared.Refusal.TheVariants.{Memory}
-use Rattle.method.specs.Method as method
 use Rattle.method.specs.Method.{agree, signature, first_pair}
-use Rattle.method.specs.Method.Pair.{nobody, pair}
 use Rattle.spectra.specs.Codes.{codes_of}
-use Rattle.chooser.specs.Matrix as chooser
+use Rattle.chooser.specs.Matrix.{choice_by}
 use Rattle.chooser.specs.declared.Signature as coded
 use Rattle.chooser.specs.declared.Untold.{Untold}
-use Rattle.chooser.specs.declared.Untold.TheVariants.{Nobody, Pair, NoMatrix}
-use Rattle.choosing.specs.Choosing.{needed, scan_to, scan_order, entries_of, signature_of}
+use Rattle.chooser.specs.declared.Untold.TheVariants.{Pair, NoMatrix}
+use Rattle.choosing.specs.Choosing.{needed, scan_to, scan_order, entries_of}
 use Rattle.choosing.specs.declared.Chosen.{Chosen}
 use Rattle.choosing.specs.declared.Purpose.{Purpose}
 use Rattle.choosing.specs.declared.Purpose.TheVariants.{Isolating, Detecting}
 use Rattle.choosing.specs.declared.Signature.{Signature}
-use Rattle.choosing.specs.declared.Verdict.{Verdict}
-use Rattle.choosing.specs.declared.Verdict.TheVariants.{Done, Alike, Refused}
+use Rattle.choosing.specs.declared.Unchosen.{Unchosen}
+use Rattle.choosing.specs.declared.Unchosen.TheVariants.{Alike, Refused}
 
 -- 2 to the power 8
 unfoldable pub max_places : ℕ
@@ -88,15 +87,6 @@ marks_of Detecting parts = 0 ∷ replicate max_faults 1
 abbrev pub wanted : Purpose → Counts → ℕ → ℕ → Bool
 wanted purpose counts = needed purpose (part_in counts.parts)
 
-abbrev pub unchosen : Verdict → Chosen
-unchosen verdict = record { verdict = verdict; counts = no_counts; signature = signature_of [] }
-
--- the matrix always fits
-abbrev pub chosen_by : Counts → Untold → Signature → Chosen
-chosen_by counts Nobody s = record { verdict = Done; counts = counts; signature = s }
-chosen_by counts (Pair a b) s = unchosen (Alike a b)
-chosen_by counts NoMatrix s = unchosen (Refused Memory)
-
 -- of so many coefficients an output
 abbrev pub decoded_of : ℕ → ℕ → List ℕ → Signature
 decoded_of size count codes = record { count = count; indices = map (λ e. e % size) codes; outputs = map (λ e. e / size) codes }
@@ -104,15 +94,20 @@ decoded_of size count codes = record { count = count; indices = map (λ e. e % s
 abbrev pub decoded_from : ℕ → coded.Signature → Signature
 decoded_from size s = decoded_of size s.count s.entries
 
--- a pair that nothing tells apart, or else a signature
-abbrev pub chosen_for : method.Pair → Counts → List ℕ → Chosen
-chosen_for nobody counts l = record { verdict = Done; counts = counts; signature = decoded_from (2 ^ counts.inputs) (chooser.signature_of l) }
-chosen_for (pair a b) counts l = unchosen (Alike a b)
+-- the matrix always fits
+abbrev pub unchosen_by : Untold → Unchosen
+unchosen_by (Pair a b) = Alike a b
+unchosen_by NoMatrix = Refused Memory
+
+abbrev pub chosen_by : Counts → Result coded.Signature Untold → Result Chosen Unchosen
+chosen_by counts (Ok s) = Ok (record { counts = counts; signature = decoded_from (2 ^ counts.inputs) s })
+chosen_by counts (Err untold) = Err (unchosen_by untold)
 
 abbrev pub scan_codes : Counts → List ℕ
 scan_codes counts = codes_of (2 ^ counts.inputs) (entries_of counts.outputs (scan_order counts.inputs))
 
-abbrev pub chosen_in : Purpose → Counts → (ℕ → ℕ → ℕ) → Chosen
+abbrev pub chosen_in : Purpose → Counts → (ℕ → ℕ → ℕ) → Result Chosen Unchosen
 chosen_in purpose counts coef =
-    chosen_for (first_pair (counts.faults + 1) (λ a b. wanted purpose counts a b && agree coef (scan_codes counts) a b)) counts
-    (signature coef (counts.faults + 1) (wanted purpose counts) (scan_codes counts))
+    chosen_by counts
+    (choice_by (first_pair (counts.faults + 1) (λ a b. wanted purpose counts a b && agree coef (scan_codes counts) a b))
+    (signature coef (counts.faults + 1) (wanted purpose counts) (scan_codes counts)))

@@ -10,54 +10,73 @@
 // of lower order, by Pascal's rule.
 #![tactic(auto)]
 
-ghost use Rattle.std.specs.Prelude.{◌+◌, ◌*◌, ◌^◌, ◌≤◌, ◌<◌, ◌≡◌, true, [], length};
+ghost use Rattle.std.specs.Prelude.{◌+◌, ◌*◌, ◌^◌, ◌≤◌, ◌<◌, ◌≡◌, true, length};
 ghost use Rattle.std.specs.Int.Count.{ones};
 ghost use Rattle.job.specs.Layout.{max_inputs, max_outputs};
 ghost use Rattle.bits.specs.Bounds.{all_below};
 ghost use Rattle.bits.specs.Slices.{splice};
 ghost use Rattle.bits.specs.Tabulation.{Tabulates};
-ghost use Rattle.chooser.specs.Matrix.{cell, max_signature};
+ghost use Rattle.chooser.specs.Matrix.{cell};
 ghost use Rattle.reading.specs.Reading.{reading};
-ghost use Rattle.tables.specs.Operations.{no_counts};
 ghost use Rattle.spectra.specs.Codes.{codes_of};
 ghost use Rattle.spectra.specs.Operations.{from_tables};
-ghost use Rattle.choosing.specs.Choosing.{scan_to, scan_order, outputs_at, entries_of, signature_of, chosen_from, chosen_of, counts_in, at_exit, verdict_number, verdict_pair};
-ghost use Rattle.choosing.specs.Looking.{max_places, max_orders, marks_of, Few, summed, Placed, Listed, Filled, decoded_of, chosen_by, chosen_in};
+ghost use Rattle.choosing.specs.Choosing.{scan_to, scan_order, outputs_at, entries_of, chosen_from, chosen_of, counts_in, at_exit, told};
+ghost use Rattle.choosing.specs.Looking.{max_places, max_orders, marks_of, Few, summed, Placed, Listed, Filled, decoded_of, unchosen_by, chosen_in};
+ghost use Rattle.choosing.specs.declared.Unchosen.TheVariants.{Refused};
 
-use bits::{Outcome, Refusal};
+use bits::Refusal;
 use chooser::{MAX_SIGNATURE, Untold};
 use spectra::Kind;
 use tables::{ALL_TABLES_BYTES, Counts};
 
 // To tell circuits of different parts apart, or the good one from each fault.
-#[derive(Clone, Copy)]
+#[derive(Clone, Copy, Debug, PartialEq, Eq)]
 pub enum Purpose {
     Isolating,
     Detecting,
 }
 
-// A signature is chosen; the first needed pair of circuits that are alike; or another refusal.
-#[derive(Clone, Copy)]
-pub enum Verdict {
-    Done,
-    Alike(usize, usize),
-    Refused(Refusal),
-}
-
-// Entries in the order of taking, an index and an output each; the places past the count are 0.
-#[derive(Clone, Copy)]
+// Entries in the order of taking, an index and an output each; the places past the count are 0. Two arrays, since the C interface and the statement of
+// demand 3 read `indices` and `outputs`; with a count, since memory is fixed.
+#[derive(Clone, Copy, Debug, PartialEq, Eq)]
 pub struct Signature {
     pub count: usize,
     pub indices: [u16; MAX_SIGNATURE],
     pub outputs: [u16; MAX_SIGNATURE],
 }
 
-// Beside a pair or a refusal the counts are 0, and the signature is empty.
-#[derive(Clone, Copy)]
+// What is chosen for a job: its counts, and the signature.
+#[derive(Clone, Copy, Debug, PartialEq, Eq)]
 pub struct Chosen {
-    pub verdict: Verdict,
     pub counts: Counts,
     pub signature: Signature,
+}
+
+// Why nothing is chosen: a refusal, or the first needed pair of circuits that is alike.
+#[derive(Clone, Copy, Debug, PartialEq, Eq)]
+pub enum Unchosen {
+    Refused(Refusal),
+    Alike(usize, usize),
+}
+
+impl From<Refusal> for Unchosen {
+    ghost from_gives = { λ cause unchosen. unchosen ≡ Refused cause };
+
+    fn from(cause: Refusal) -> Unchosen {
+        Unchosen::Refused(cause)
+    }
+}
+
+// The matrix always fits, so that `NoMatrix` stands for no answer of `choose_tables`.
+impl From<Untold> for Unchosen {
+    ghost from_gives = { λ untold unchosen. unchosen ≡ unchosen_by untold };
+
+    fn from(untold: Untold) -> Unchosen {
+        match untold {
+            Untold::Pair(a, b) => Unchosen::Alike(a, b),
+            Untold::NoMatrix => Unchosen::Refused(Refusal::Memory),
+        }
+    }
 }
 
 // The most coefficients of a circuit at one output.
@@ -69,238 +88,133 @@ const MAX_ENTRIES: usize = job::MAX_OUTPUTS * MAX_PLACES;
 // An index has as many ones as there are inputs, or fewer.
 const MAX_ORDERS: usize = job::MAX_INPUTS + 1;
 
-// A mark for each circuit: those with different marks are to be told apart.
-#[derive(Clone, Copy)]
-struct Marks {
-    of: [u8; chooser::MAX_ROWS],
-}
-
-// The order of each index.
-#[derive(Clone, Copy)]
-struct Orders {
-    of: [u8; MAX_PLACES],
-}
-
-// A number for each order.
-#[derive(Clone, Copy)]
-struct PerOrder {
-    of: [usize; MAX_ORDERS],
-}
-
-// Indices by order, then by value.
-#[derive(Clone, Copy)]
-struct Scan {
-    count: usize,
-    of: [u16; MAX_PLACES],
-}
-
-// Entries in the order of looking, each as one number.
-#[derive(Clone, Copy)]
-struct Codes {
-    count: usize,
-    of: [u16; MAX_ENTRIES],
-}
-
-// The marks of all circuits that there may be.
-fn marks_of(purpose: Purpose, counts: Counts) -> Marks
-    ensures { result.of ≡ marks_of purpose counts.parts }
+// The marks of all circuits that there may be: those with different marks are to be told apart.
+fn marks_of(purpose: Purpose, counts: Counts) -> [u8; chooser::MAX_ROWS]
+    ensures { result ≡ marks_of purpose counts.parts }
 {
     match purpose {
-        Purpose::Isolating => {
-            let of = counts.parts;
-            Marks { of }
-        }
+        Purpose::Isolating => counts.parts,
         Purpose::Detecting => {
-            let mut of = [1u8; chooser::MAX_ROWS];
-            of[0] = 0;
-            Marks { of }
+            let mut marks = [1u8; chooser::MAX_ROWS];
+            marks[0] = 0;
+            marks
         }
     }
-}
-
-// The order of an index is its number of ones; those of the indices below `size`.
-fn orders_below(size: usize) -> Orders
-    requires { size ≤ max_places }
-    ensures { Tabulates size ones result.of }
-{
-    let mut of = [0u8; MAX_PLACES];
-    let mut e = 0;
-    while e < size {
-        let index = e as u32;
-        of[e] = u32::count_ones(index) as u8;
-        e += 1;
-    }
-    Orders { of }
 }
 
 // The first places with one input more: an index has the new input's bit, and its order is one more, or has it not. From the highest order down, so that
 // each sum takes the places as they were.
-fn add_input(firsts: &mut [usize])
-    requires { (length firsts.old ≡ max_orders) × Few firsts.old }
+fn add_input(firsts: &mut [usize; MAX_ORDERS])
+    requires { Few firsts.old }
     ensures { Tabulates max_orders (summed firsts.old) firsts.new }
 {
-    let mut order = MAX_ORDERS - 1;
-    while 0 < order {
-        firsts[order] = firsts[order] + firsts[order - 1];
-        order -= 1;
+    for order in (1..MAX_ORDERS).rev() {
+        firsts[order] += firsts[order - 1];
     }
 }
 
 // The place of the first index of each order, after all those of lower order: sums of binomial coefficients.
-fn first_places(n: usize) -> PerOrder
+fn first_places(n: usize) -> [usize; MAX_ORDERS]
     requires { n ≤ max_inputs }
-    ensures { Tabulates max_orders (λ order. length (scan_to (2 ^ n) order)) result.of }
+    ensures { Tabulates max_orders (λ order. length (scan_to (2 ^ n) order)) result }
 {
-    let mut of = [1usize; MAX_ORDERS];
-    of[0] = 0;
-    let mut m = 0;
-    while m < n {
-        add_input(&mut of);
-        m += 1;
+    let mut firsts = [1usize; MAX_ORDERS];
+    firsts[0] = 0;
+    for _ in 0..n {
+        add_input(&mut firsts);
     }
-    PerOrder { of }
+    firsts
 }
 
-// Puts each index at the next place of its order.
-fn put_indices(orders: &[u8], firsts: PerOrder, size: usize) -> Scan
-    requires { (size ≤ max_places) × (length orders.now ≡ max_places) × Tabulates size ones orders.now × Tabulates max_orders (λ order. length (scan_to size order)) firsts.of }
-    ensures { (result.count ≡ size) × Placed size result.of }
+// Puts each index at the next place of its order, its number of ones.
+fn put_indices(firsts: [usize; MAX_ORDERS], size: usize) -> [u16; MAX_PLACES]
+    requires { (size ≤ max_places) × Tabulates max_orders (λ order. length (scan_to size order)) firsts }
+    ensures { Placed size result }
 {
-    let mut next = firsts.of;
-    let mut of = [0u16; MAX_PLACES];
-    let mut e = 0;
-    while e < size {
-        let order = orders[e] as usize;
+    let mut next = firsts;
+    let mut indices = [0u16; MAX_PLACES];
+    for e in 0..size {
+        let order = e.count_ones() as usize;
         let place = next[order];
-        of[place] = e as u16;
+        indices[place] = e as u16;
         next[order] = place + 1;
-        e += 1;
     }
-    Scan { count: size, of }
+    indices
 }
 
 // The indices of n inputs, by order, then by value.
-fn scan_order(n: usize) -> Scan
+fn scan_order(n: usize) -> [u16; MAX_PLACES]
     requires { n ≤ max_inputs }
-    ensures { Listed (scan_order n) result.count result.of }
+    ensures { Listed (scan_order n) (2 ^ n) result }
 {
-    let size = bits::table_size(n);
-    let orders = orders_below(size);
-    let firsts = first_places(n);
-    put_indices(&orders.of, firsts, size)
+    put_indices(first_places(n), bits::table_size(n))
 }
 
 // Puts the entries of an index from a place on: one for each output.
-fn put_outputs(of: &mut [u16], at: usize, index: usize, size: usize, outputs: usize)
-    requires { (index < size) × (size ≤ max_places) × (outputs ≤ max_outputs) × (at + outputs ≤ length of.old) }
-    ensures { of.new ≡ splice of.old at (codes_of size (outputs_at index outputs)) }
+fn put_outputs(codes: &mut [u16], at: usize, index: usize, size: usize, outputs: usize)
+    requires { (index < size) × (size ≤ max_places) × (outputs ≤ max_outputs) × (at + outputs ≤ length codes.old) }
+    ensures { codes.new ≡ splice codes.old at (codes_of size (outputs_at index outputs)) }
 {
-    let mut o = 0;
-    while o < outputs {
-        of[at + o] = (o * size + index) as u16;
-        o += 1;
+    for o in 0..outputs {
+        codes[at + o] = (o * size + index) as u16;
     }
 }
 
 // Puts the entries of indices, index after index, from the start.
-fn put_entries(of: &mut [u16], indices: &[u16], size: usize, outputs: usize)
-    requires { (all_below size indices.now ≡ true) × (size ≤ max_places) × (outputs ≤ max_outputs) × (length indices.now * outputs ≤ length of.old) }
-    ensures { of.new ≡ splice of.old 0 (codes_of size (entries_of outputs indices.now)) }
+fn put_entries(codes: &mut [u16], indices: &[u16], size: usize, outputs: usize)
+    requires { (all_below size indices.now ≡ true) × (size ≤ max_places) × (outputs ≤ max_outputs) × (length indices.now * outputs ≤ length codes.old) }
+    ensures { codes.new ≡ splice codes.old 0 (codes_of size (entries_of outputs indices.now)) }
 {
-    let mut i = 0;
-    while i < indices.len() {
-        put_outputs(of, i * outputs, indices[i] as usize, size, outputs);
-        i += 1;
+    for (i, index) in indices.iter().enumerate() {
+        put_outputs(codes, i * outputs, *index as usize, size, outputs);
     }
 }
 
 // The entries of n inputs and so many outputs, by order, by value, then by output.
-fn scan_entries(n: usize, outputs: usize) -> Codes
+fn scan_entries(n: usize, outputs: usize) -> [u16; MAX_ENTRIES]
     requires { (n ≤ max_inputs) × (outputs ≤ max_outputs) }
-    ensures { Listed (codes_of (2 ^ n) (entries_of outputs (scan_order n))) result.count result.of }
+    ensures { Listed (codes_of (2 ^ n) (entries_of outputs (scan_order n))) (2 ^ n * outputs) result }
 {
-    let scan = scan_order(n);
-    let size = scan.count;
-    let indices = scan.of;
-    let mut of = [0u16; MAX_ENTRIES];
-    put_entries(&mut of, &indices[..size], size, outputs);
-    Codes {
-        count: size * outputs,
-        of,
-    }
+    let indices = scan_order(n);
+    let size = bits::table_size(n);
+    let mut codes = [0u16; MAX_ENTRIES];
+    put_entries(&mut codes, &indices[..size], size, outputs);
+    codes
 }
 
 // A signature's entries, whose numbers are taken apart; so are the 0s past them.
-fn decoded(count: usize, codes: &[u16], n: usize) -> Signature
-    requires { (length codes.now ≡ max_signature) × (n ≤ max_inputs) }
-    ensures { result ≡ decoded_of (2 ^ n) count codes.now }
+fn decoded(coded: chooser::Signature, n: usize) -> Signature
+    requires { n ≤ max_inputs }
+    ensures { result ≡ decoded_of (2 ^ n) coded.count coded.entries }
 {
+    let size = 1u16 << n;
     let mut indices = [0u16; MAX_SIGNATURE];
     let mut outputs = [0u16; MAX_SIGNATURE];
-    let mut i = 0;
-    while i < MAX_SIGNATURE {
-        let code = codes[i] as usize;
-        let output = code >> n;
-        outputs[i] = output as u16;
-        indices[i] = (code - (output << n)) as u16;
-        i += 1;
+    for (i, code) in coded.entries.iter().enumerate() {
+        indices[i] = *code % size;
+        outputs[i] = *code / size;
     }
     Signature {
-        count,
+        count: coded.count,
         indices,
         outputs,
     }
 }
 
-// What stands beside a pair or a refusal.
-fn unchosen(verdict: Verdict) -> Chosen
-    ensures { result ≡ record { verdict = verdict; counts = no_counts; signature = signature_of [] } }
-{
-    Chosen {
-        verdict,
-        counts: tables::no_counts(),
-        signature: Signature {
-            count: 0,
-            indices: [0u16; MAX_SIGNATURE],
-            outputs: [0u16; MAX_SIGNATURE],
-        },
-    }
-}
-
-// The verdict that the method's choice gives. The matrix always fits, so that `NoMatrix` stands for no answer of `choose_tables`.
-fn concluded(counts: Counts, untold: Untold, signature: Signature) -> Chosen
-    ensures { result ≡ chosen_by counts untold signature }
-{
-    match untold {
-        Untold::Nobody => Chosen {
-            verdict: Verdict::Done,
-            counts,
-            signature,
-        },
-        Untold::Pair(a, b) => unchosen(Verdict::Alike(a, b)),
-        Untold::NoMatrix => unchosen(Verdict::Refused(Refusal::Memory)),
-    }
-}
-
 // What the method chooses from the spectra in the work.
-fn choose_filled(work: &[u16], counts: Counts, purpose: Purpose) -> Chosen
+fn choose_filled(work: &[u16], counts: Counts, purpose: Purpose) -> Result<Chosen, Unchosen>
     requires { Filled counts (length work.now) }
     ensures { result ≡ chosen_in purpose counts (cell work.now (counts.outputs * 2 ^ counts.inputs)) }
 {
     let marks = marks_of(purpose, counts);
-    let scan = scan_entries(counts.inputs, counts.outputs);
+    let codes = scan_entries(counts.inputs, counts.outputs);
     // every number of a circuit is an entry's, so there are as many as a row is wide
-    let count = scan.count;
-    let codes = scan.of;
-    let choice = chooser::choose(work, count, counts.faults + 1, &marks.of, &codes[..count]);
-    let untold = choice.untold;
-    let coded = choice.signature;
-    let entries = coded.entries;
-    concluded(
+    let width = bits::table_size(counts.inputs) * counts.outputs;
+    let signature = chooser::choose(work, width, counts.faults + 1, &marks, &codes[..width])?;
+    Ok(Chosen {
         counts,
-        untold,
-        decoded(coded.count, &entries, counts.inputs),
-    )
+        signature: decoded(signature, counts.inputs),
+    })
 }
 
 // The signature that tells the counted circuits apart, from their tables, one after the other: 2; 12; 13; 10; 15 with the first needed pair that is alike.
@@ -311,14 +225,11 @@ pub fn choose_tables(
     kind: Kind,
     polarity: usize,
     work: &mut [u16],
-) -> Chosen
-    ensures { record { number = verdict_number result.verdict; pair = verdict_pair result.verdict; counts = result.counts; signature = result.signature; memory = work.new } ≡ at_exit counts (from_tables counts tables.now (λ F. chosen_from purpose F kind polarity (length work.old))) work.old }
+) -> Result<Chosen, Unchosen>
+    ensures { told result work.new ≡ at_exit counts (from_tables counts tables.now (λ F. chosen_from purpose F kind polarity (length work.old))) work.old }
 {
-    let outcome = spectra::fill(counts, tables, kind, polarity, work);
-    match outcome {
-        Outcome::Refused(cause) => unchosen(Verdict::Refused(cause)),
-        Outcome::Done => choose_filled(work, counts, purpose),
-    }
+    spectra::fill(counts, tables, kind, polarity, work)?;
+    choose_filled(work, counts, purpose)
 }
 
 // The signature that tells the circuits of a job apart: reading's refusals; 13; 10; 15 with the first needed pair that is alike.
@@ -328,24 +239,11 @@ pub fn choose(
     kind: Kind,
     polarity: usize,
     work: &mut [u16],
-) -> Chosen
-    ensures { record { number = verdict_number result.verdict; pair = verdict_pair result.verdict; counts = result.counts; signature = result.signature; memory = work.new } ≡ at_exit (counts_in (reading bytes.now)) (chosen_of purpose bytes.now kind polarity (length work.old)) work.old }
+) -> Result<Chosen, Unchosen>
+    ensures { told result work.new ≡ at_exit (counts_in (reading bytes.now)) (chosen_of purpose bytes.now kind polarity (length work.old)) work.old }
 {
     let mut packed = [0u8; ALL_TABLES_BYTES];
-    let delivery = tables::tables(bytes, &mut packed);
-    let outcome = delivery.outcome;
-    match outcome {
-        Outcome::Refused(cause) => unchosen(Verdict::Refused(cause)),
-        Outcome::Done => {
-            let end = delivery.bytes;
-            choose_tables(
-                delivery.counts,
-                &packed[..end],
-                purpose,
-                kind,
-                polarity,
-                work,
-            )
-        }
-    }
+    let delivery = tables::tables(bytes, &mut packed)?;
+    let tables = &packed[..delivery.bytes];
+    choose_tables(delivery.counts, tables, purpose, kind, polarity, work)
 }

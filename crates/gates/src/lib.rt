@@ -7,7 +7,7 @@
 // is cut to the bits that are entries, so that spare bits come out 0 whatever the operands hold.
 #![tactic(auto)]
 
-ghost use Rattle.std.specs.Prelude.{◌≡◌, cond, ◌+◌, ◌≤◌, ◌<◌, length};
+ghost use Rattle.std.specs.Prelude.{◌≡◌, cond, ◌<◌, length, slice_index, EachIndex};
 ghost use Rattle.bits.specs.Packed.{tabulate};
 ghost use Rattle.job.specs.Record.{gate_kind};
 ghost use Rattle.gates.specs.Polynomial.{alternating, combined, kind_polynomial};
@@ -44,11 +44,7 @@ pub struct Polynomial {
 pub fn polynomial_of(gate: Gate, mask: u8) -> Polynomial
     ensures { result ≡ kind_polynomial (gate_kind gate) mask }
 {
-    let row = ANSWERS[gate.kind()];
-    let none = row[0];
-    let second = row[1];
-    let first = row[2];
-    let both = row[3];
+    let [none, second, first, both] = ANSWERS[gate.kind()];
     Polynomial {
         constant: (255 * none) & mask,
         first: (255 * (none ^ first)) & mask,
@@ -63,40 +59,36 @@ const BYTE_BITS: usize = 8;
 pub fn combine(rows: &mut [u8], x: usize, y: usize, to: usize, count: usize, polynomial: Polynomial)
     ensures { rows.new ≡ cond (step_fits x y to count (length rows.old)) (splice rows.old to (tabulate count (combined polynomial x y rows.old))) rows.old }
 {
-    if !bits::has_room(rows.len(), to, count) {
-        return;
+    if bits::has_room(rows.len(), to, count)
+        && bits::has_room(to, x, count)
+        && bits::has_room(to, y, count)
+    {
+        let (read, written) = rows.split_at_mut(to);
+        step::combine_bytes(
+            &mut written[..count],
+            &read[x..x + count],
+            &read[y..y + count],
+            polynomial,
+        );
     }
-    if !bits::has_room(to, x, count) {
-        return;
-    }
-    if !bits::has_room(to, y, count) {
-        return;
-    }
-    step::combine_bytes(rows, x, y, to, count, polynomial);
 }
 
 // Fills `count` bytes at `to`, byte i with eight copies of bit `bit` of i, if they end within the rows and a byte has such a bit.
 pub fn alternate(rows: &mut [u8], to: usize, count: usize, bit: usize)
     ensures { rows.new ≡ cond (alternate_fits to count bit (length rows.old)) (splice rows.old to (tabulate count (alternating bit))) rows.old }
 {
-    if !bits::has_room(rows.len(), to, count) {
-        return;
+    if bits::has_room(rows.len(), to, count) && bit < BYTE_BITS {
+        alternate_bytes(&mut rows[to..to + count], bit);
     }
-    if BYTE_BITS <= bit {
-        return;
-    }
-    alternate_bytes(rows, to, count, bit);
 }
 
 // In bytes throughout, so that many are worked out at a time.
-fn alternate_bytes(rows: &mut [u8], to: usize, count: usize, bit: usize)
-    requires { (to + count ≤ length rows.old) × (bit < 8) }
-    ensures { rows.new ≡ splice rows.old to (tabulate count (alternating bit)) }
+fn alternate_bytes(bytes: &mut [u8], bit: usize)
+    requires { bit < 8 }
+    ensures { EachIndex bytes.new (λ i. slice_index bytes.new i ≡ alternating bit i) }
 {
-    let mut i = 0;
-    while i < count {
+    for (i, byte) in bytes.iter_mut().enumerate() {
         let low = (i % 256) as u8;
-        rows[to + i] = 255 * ((low >> bit) % 2);
-        i += 1;
+        *byte = 255 * ((low >> bit) % 2);
     }
 }

@@ -1,13 +1,13 @@
-// The gate step where the places lie right: eight bytes at a time where eight are left, single bytes for the remainder.
+// The gate step over tables of one length: eight bytes at a time where eight are left, single bytes for the remainder.
 //
 // A word is eight bytes that are read, worked out and written together, in a struct, so that each is a byte of the
-// definition and the compiler takes the eight at once. Two words a turn fill its registers; both are worked out before
-// the first is written, since the compiler can't know that the tables that are read end before the one that is written.
-ghost use Rattle.std.specs.Prelude.{◌≡◌, ◌+◌, ◌≤◌, ◌<◌, length, get_or};
+// definition and the compiler takes the eight at once; as an array it would work on memory, and take ten times as long.
+// Two words a turn fill its registers; both are worked out before the first is written, since the compiler can't know
+// that what is written is not read.
+ghost use Rattle.std.specs.Prelude.{◌≡◌, ◌+◌, ◌≤◌, length, get_or, slice_index, EachIndex};
 ghost use Rattle.bits.specs.Slices.{splice};
-ghost use Rattle.bits.specs.Packed.{tabulate};
-ghost use Rattle.gates.specs.Polynomial.{step, combined};
-ghost use Rattle.gates.specs.Words.{word_of, bytes_of, word_step, gate_step, Places};
+ghost use Rattle.gates.specs.Polynomial.{step};
+ghost use Rattle.gates.specs.Words.{word_of, bytes_of, word_step, stepped, AsLong, Stepped};
 
 use crate::Polynomial;
 
@@ -25,120 +25,67 @@ struct Word {
     b7: u8,
 }
 
-// Combines two packed tables of `count` bytes, at x and y, into the one at `to`.
-pub(crate) fn combine_bytes(
-    rows: &mut [u8],
-    x: usize,
-    y: usize,
-    to: usize,
-    count: usize,
-    polynomial: Polynomial,
-)
-    requires { (x + count ≤ to) × (y + count ≤ to) × (to + count ≤ length rows.old) }
-    ensures { rows.new ≡ splice rows.old to (tabulate count (combined polynomial x y rows.old)) }
+// Combines two packed tables into one.
+pub(crate) fn combine_bytes(to: &mut [u8], x: &[u8], y: &[u8], polynomial: Polynomial)
+    requires { AsLong to.old x.now y.now }
+    ensures { EachIndex to.new (λ k. slice_index to.new k ≡ stepped polynomial x.now y.now k) }
 {
-    let done = paired_words(rows, x, y, to, count, polynomial);
-    last_bytes(
-        rows,
-        x + done,
-        y + done,
-        to + done,
-        count - done,
-        polynomial,
+    let done = whole_words(to, x, y, polynomial);
+    for i in done..to.len() {
+        to[i] = byte_step(polynomial, x[i], y[i]);
+    }
+}
+
+// Two words a turn, and one more if they are odd; gives how many bytes that makes.
+fn whole_words(to: &mut [u8], x: &[u8], y: &[u8], polynomial: Polynomial) -> usize
+    requires { AsLong to.old x.now y.now }
+    ensures within { result ≤ length to.old }
+    ensures done { Stepped polynomial x.now y.now to.new result }
+{
+    let words = to.len() / WORD;
+    for pair in 0..words / 2 {
+        two_words(to, x, y, 2 * WORD * pair, polynomial);
+    }
+    if words % 2 == 1 {
+        one_word(to, x, y, WORD * words - WORD, polynomial);
+    }
+    WORD * words
+}
+
+fn one_word(to: &mut [u8], x: &[u8], y: &[u8], at: usize, polynomial: Polynomial)
+    requires { AsLong to.old x.now y.now × (at + 8 ≤ length to.old) × Stepped polynomial x.now y.now to.old at }
+    ensures { Stepped polynomial x.now y.now to.new (at + 8) }
+{
+    put_word(
+        to,
+        at,
+        word_step(polynomial, word_at(x, at), word_at(y, at)),
     );
 }
 
-// Two words a turn while two are left; gives how many bytes that makes.
-fn paired_words(
-    rows: &mut [u8],
-    x: usize,
-    y: usize,
-    to: usize,
-    count: usize,
-    polynomial: Polynomial,
-) -> usize
-    requires { Places x y to count rows.old }
-    ensures nearly_all { (result ≤ count) × (count < result + 16) }
-    ensures stepped { rows.new ≡ gate_step polynomial x y to result rows.old }
+fn two_words(to: &mut [u8], x: &[u8], y: &[u8], at: usize, polynomial: Polynomial)
+    requires { AsLong to.old x.now y.now × (at + 16 ≤ length to.old) × Stepped polynomial x.now y.now to.old at }
+    ensures { Stepped polynomial x.now y.now to.new (at + 16) }
 {
-    let mut done = 0;
-    while 2 * WORD <= count - done {
-        two_words(rows, x + done, y + done, to + done, polynomial);
-        done += 2 * WORD;
-    }
-    done
+    let one = word_step(polynomial, word_at(x, at), word_at(y, at));
+    let other = word_step(polynomial, word_at(x, at + WORD), word_at(y, at + WORD));
+    put_word(to, at, one);
+    put_word(to, at + WORD, other);
 }
 
-// A word where eight bytes are left, then the remainder.
-fn last_bytes(rows: &mut [u8], x: usize, y: usize, to: usize, count: usize, polynomial: Polynomial)
-    requires { Places x y to count rows.old × (count < 16) }
-    ensures { rows.new ≡ gate_step polynomial x y to count rows.old }
-{
-    if WORD <= count {
-        one_word(rows, x, y, to, polynomial);
-        single_bytes(
-            rows,
-            x + WORD,
-            y + WORD,
-            to + WORD,
-            count - WORD,
-            polynomial,
-        );
-    } else {
-        single_bytes(rows, x, y, to, count, polynomial);
-    }
-}
-
-// The remainder: fewer than eight bytes.
-fn single_bytes(
-    rows: &mut [u8],
-    x: usize,
-    y: usize,
-    to: usize,
-    count: usize,
-    polynomial: Polynomial,
-)
-    requires { Places x y to count rows.old × (count < 8) }
-    ensures { rows.new ≡ gate_step polynomial x y to count rows.old }
-{
-    let mut i = 0;
-    while i < count {
-        rows[to + i] = byte_step(polynomial, rows[x + i], rows[y + i]);
-        i += 1;
-    }
-}
-
-fn one_word(rows: &mut [u8], x: usize, y: usize, to: usize, polynomial: Polynomial)
-    requires { Places x y to 8 rows.old }
-    ensures { rows.new ≡ gate_step polynomial x y to 8 rows.old }
-{
-    let word = word_step(polynomial, word_at(rows, x), word_at(rows, y));
-    put_word(rows, to, word);
-}
-
-fn two_words(rows: &mut [u8], x: usize, y: usize, to: usize, polynomial: Polynomial)
-    requires { Places x y to 16 rows.old }
-    ensures { rows.new ≡ gate_step polynomial x y to 16 rows.old }
-{
-    let one = word_step(polynomial, word_at(rows, x), word_at(rows, y));
-    let other = word_step(polynomial, word_at(rows, x + WORD), word_at(rows, y + WORD));
-    put_word(rows, to, one);
-    put_word(rows, to + WORD, other);
-}
-
-fn word_at(rows: &[u8], at: usize) -> Word
-    requires { at + 8 ≤ length rows.now }
-    ensures { result ≡ word_of (λ i. get_or rows.now (at + i) 0) }
+fn word_at(bytes: &[u8], at: usize) -> Word
+    requires { at + 8 ≤ length bytes.now }
+    ensures { result ≡ word_of (λ i. get_or bytes.now (at + i) 0) }
 {
     Word {
-        b0: rows[at],
-        b1: rows[at + 1],
-        b2: rows[at + 2],
-        b3: rows[at + 3],
-        b4: rows[at + 4],
-        b5: rows[at + 5],
-        b6: rows[at + 6],
-        b7: rows[at + 7],
+        b0: bytes[at],
+        b1: bytes[at + 1],
+        b2: bytes[at + 2],
+        b3: bytes[at + 3],
+        b4: bytes[at + 4],
+        b5: bytes[at + 5],
+        b6: bytes[at + 6],
+        b7: bytes[at + 7],
     }
 }
 
@@ -166,16 +113,16 @@ fn byte_step(polynomial: Polynomial, x: u8, y: u8) -> u8
         ^ (polynomial.both & (x & y))
 }
 
-fn put_word(rows: &mut [u8], to: usize, word: Word)
-    requires { to + 8 ≤ length rows.old }
-    ensures { rows.new ≡ splice rows.old to (bytes_of word) }
+fn put_word(bytes: &mut [u8], at: usize, word: Word)
+    requires { at + 8 ≤ length bytes.old }
+    ensures { bytes.new ≡ splice bytes.old at (bytes_of word) }
 {
-    rows[to] = word.b0;
-    rows[to + 1] = word.b1;
-    rows[to + 2] = word.b2;
-    rows[to + 3] = word.b3;
-    rows[to + 4] = word.b4;
-    rows[to + 5] = word.b5;
-    rows[to + 6] = word.b6;
-    rows[to + 7] = word.b7;
+    bytes[at] = word.b0;
+    bytes[at + 1] = word.b1;
+    bytes[at + 2] = word.b2;
+    bytes[at + 3] = word.b3;
+    bytes[at + 4] = word.b4;
+    bytes[at + 5] = word.b5;
+    bytes[at + 6] = word.b6;
+    bytes[at + 7] = word.b7;
 }

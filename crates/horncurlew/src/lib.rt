@@ -13,20 +13,19 @@ ghost use Rattle.locating.specs.Locating.{located_of, located_told};
 ghost use Rattle.report_text.specs.Text.{reported};
 ghost use Rattle.horncurlew.specs.Exports.{report_of, kind_of, purpose_of, number_of, numbered, job_of, length_of, rewritten_of, chosen_at, first_of, second_of, choice_of, location_of, version};
 
-use bits::{Outcome, Refusal};
-use choosing::{Purpose, Signature, Verdict};
+use bits::Refusal;
+use chooser::MAX_SIGNATURE;
+use choosing::{Chosen, Purpose, Unchosen};
+use job::Job;
 use locating::Located;
-use report_text::Reported;
 use spectra::Kind;
-use tables::Counts;
-use writing::Written;
 
 // Raised with every change of an exported function, struct or number; HORNCURLEW_VERSION in include/horncurlew.h is the same number.
 const VERSION: usize = 4;
 
 // The counts of a job.
 #[repr(C)]
-#[derive(Drop)]
+#[derive(Debug, Default, PartialEq, Eq, Drop)]
 pub struct JobAnswer {
     pub number: usize,
     pub inputs: usize,
@@ -37,7 +36,7 @@ pub struct JobAnswer {
 
 // How many bytes were written.
 #[repr(C)]
-#[derive(Drop)]
+#[derive(Debug, PartialEq, Eq, Drop)]
 pub struct LengthAnswer {
     pub number: usize,
     pub length: usize,
@@ -45,7 +44,7 @@ pub struct LengthAnswer {
 
 // The pair that is alike; or the counts of the job, and the signature.
 #[repr(C)]
-#[derive(Drop)]
+#[derive(Debug, PartialEq, Eq, Drop)]
 pub struct ChoiceAnswer {
     pub number: usize,
     pub first: usize,
@@ -55,14 +54,14 @@ pub struct ChoiceAnswer {
     pub outputs: usize,
     pub faults: usize,
     pub count: usize,
-    pub entry_indices: [u16; chooser::MAX_SIGNATURE],
-    pub entry_outputs: [u16; chooser::MAX_SIGNATURE],
+    pub entry_indices: [u16; MAX_SIGNATURE],
+    pub entry_outputs: [u16; MAX_SIGNATURE],
 }
 
 // What agreeing circuits are found: 0 for none, 1 for circuits of one part, 2 for several parts. With 1 the part, with 2 how many circuits agree, and
 // with both the lowest of them.
 #[repr(C)]
-#[derive(Drop)]
+#[derive(Debug, Default, PartialEq, Eq, Drop)]
 pub struct LocationAnswer {
     pub number: usize,
     pub found: usize,
@@ -73,7 +72,7 @@ pub struct LocationAnswer {
 
 // Whether the text was written, 1 or 0, and how many bytes it has.
 #[repr(C)]
-#[derive(Drop)]
+#[derive(Debug, Default, PartialEq, Eq, Drop)]
 pub struct ReportAnswer {
     pub written: usize,
     pub length: usize,
@@ -97,12 +96,12 @@ fn purpose_of(purpose: u8) -> Purpose
     Purpose::Detecting
 }
 
-fn number_of(answer: Outcome) -> usize
+fn number_of(answer: Result<(), Refusal>) -> usize
     ensures { result ≡ number_of (outcome answer) }
 {
     match answer {
-        Outcome::Done => 0,
-        Outcome::Refused(cause) => cause.number(),
+        Ok(()) => 0,
+        Err(cause) => cause.number(),
     }
 }
 
@@ -114,21 +113,48 @@ pub extern "C" fn horncurlew_version() -> usize
     VERSION
 }
 
+fn job_of(reading: Result<Job, Refusal>) -> JobAnswer
+    ensures { result ≡ job_of (outcome reading) }
+{
+    match reading {
+        Ok(job) => JobAnswer {
+            number: 0,
+            inputs: job.inputs as usize,
+            gates: job.gate_count as usize,
+            outputs: job.output_count as usize,
+            faults: job.fault_count as usize,
+        },
+        Err(cause) => JobAnswer {
+            number: cause.number(),
+            ..JobAnswer::default()
+        },
+    }
+}
+
 // Whether the bytes are a job, and its counts.
 #[unsafe(no_mangle)]
 pub extern "C" fn horncurlew_check(bytes: &[u8]) -> JobAnswer
     ensures { result ≡ job_of (reading bytes.now) }
 {
-    let reading = reading::read(bytes);
-    let job = reading.job;
-    let outcome = reading.outcome;
-    JobAnswer {
-        number: number_of(outcome),
-        inputs: job.inputs as usize,
-        gates: job.gate_count as usize,
-        outputs: job.output_count as usize,
-        faults: job.fault_count as usize,
+    job_of(reading::read(bytes))
+}
+
+fn length_of(written: Result<usize, Refusal>) -> LengthAnswer
+    ensures { result ≡ length_of (outcome written) }
+{
+    match written {
+        Ok(length) => LengthAnswer { number: 0, length },
+        Err(cause) => LengthAnswer {
+            number: cause.number(),
+            length: 0,
+        },
     }
+}
+
+fn rewrite(bytes: &[u8], out: &mut [u8]) -> Result<usize, Refusal>
+    ensures { record { answer = outcome result; memory = out.new } ≡ leaves (rewritten_of bytes.now (length out.old)) out.old }
+{
+    writing::write(reading::read(bytes)?, out)
 }
 
 // A job read, and written again.
@@ -136,22 +162,7 @@ pub extern "C" fn horncurlew_check(bytes: &[u8]) -> JobAnswer
 pub extern "C" fn horncurlew_rewrite(bytes: &[u8], out: &mut [u8]) -> LengthAnswer
     ensures { (result ≡ length_of (leaves (rewritten_of bytes.now (length out.old)) out.old).answer) × (out.new ≡ (leaves (rewritten_of bytes.now (length out.old)) out.old).memory) }
 {
-    let reading = reading::read(bytes);
-    let outcome = reading.outcome;
-    if let Outcome::Refused(cause) = outcome {
-        return LengthAnswer {
-            number: cause.number(),
-            length: 0,
-        };
-    }
-    let written = writing::write(reading.job, out);
-    match written {
-        Written::Bytes(length) => LengthAnswer { number: 0, length },
-        Written::Refused(cause) => LengthAnswer {
-            number: cause.number(),
-            length: 0,
-        },
-    }
+    length_of(rewrite(bytes, out))
 }
 
 // The packed table of a circuit of a job at an output.
@@ -164,8 +175,7 @@ pub extern "C" fn horncurlew_table(
 ) -> usize
     ensures { record { number = result; memory = out.new } ≡ numbered (leaves (table_of bytes.now circuit output (length out.old)) out.old) }
 {
-    let outcome = tables::table(bytes, circuit, output, out);
-    number_of(outcome)
+    number_of(tables::table(bytes, circuit, output, out))
 }
 
 // The spectrum of a packed table.
@@ -179,8 +189,7 @@ pub extern "C" fn horncurlew_spectrum(
 ) -> usize
     ensures { record { number = result; memory = out.new } ≡ numbered (leaves (spectrum_of inputs table.now (kind_of kind) polarity (length out.old)) out.old) }
 {
-    let outcome = spectra::spectrum(inputs, table, kind_of(kind), polarity, out);
-    number_of(outcome)
+    number_of(spectra::spectrum(inputs, table, kind_of(kind), polarity, out))
 }
 
 // The packed table of a spectrum.
@@ -194,57 +203,49 @@ pub extern "C" fn horncurlew_undo(
 ) -> usize
     ensures { record { number = result; memory = out.new } ≡ numbered (leaves (undone_of inputs numbers.now (kind_of kind) polarity (length out.old)) out.old) }
 {
-    let outcome = spectra::undo(inputs, numbers, kind_of(kind), polarity, out);
-    number_of(outcome)
+    number_of(spectra::undo(inputs, numbers, kind_of(kind), polarity, out))
 }
 
-// A number and two circuits, 0 where there is no pair.
-#[derive(Drop)]
-struct Told {
-    number: usize,
-    first: usize,
-    second: usize,
-}
-
-fn told_of(verdict: Verdict) -> Told
-    ensures { result ≡ record { number = verdict_number verdict; first = first_of (verdict_pair verdict); second = second_of (verdict_pair verdict) } }
+// What stands beside a number alone.
+fn no_choice(number: usize) -> ChoiceAnswer
+    ensures { result ≡ choice_of (unfound number nobody []) }
 {
-    match verdict {
-        Verdict::Done => Told {
-            number: 0,
-            first: 0,
-            second: 0,
-        },
-        Verdict::Alike(first, second) => Told {
-            number: Refusal::Alike.number(),
-            first,
-            second,
-        },
-        Verdict::Refused(cause) => Told {
-            number: cause.number(),
-            first: 0,
-            second: 0,
-        },
+    ChoiceAnswer {
+        number,
+        first: 0,
+        second: 0,
+        inputs: 0,
+        gates: 0,
+        outputs: 0,
+        faults: 0,
+        count: 0,
+        entry_indices: [0u16; MAX_SIGNATURE],
+        entry_outputs: [0u16; MAX_SIGNATURE],
     }
 }
 
-fn choice_of(told: Told, counts: Counts, signature: Signature) -> ChoiceAnswer
-    ensures { result ≡ record { number = told.number; first = told.first; second = told.second; inputs = counts.inputs; gates = counts.gates; outputs = counts.outputs; faults = counts.faults; count = signature.count; entry_indices = signature.indices; entry_outputs = signature.outputs } }
+fn choice_of(chosen: Result<Chosen, Unchosen>) -> ChoiceAnswer
+    ensures { result ≡ choice_of (told chosen []) }
 {
-    let count = signature.count;
-    let entry_indices = signature.indices;
-    let entry_outputs = signature.outputs;
-    ChoiceAnswer {
-        number: told.number,
-        first: told.first,
-        second: told.second,
-        inputs: counts.inputs,
-        gates: counts.gates,
-        outputs: counts.outputs,
-        faults: counts.faults,
-        count,
-        entry_indices,
-        entry_outputs,
+    match chosen {
+        Ok(Chosen { counts, signature }) => ChoiceAnswer {
+            number: 0,
+            first: 0,
+            second: 0,
+            inputs: counts.inputs,
+            gates: counts.gates,
+            outputs: counts.outputs,
+            faults: counts.faults,
+            count: signature.count,
+            entry_indices: signature.indices,
+            entry_outputs: signature.outputs,
+        },
+        Err(Unchosen::Alike(first, second)) => ChoiceAnswer {
+            first,
+            second,
+            ..no_choice(Refusal::Alike.number())
+        },
+        Err(Unchosen::Refused(cause)) => no_choice(cause.number()),
     }
 }
 
@@ -259,42 +260,35 @@ pub extern "C" fn horncurlew_choose(
 ) -> ChoiceAnswer
     ensures { (result ≡ choice_of (chosen_at (purpose_of purpose) bytes.now (kind_of kind) polarity work.old)) × (work.new ≡ (chosen_at (purpose_of purpose) bytes.now (kind_of kind) polarity work.old).memory) }
 {
-    let chosen = choosing::choose(bytes, purpose_of(purpose), kind_of(kind), polarity, work);
-    let verdict = chosen.verdict;
-    choice_of(told_of(verdict), chosen.counts, chosen.signature)
+    choice_of(choosing::choose(
+        bytes,
+        purpose_of(purpose),
+        kind_of(kind),
+        polarity,
+        work,
+    ))
 }
 
-fn location_of(located: Located) -> LocationAnswer
+fn location_of(located: Result<Located, Refusal>) -> LocationAnswer
     ensures { result ≡ location_of (located_told located) }
 {
     match located {
-        Located::Part(part, circuit) => LocationAnswer {
-            number: 0,
+        Ok(Located::Part(part, circuit)) => LocationAnswer {
             found: 1,
             part,
             circuit,
-            agreeing: 0,
+            ..LocationAnswer::default()
         },
-        Located::Several(circuit, agreeing) => LocationAnswer {
-            number: 0,
+        Ok(Located::Several(circuit, agreeing)) => LocationAnswer {
             found: 2,
-            part: 0,
             circuit,
             agreeing,
+            ..LocationAnswer::default()
         },
-        Located::Nowhere => LocationAnswer {
-            number: 0,
-            found: 0,
-            part: 0,
-            circuit: 0,
-            agreeing: 0,
-        },
-        Located::Refused(cause) => LocationAnswer {
+        Ok(Located::Nowhere) => LocationAnswer::default(),
+        Err(cause) => LocationAnswer {
             number: cause.number(),
-            found: 0,
-            part: 0,
-            circuit: 0,
-            agreeing: 0,
+            ..LocationAnswer::default()
         },
     }
 }
@@ -312,7 +306,7 @@ pub extern "C" fn horncurlew_locate(
 ) -> LocationAnswer
     ensures { (result ≡ location_of (leaves (located_of bytes.now (kind_of kind) polarity indices.now outputs.now readings.now (length work.old)) work.old).answer) × (work.new ≡ (leaves (located_of bytes.now (kind_of kind) polarity indices.now outputs.now readings.now (length work.old)) work.old).memory) }
 {
-    let located = locating::locate(
+    location_of(locating::locate(
         bytes,
         kind_of(kind),
         polarity,
@@ -320,19 +314,15 @@ pub extern "C" fn horncurlew_locate(
         outputs,
         readings,
         work,
-    );
-    location_of(located)
+    ))
 }
 
-fn report_of(reported: Reported) -> ReportAnswer
+fn report_of(reported: Option<usize>) -> ReportAnswer
     ensures { result ≡ report_of reported }
 {
     match reported {
-        Reported::Written(length) => ReportAnswer { written: 1, length },
-        Reported::Short => ReportAnswer {
-            written: 0,
-            length: 0,
-        },
+        Some(length) => ReportAnswer { written: 1, length },
+        None => ReportAnswer::default(),
     }
 }
 
@@ -341,6 +331,5 @@ fn report_of(reported: Reported) -> ReportAnswer
 pub extern "C" fn horncurlew_report(bytes: &[u8], work: &mut [u16], out: &mut [u8]) -> ReportAnswer
     ensures { (result ≡ report_of (reported bytes.now work.old out.old).answer) × (work.new ≡ (reported bytes.now work.old out.old).work) × (out.new ≡ (reported bytes.now work.old out.old).text) }
 {
-    let reported = report_text::report(bytes, work, out);
-    report_of(reported)
+    report_of(report_text::report(bytes, work, out))
 }

@@ -3,7 +3,6 @@ pub mod Acceptance
 pub mod Dependence
 pub mod Marking
 pub mod Numbers
-pub mod Record
 pub mod Sizes
 pub mod Tightness
 pub mod Unused

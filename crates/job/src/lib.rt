@@ -57,9 +57,9 @@ pub const MAX_JOB_BYTES: usize = (COUNT_BITS
     / 8;
 
 // The six kinds of gate that read two lines.
-#[derive(Clone, Copy)]
+#[derive(Clone, Copy, Debug, PartialEq, Eq)]
 pub enum BinaryKind {
-    And,
+    And = 0,
     Or,
     Nand,
     Nor,
@@ -68,21 +68,21 @@ pub enum BinaryKind {
 }
 
 // The two kinds that read one line.
-#[derive(Clone, Copy)]
+#[derive(Clone, Copy, Debug, PartialEq, Eq)]
 pub enum UnaryKind {
-    Buf,
-    Not,
+    Buf = 7,
+    Not = 6,
 }
 
 // "A record's gate kind can only be one of the eight": a unary gate has one line.
-#[derive(Clone, Copy)]
+#[derive(Clone, Copy, Debug, PartialEq, Eq)]
 pub enum Gate {
     Unary(UnaryKind, u8),
     Binary(BinaryKind, u8, u8),
 }
 
 // "A fault is either a line stuck at a level or a bridge of two inputs."
-#[derive(Clone, Copy)]
+#[derive(Clone, Copy, Debug, PartialEq, Eq)]
 pub enum Fault {
     // The line and its level.
     Stuck(u8, bool),
@@ -96,18 +96,18 @@ impl Gate {
         ensures { result ≡ gate_kind self }
     {
         match self {
-            Gate::Unary(kind, _) => match kind {
-                UnaryKind::Not => 6,
-                UnaryKind::Buf => 7,
-            },
-            Gate::Binary(kind, _, _) => match kind {
-                BinaryKind::And => 0,
-                BinaryKind::Or => 1,
-                BinaryKind::Nand => 2,
-                BinaryKind::Nor => 3,
-                BinaryKind::Xor => 4,
-                BinaryKind::Xnor => 5,
-            },
+            Gate::Unary(kind, _) => kind as usize,
+            Gate::Binary(kind, _, _) => kind as usize,
+        }
+    }
+
+    // Lines a and b; a unary gate repeats a as b.
+    fn lines(self) -> (u8, u8)
+        ensures { result ≡ (gate_a self, gate_b self) }
+    {
+        match self {
+            Gate::Unary(_, a) => (a, a),
+            Gate::Binary(_, a, b) => (a, b),
         }
     }
 
@@ -115,20 +115,14 @@ impl Gate {
     pub fn first(self) -> usize
         ensures { result ≡ gate_a self }
     {
-        match self {
-            Gate::Unary(_, a) => a as usize,
-            Gate::Binary(_, a, _) => a as usize,
-        }
+        self.lines().0 as usize
     }
 
-    // Line b, which a unary gate repeats from a.
+    // Line b.
     pub fn second(self) -> usize
         ensures { result ≡ gate_b self }
     {
-        match self {
-            Gate::Unary(_, a) => a as usize,
-            Gate::Binary(_, _, b) => b as usize,
-        }
+        self.lines().1 as usize
     }
 }
 
@@ -154,8 +148,18 @@ impl Fault {
         ensures { result ≡ fault_kind self }
     {
         match self {
-            Fault::Stuck(_, level) => { if level { 1 } else { 0 } }
+            Fault::Stuck(_, level) => level as usize,
             Fault::Bridge(_, _, is_and) => { if is_and { 2 } else { 3 } }
+        }
+    }
+
+    // Lines a and b; a stuck fault repeats a as b.
+    fn lines(self) -> (u8, u8)
+        ensures { result ≡ (fault_a self, fault_b self) }
+    {
+        match self {
+            Fault::Stuck(line, _) => (line, line),
+            Fault::Bridge(low, high, _) => (low, high),
         }
     }
 
@@ -163,20 +167,14 @@ impl Fault {
     pub fn first(self) -> usize
         ensures { result ≡ fault_a self }
     {
-        match self {
-            Fault::Stuck(line, _) => line as usize,
-            Fault::Bridge(low, _, _) => low as usize,
-        }
+        self.lines().0 as usize
     }
 
-    // Line b, which a stuck fault repeats from a.
+    // Line b.
     pub fn second(self) -> usize
         ensures { result ≡ fault_b self }
     {
-        match self {
-            Fault::Stuck(line, _) => line as usize,
-            Fault::Bridge(_, high, _) => high as usize,
-        }
+        self.lines().1 as usize
     }
 }
 
@@ -198,40 +196,32 @@ pub fn fault_line_ok(fault: Fault, inputs: usize, lines: usize) -> bool
 {
     match fault {
         Fault::Stuck(line, _) => (line as usize) < lines,
-        Fault::Bridge(low, high, _) => {
-            if (low as usize) < inputs {
-                (high as usize) < inputs
-            } else {
-                false
-            }
-        }
+        Fault::Bridge(low, high, _) => { (low as usize) < inputs && (high as usize) < inputs }
     }
 }
 
 // Refusal 21: a part is 1 to 63.
+#[tactic(auto, unfolding(crate::specs::Layout::max_part))]
 pub fn part_ok(part: usize) -> bool
     ensures { result ≡ part_ok part }
 {
-    if part < 1 {
-        return false;
-    }
-    part <= MAX_PART
+    (1..=MAX_PART).contains(&part)
 }
 
-#[derive(Clone, Copy)]
+#[derive(Clone, Copy, Debug, PartialEq, Eq)]
 pub struct GateEntry {
     pub gate: Gate,
 }
 
 // A fault, and the part that is mended for it.
-#[derive(Clone, Copy)]
+#[derive(Clone, Copy, Debug, PartialEq, Eq)]
 pub struct FaultEntry {
     pub fault: Fault,
     pub part: u8,
 }
 
 // Entries past a count are unused.
-#[derive(Clone, Copy)]
+#[derive(Clone, Copy, Debug, PartialEq, Eq)]
 pub struct Job {
     pub inputs: u8,
     pub gate_count: u8,
@@ -265,23 +255,15 @@ pub fn empty_job() -> Job
 // Room for a mark a line: a line is a byte, a gate's own line a byte and a gate's number.
 const MARKS: usize = 256 + MAX_GATES;
 
-// For each line whether it is in use.
-#[derive(Clone, Copy)]
-struct Marks {
-    of: [bool; MARKS],
-}
-
-// The lines that are outputs.
-fn output_marks(outputs: &[u8]) -> Marks
-    ensures { OutputsMarked outputs.now result.of }
+// For each line whether it is an output.
+fn output_marks(outputs: &[u8]) -> [bool; MARKS]
+    ensures { OutputsMarked outputs.now result }
 {
-    let mut of = [false; MARKS];
-    let mut o = 0;
-    while o < outputs.len() {
-        of[outputs[o] as usize] = true;
-        o += 1;
+    let mut marks = [false; MARKS];
+    for &line in outputs {
+        marks[line as usize] = true;
     }
-    Marks { of }
+    marks
 }
 
 // Refusal 19: every gate's line is an output or read by a later gate. From the last gate down, so that one pass is
@@ -290,27 +272,16 @@ pub fn no_loose(job: Job) -> bool
     ensures { result ≡ no_loose job }
 {
     let n = job.inputs as usize;
-    let outputs = job.outputs;
-    let output_count = bits::least(job.output_count as usize, MAX_OUTPUTS);
-    let marks = output_marks(&outputs[..output_count]);
-    let mut read = marks.of;
-    let mut q = bits::least(job.gate_count as usize, MAX_GATES);
-    while 0 < q {
-        q -= 1;
-        if !read[n + q] {
+    let output_count = (job.output_count as usize).min(MAX_OUTPUTS);
+    let gate_count = (job.gate_count as usize).min(MAX_GATES);
+    let mut used = output_marks(&job.outputs[..output_count]);
+    for q in (0..gate_count).rev() {
+        if !used[n + q] {
             return false;
         }
-        let entry = job.gates[q];
-        let gate = entry.gate;
-        match gate {
-            Gate::Unary(_, a) => {
-                read[a as usize] = true;
-            }
-            Gate::Binary(_, a, b) => {
-                read[a as usize] = true;
-                read[b as usize] = true;
-            }
-        }
+        let (a, b) = job.gates[q].gate.lines();
+        used[a as usize] = true;
+        used[b as usize] = true;
     }
     true
 }

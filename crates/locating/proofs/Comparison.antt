@@ -1,6 +1,7 @@
 -- Comparing numbers read at entries with readings, as the code does it: Comparing (spectra/proofs/Recovery.antt) by the indices' length.
 --
 --   compared_none, compared_stop, compared_more, compared_all   its start, its ways out and its step
+--   read_inside                                                 a number of the work stands where the code reads it
 use Prim.Native.Nat.{ℕ, ◌+◌, ◌*◌, ◌≤◌, ◌<◌}
 use mathlib.Core.Path.{◌≡◌, sym, subst, ◌∙◌}
 use mathlib.Core.Bool.{true, false}
@@ -12,6 +13,11 @@ use Rattle.spectra.proofs.Recovery.{Comparing, comparing_none, comparing_stop, c
 use Rattle.locating.specs.Scanning.{numbers_at, Within}
 use Rattle.locating.proofs.Indices.{numbers_at_lem, numbers_length}
 
+pub read_inside : {start size : ℕ} {indices outputs : List ℕ} (readings : List ℕ) {room i : ℕ}
+    → Within start size indices outputs room × (length indices ≡ length readings) → i < length readings
+    → start + (get_or outputs i 0 * size + get_or indices i 0) < room
+read_inside readings {i = i} r h = r.0.inside i (subst (λ (x : ℕ). i < x) (sym r.1) h)
+
 module _ (work : List ℕ) {size start : ℕ} {indices outputs : List ℕ} (r : Within start size indices outputs (length work)) where
   abbrev numbers : List ℕ
   numbers = numbers_at work start size (entries_at indices outputs)
@@ -19,22 +25,26 @@ module _ (work : List ℕ) {size start : ℕ} {indices outputs : List ℕ} (r : 
   long : length numbers ≡ length indices
   long = numbers_length work start size indices outputs r.paired
 
-  pub compared_none : {readings : List ℕ} → length indices ≡ length readings → Comparing numbers readings 0
-  compared_none indexed = comparing_none (long ∙ indexed)
+  module _ (readings : List ℕ) (indexed : length indices ≡ length readings) where
+    pub compared_none : Comparing numbers readings 0
+    compared_none = comparing_none (long ∙ indexed)
 
-  module _ {readings : List ℕ} {i : ℕ} (w : Comparing numbers readings i) where
-    -- number i, as the code reads it
-    abbrev number : ℕ
-    number = get_or work (start + (get_or outputs i 0 * size + get_or indices i 0)) 0
+    inside : {i : ℕ} → i < length readings → i < length numbers
+    inside {i} h = subst (λ (x : ℕ). i < x) (sym (long ∙ indexed)) h
 
-    inside : i < length indices → i < length numbers
-    inside h = subst (λ (x : ℕ). i < x) (sym long) h
+    module _ {i : ℕ} (h : i < length readings) (w : Comparing numbers readings i) where
+      -- number i, as the code reads it
+      abbrev number : ℕ
+      number = get_or work (start + (get_or outputs i 0 * size + get_or indices i 0)) 0
 
-    pub compared_stop : i < length indices → (number ≡ get_or readings i 0 → ⊥) → false ≡ same_numbers numbers readings
-    compared_stop h d = comparing_stop w (inside h) (λ e. d (sym (numbers_at_lem work start size indices outputs r.paired i h) ∙ e))
+      read : number ≡ get_or numbers i 0
+      read = sym (numbers_at_lem work start size indices outputs r.paired i (subst (λ (x : ℕ). i < x) (sym indexed) h))
 
-    pub compared_more : i < length indices → number ≡ get_or readings i 0 → Comparing numbers readings (i + 1)
-    compared_more h e = comparing_more w (inside h) (numbers_at_lem work start size indices outputs r.paired i h ∙ e)
+      pub compared_stop : (number ≡ get_or readings i 0 → ⊥) → false ≡ same_numbers numbers readings
+      compared_stop d = comparing_stop w (inside h) (λ e. d (read ∙ e))
 
-    pub compared_all : length indices ≤ i → true ≡ same_numbers numbers readings
-    compared_all h = comparing_all w (subst (λ (x : ℕ). x ≤ i) (sym long) h)
+      pub compared_more : number ≡ get_or readings i 0 → Comparing numbers readings (i + 1)
+      compared_more e = comparing_more w (inside h) (sym read ∙ e)
+
+    pub compared_all : {i : ℕ} → Comparing numbers readings i → length readings ≤ i → true ≡ same_numbers numbers readings
+    compared_all {i} w h = comparing_all w (subst (λ (x : ℕ). x ≤ i) (sym (long ∙ indexed)) h)

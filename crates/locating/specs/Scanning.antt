@@ -1,14 +1,16 @@
 -- Kept by the code: what locating does once the work is filled.
 --
---   seen_of         the lowest of agreeing circuits, their number, and whether they have one part
---   joined_to       the same with one circuit more behind them
+--   seen_of         the lowest of agreeing circuits, their number, and their part, if they have one
+--   shared_with     the part that circuits have, if one more has it too
+--   joined_to       what is kept of agreeing circuits with one more behind them
+--   location_at     the result for a part or none, the lowest circuit and the number
 --   location_by     the result that these give
 --   numbers_at      the numbers of the work at a list of entries, from a place on
 --   work_numbers    a circuit's numbers at these entries, its row of the work
 --   work_agrees     they agree with readings
 --   Within          a number of the work for each entry, from a place on
 --   RowsIn          the rows of the counted circuits lie within the work, and the entries within a row
-use Rattle.std.specs.Prelude.{ℕ, ◌+◌, ◌*◌, ◌^◌, ◌≤◌, ◌<◌, ◌≡◌, Bool, true, cond, ◌&&◌, List, [], ◌∷◌, map, eqb, length, get_or}
+use Rattle.std.specs.Prelude.{ℕ, ◌+◌, ◌*◌, ◌^◌, ◌≤◌, ◌<◌, ◌≡◌, Bool, true, cond, List, [], ◌∷◌, map, eqb, length, get_or, Option, Some, None}
 use Rattle.bits.specs.Bounds.{all_below}
 use Rattle.job.specs.Layout.{max_inputs, max_faults}
 use Rattle.tables.specs.declared.Counts.{Counts}
@@ -19,19 +21,25 @@ use Rattle.locating.specs.Locating.{Location, each_of}
 use Rattle.locating.specs.Locating.Location.{parted, several, nowhere}
 use Rattle.locating.specs.declared.Agreeing.{Agreeing}
 
-abbrev pub seen_of : (ℕ → ℕ) → List ℕ → Agreeing
-seen_of part [] = record { lowest = 0; count = 0; one_part = true }
-seen_of part (c ∷ more) = record { lowest = c; count = length (c ∷ more); one_part = each_of part (part c) more }
+abbrev pub seen_of : (ℕ → ℕ) → List ℕ → Option Agreeing
+seen_of part [] = None
+seen_of part (c ∷ more) = Some (record { lowest = c; count = length (c ∷ more); part = cond (each_of part (part c) more) (Some (part c)) None })
 
-abbrev pub joined_to : (ℕ → ℕ) → Agreeing → ℕ → Agreeing
-joined_to part seen c =
-    cond (eqb seen.count 0) (record { lowest = c; count = 1; one_part = true })
-    (record { lowest = seen.lowest; count = seen.count + 1; one_part = seen.one_part && eqb (part c) (part seen.lowest) })
+abbrev pub shared_with : Option ℕ → ℕ → Option ℕ
+shared_with None part = None
+shared_with (Some shared) part = cond (eqb part shared) (Some shared) None
 
-abbrev pub location_by : (ℕ → ℕ) → Agreeing → Location
-location_by part seen =
-    cond (eqb seen.count 0) nowhere
-    (cond seen.one_part (parted (part seen.lowest) seen.lowest) (several seen.lowest seen.count))
+abbrev pub joined_to : Option Agreeing → ℕ → ℕ → Agreeing
+joined_to None c part = record { lowest = c; count = 1; part = Some part }
+joined_to (Some seen) c part = record { lowest = seen.lowest; count = seen.count + 1; part = shared_with seen.part part }
+
+abbrev pub location_at : Option ℕ → ℕ → ℕ → Location
+location_at (Some part) lowest count = parted part lowest
+location_at None lowest count = several lowest count
+
+abbrev pub location_by : Option Agreeing → Location
+location_by None = nowhere
+location_by (Some seen) = location_at seen.part seen.lowest seen.count
 
 abbrev pub numbers_at : List ℕ → ℕ → ℕ → List Entry → List ℕ
 numbers_at work start size list = map (λ e. get_or work (start + code_of size e) 0) list

@@ -5,7 +5,7 @@
 // Then each circuit's coefficients at the entries are compared with the readings.
 #![tactic(auto)]
 
-ghost use Rattle.std.specs.Prelude.{◌+◌, ◌≤◌, ◌<◌, ◌≡◌, length};
+ghost use Rattle.std.specs.Prelude.{◌+◌, ◌<◌, ◌≡◌, length, IfSome};
 ghost use Rattle.bits.specs.Answer.{outcome, leaves};
 ghost use Rattle.bits.specs.Answer.Answer.{gives};
 ghost use Rattle.bits.specs.Passing.{passing};
@@ -29,12 +29,12 @@ pub enum Located {
     Refused(Refusal),
 }
 
-// Agreeing circuits: the lowest, 0 where there is none; how many; and whether all of them have its part.
-#[derive(Clone, Copy)]
+// Agreeing circuits: the lowest, how many they are, and the part of all of them, if they have one.
+#[derive(Clone, Copy, Debug, PartialEq, Eq)]
 struct Agreeing {
     lowest: usize,
     count: usize,
-    one_part: bool,
+    part: Option<u8>,
 }
 
 // Whether the numbers of the work at the entries, from the place `start` on, are the readings.
@@ -49,54 +49,45 @@ fn agrees(
     requires { Within start size indices.now outputs.now (length work.now) × (length indices.now ≡ length readings.now) }
     ensures { result ≡ same_numbers (numbers_at work.now start size (entries_at indices.now outputs.now)) readings.now }
 {
-    let mut i = 0;
-    while i < indices.len() {
+    for (i, reading) in readings.iter().enumerate() {
         let place = outputs[i] as usize * size + indices[i] as usize;
-        if work[start + place] != readings[i] {
+        if work[start + place] != *reading {
             return false;
         }
-        i += 1;
     }
     true
 }
 
-// The agreeing circuits so far, with circuit c behind them.
-fn joined(seen: Agreeing, c: usize, parts: &[u8]) -> Agreeing
-    requires { (c < length parts.now) × (seen.lowest < length parts.now) × (seen.count ≤ c) }
-    ensures { result ≡ joined_to (part_in parts.now) seen c }
+// The agreeing circuits so far, with circuit c of a part behind them.
+fn joined(seen: Option<Agreeing>, c: usize, part: u8) -> Agreeing
+    requires { IfSome seen (λ agreeing. agreeing.count < usize.MAX) }
+    ensures { result ≡ joined_to seen c part }
 {
-    if seen.count == 0 {
-        return Agreeing {
+    match seen {
+        None => Agreeing {
             lowest: c,
             count: 1,
-            one_part: true,
-        };
-    }
-    let lowest = seen.lowest;
-    Agreeing {
-        lowest,
-        count: seen.count + 1,
-        one_part: if parts[c] == parts[lowest] {
-            seen.one_part
-        } else {
-            false
+            part: Some(part),
+        },
+        Some(agreeing) => Agreeing {
+            lowest: agreeing.lowest,
+            count: agreeing.count + 1,
+            part: agreeing.part.filter(|shared| *shared == part),
         },
     }
 }
 
 // What the agreeing circuits tell.
-fn told(seen: Agreeing, parts: &[u8]) -> Located
-    requires { seen.lowest < length parts.now }
-    ensures { located_told result ≡ gives (location_by (part_in parts.now) seen) }
+fn told(seen: Option<Agreeing>) -> Located
+    ensures { located_told result ≡ gives (location_by seen) }
 {
-    if seen.count == 0 {
-        return Located::Nowhere;
+    match seen {
+        None => Located::Nowhere,
+        Some(agreeing) => match agreeing.part {
+            Some(part) => Located::Part(part as usize, agreeing.lowest),
+            None => Located::Several(agreeing.lowest, agreeing.count),
+        },
     }
-    let lowest = seen.lowest;
-    if seen.one_part {
-        return Located::Part(parts[lowest] as usize, lowest);
-    }
-    Located::Several(lowest, seen.count)
 }
 
 // Which of the counted circuits, whose rows of the work have N numbers an output, agree with the readings.
@@ -106,21 +97,13 @@ fn scan(work: &[u16], counts: Counts, indices: &[u16], outputs: &[u16], readings
 {
     let size = bits::table_size(counts.inputs);
     let width = counts.outputs * size;
-    let circuits = counts.faults + 1;
-    let parts = counts.parts;
-    let mut seen = Agreeing {
-        lowest: 0,
-        count: 0,
-        one_part: true,
-    };
-    let mut c = 0;
-    while c < circuits {
+    let mut seen = None;
+    for c in 0..counts.faults + 1 {
         if agrees(work, indices, outputs, readings, size, c * width) {
-            seen = joined(seen, c, &parts);
+            seen = Some(joined(seen, c, counts.parts[c]));
         }
-        c += 1;
     }
-    told(seen, &parts)
+    told(seen)
 }
 
 // The checks of locating, 17 by a test of the caller's, and then the spectra of the counted circuits, from their tables, one after the other:
@@ -161,10 +144,7 @@ pub fn prepare(
 fn lengths_ok(indices: &[u16], outputs: &[u16], readings: &[u16]) -> bool
     ensures { result ≡ lengths_ok indices.now outputs.now readings.now }
 {
-    if indices.len() != readings.len() {
-        return false;
-    }
-    outputs.len() == readings.len()
+    indices.len() == readings.len() && outputs.len() == readings.len()
 }
 
 // Which of the counted circuits agree with readings at a list of entries, from their tables, one after the other: 2; 12; 13; 16; 20; 17; 10.

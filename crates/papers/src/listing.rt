@@ -53,16 +53,31 @@ fn put_byte(rt: &impl Print, byte: u8) {
     let _ = print!(rt; "{byte:02x}");
 }
 
-// The line of the first `count` numbers, as far as there are so many.
-pub fn numbers(rt: &impl Print, word: &[u8], numbers: &[u16], count: usize) {
+// A line of a word and the first `count` items, as far as there are so many.
+fn items<T: Copy, F: Fn(T)>(
+    rt: &impl Print,
+    word: &[u8],
+    items: &[T],
+    count: usize,
+    put_item: F,
+)
+    requires { F.IsAlwaysCallable put_item }
+{
     put(rt, word);
-    let end = bits::least(count, numbers.len());
-    let mut i = 0;
-    while i < end {
-        put_entry(rt, numbers[i]);
-        i += 1;
+    for &item in items.iter().take(count) {
+        put_item(item);
     }
     put(rt, b"\n");
+}
+
+// The line of the first `count` numbers.
+pub fn numbers(rt: &impl Print, word: &[u8], numbers: &[u16], count: usize) {
+    items(rt, word, numbers, count, |number| put_entry(rt, number));
+}
+
+// The same of bytes.
+pub fn bytes(rt: &impl Print, word: &[u8], bytes: &[u8], count: usize) {
+    items(rt, word, bytes, count, |byte| put_byte(rt, byte));
 }
 
 // An entry behind a space: index, colon, output.
@@ -75,23 +90,8 @@ fn put_pair(rt: &impl Print, index: usize, output: usize) {
 // The line of the first `count` entries, as far as there are so many.
 pub fn entries(rt: &impl Print, word: &[u8], indices: &[u16], outputs: &[u16], count: usize) {
     put(rt, word);
-    let end = bits::least(count, bits::least(indices.len(), outputs.len()));
-    let mut i = 0;
-    while i < end {
-        put_pair(rt, indices[i] as usize, outputs[i] as usize);
-        i += 1;
-    }
-    put(rt, b"\n");
-}
-
-// The same of bytes.
-pub fn bytes(rt: &impl Print, word: &[u8], bytes: &[u8], count: usize) {
-    put(rt, word);
-    let end = bits::least(count, bytes.len());
-    let mut i = 0;
-    while i < end {
-        put_byte(rt, bytes[i]);
-        i += 1;
+    for (&index, &output) in indices.iter().zip(outputs).take(count) {
+        put_pair(rt, index as usize, output as usize);
     }
     put(rt, b"\n");
 }
@@ -104,12 +104,9 @@ pub fn circuit(rt: &impl Print, circuit: usize, table: &[u8]) {
 
 // The entries at which two rows of an output have different numbers.
 pub fn unlike(rt: &impl Print, good: &[u16], faulty: &[u16], output: usize) {
-    let end = bits::least(good.len(), faulty.len());
-    let mut i = 0;
-    while i < end {
-        if good[i] != faulty[i] {
-            put_pair(rt, i, output);
+    for (index, (a, b)) in good.iter().zip(faulty).enumerate() {
+        if a != b {
+            put_pair(rt, index, output);
         }
-        i += 1;
     }
 }

@@ -13,7 +13,6 @@
 //   record HH HH ..                 how many bytes the record of a job is written in; records.rt has the numbers of the line
 #![tactic(auto)]
 
-ghost use Rattle.std.specs.Prelude.{◌≤◌, length};
 ghost use Rattle.std.specs.Counts.{IsPrefixLen as Within};
 
 use job::{MAX_FAULTS, MAX_INPUTS, MAX_JOB_BYTES, MAX_OUTPUTS};
@@ -69,31 +68,20 @@ fn read_once(mut stdin: Stdin, buf: &mut [u8]) -> usize
 
 // Each line of the text in turn, with the text from the last job on.
 fn answer_lines(rt: &impl Print, text: &[u8]) {
-    let mut job = 0;
-    let mut at = 0;
-    while at < text.len() {
-        let end = words::place_of(text, at, b'\n');
-        job = last_job(text, at, job);
-        answer_line(rt, &text[at..end], &text[job..]);
-        at = end + 1;
-    }
-}
-
-// Where the last job's line begins, once the line at a place is read.
-fn last_job(text: &[u8], at: usize, job: usize) -> usize
-    requires { (at ≤ length text.now) × (job ≤ length text.now) }
-    ensures { result ≤ length text.now }
-{
-    if words::letter(text, at) == b'j' {
-        at
-    } else {
-        job
+    let mut from_job = text;
+    let mut rest = text;
+    while !rest.is_empty() {
+        if words::letter(rest) == b'j' {
+            from_job = rest;
+        }
+        answer_line(rt, words::before(rest, b'\n'), from_job);
+        rest = words::behind(rest, b'\n');
     }
 }
 
 // Writes the answer to a line. Its first letter tells its first word from the others.
 fn answer_line(rt: &impl Print, line: &[u8], from_job: &[u8]) {
-    match words::letter(line, 0) {
+    match words::letter(line) {
         b'#' => listing::name(rt, line),
         b's' => table::list_spectra(rt, line),
         b'u' => table::list_undone(rt, line),
@@ -104,8 +92,7 @@ fn answer_line(rt: &impl Print, line: &[u8], from_job: &[u8]) {
 
 // The job is the first line of the text from it on.
 fn answer_job(rt: &impl Print, line: &[u8], from_job: &[u8]) {
-    let end = words::place_of(from_job, 0, b'\n');
     let mut job = [0u8; MAX_INPUT_BYTES];
-    let n = words::bytes(&from_job[..end], 1, &mut job);
+    let n = words::bytes(words::before(from_job, b'\n'), 1, &mut job);
     jobs::answer(rt, line, &job[..n]);
 }

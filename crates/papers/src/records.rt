@@ -40,9 +40,8 @@ fn fault_entry(kind: u8, a: u8, b: u8, part: u8) -> FaultEntry {
 
 fn write(rt: &impl Print, job: Job, room: u8) {
     let mut out = [0u8; ROOM];
-    let end = bits::least(room as usize, ROOM);
-    let written = writing::write(job, &mut out[..end]);
-    match written {
+    let end = ROOM.min(room as usize);
+    match writing::write(job, &mut out[..end]) {
         Written::Bytes(count) => listing::number(rt, b"bytes", count),
         Written::Refused(cause) => listing::refusal(rt, cause),
     }

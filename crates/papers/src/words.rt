@@ -1,5 +1,5 @@
-// Reading: the words of a line, as numbers and as bytes. A place behind a line's end counts as its end.
-ghost use Rattle.std.specs.Prelude.{◌+◌, ◌<◌, ◌≤◌, length};
+// Reading: the words of a line, as numbers and as bytes. A line is what is left of it to read.
+ghost use Rattle.std.specs.Prelude.{◌<◌, ◌≤◌, length};
 ghost use Rattle.std.specs.Counts.{IsPrefixLen as Within};
 
 use spectra::Kind;
@@ -7,75 +7,74 @@ use spectra::Kind;
 // The largest number of 16 bits.
 const MAX_NUMBER: usize = 65535;
 
-// The first place of a character, from `from` on, or the text's end where there is none.
-pub fn place_of(text: &[u8], from: usize, character: u8) -> usize
-    ensures within { Within result text.now }
-    ensures lower_bound { from ≤ length text.now → from ≤ result }
+// The first place of a character, or the text's end where there is none.
+fn place_of(text: &[u8], character: u8) -> usize
+    ensures { Within result text.now }
 {
-    let mut i = from;
-    while i < text.len() {
-        if text[i] == character {
-            return i;
-        }
-        i += 1;
+    text.iter()
+        .position(|&c| c == character)
+        .unwrap_or(text.len())
+}
+
+// What stands before the first such character: the whole text where there is none.
+pub fn before(text: &[u8], character: u8) -> &[u8] {
+    let end = place_of(text, character);
+    &text[..end]
+}
+
+// What stands behind the first such character: nothing where there is none.
+pub fn behind(text: &[u8], character: u8) -> &[u8]
+    ensures { 0 < length text.now → length result.now < length text.now }
+{
+    let end = place_of(text, character);
+    if end == text.len() {
+        return &text[end..];
     }
-    text.len()
+    &text[end + 1..]
 }
 
-// The character at a place; 0 behind the end.
-pub fn letter(text: &[u8], at: usize) -> u8 {
-    if at < text.len() { text[at] } else { 0 }
+// The first character; 0 where there is none.
+pub fn letter(text: &[u8]) -> u8 {
+    text.first().copied().unwrap_or(0)
 }
 
-// The place behind the first such character from a place on; the line's end where there is none.
-fn behind(line: &[u8], from: usize, character: u8) -> usize
-    ensures { result ≤ length line.now }
-{
-    let end = place_of(line, from, character);
-    if end < line.len() { end + 1 } else { end }
-}
-
-// Where field `number` begins in a line that a separator parts, the first being field 0; the line's end where there are fewer.
-fn field(line: &[u8], number: usize, separator: u8) -> usize
-    ensures { result ≤ length line.now }
-{
-    let mut at = 0;
-    let mut i = 0;
-    while i < number {
-        at = behind(line, at, separator);
-        i += 1;
+// A line that a separator parts, from field `number` on, the first being field 0.
+fn from_field(line: &[u8], number: usize, separator: u8) -> &[u8] {
+    let mut rest = line;
+    for _ in 0..number {
+        rest = behind(rest, separator);
     }
-    at
+    rest
 }
 
-// Where word `number` begins.
-fn word(line: &[u8], number: usize) -> usize {
-    field(line, number, b' ')
+// A line from word `number` on.
+fn from_word(line: &[u8], number: usize) -> &[u8] {
+    from_field(line, number, b' ')
 }
 
 // The kind of spectrum that word 1 names.
 pub fn kind(line: &[u8]) -> Kind {
-    if letter(line, word(line, 1)) == b'm' {
-        return Kind::Mrm;
+    match letter(from_word(line, 1)) {
+        b'm' => Kind::Mrm,
+        _ => Kind::Rm,
     }
-    Kind::Rm
 }
 
 // Word `number` as a decimal number; at most 65535.
 pub fn decimal(line: &[u8], number: usize) -> usize {
-    decimal_at(line, word(line, number))
+    decimal_of(from_word(line, number))
 }
 
-// The decimal number at a place, up to a colon or the word's end.
-fn decimal_at(line: &[u8], from: usize) -> usize
+// The decimal number that a text begins with, up to a colon or the word's end.
+fn decimal_of(text: &[u8]) -> usize
     ensures { result ≤ 65535 }
 {
-    let end = bits::least(place_of(line, from, b' '), place_of(line, from, b':'));
     let mut value = 0;
-    let mut i = from;
-    while i < end {
-        value = next_value(value, line[i]);
-        i += 1;
+    for &character in text {
+        if character == b' ' || character == b':' {
+            break;
+        }
+        value = next_value(value, character);
     }
     value
 }
@@ -85,53 +84,52 @@ fn next_value(value: usize, character: u8) -> usize
     requires { value ≤ 65535 }
     ensures { result ≤ 65535 }
 {
-    let longer = value * 10 + digit(character) as usize;
-    if longer < MAX_NUMBER {
-        longer
-    } else {
-        MAX_NUMBER
-    }
+    (value * 10 + digit(character) as usize).min(MAX_NUMBER)
 }
 
-// Puts the numbers of the fields from field `first` on at the start of `out`, as far as they fit, and answers how many there are.
+// Puts the values of the fields from field `first` on at the start of `out`, as far as they fit, and answers how many there are.
+fn put_fields<T: Drop, F: Fn(&[u8]) -> T>(
+    line: &[u8],
+    first: usize,
+    separator: u8,
+    out: &mut [T],
+    value: F,
+) -> usize
+    requires { F.IsAlwaysCallable value }
+    ensures { result ≤ length out.new }
+{
+    let mut rest = from_field(line, first, separator);
+    for (count, place) in out.iter_mut().enumerate() {
+        if rest.is_empty() {
+            return count;
+        }
+        *place = value(rest);
+        rest = behind(rest, separator);
+    }
+    out.len()
+}
+
+// The decimal numbers of the fields from field `first` on.
 pub fn decimals(line: &[u8], first: usize, separator: u8, out: &mut [u16]) -> usize
     ensures { Within result out.new }
 {
-    let mut at = field(line, first, separator);
-    let mut count = 0;
-    while count < out.len() {
-        if line.len() <= at {
-            return count;
-        }
-        out[count] = decimal_at(line, at) as u16;
-        at = behind(line, at, separator);
-        count += 1;
-    }
-    count
+    put_fields(line, first, separator, out, |text| decimal_of(text) as u16)
 }
 
-// The same for the words from word `first` on, of two hexadecimal digits each, as bytes.
+// The bytes of the words from word `first` on, of two hexadecimal digits each.
 pub fn bytes(line: &[u8], first: usize, out: &mut [u8]) -> usize
     ensures { Within result out.new }
 {
-    let mut at = word(line, first);
-    let mut count = 0;
-    while count < out.len() {
-        if line.len() <= at {
-            return count;
-        }
-        out[count] = byte_at(line, at);
-        at = behind(line, at, b' ');
-        count += 1;
-    }
-    count
+    put_fields(line, first, b' ', out, byte_of)
 }
 
-// The byte of the two digits at a place.
-fn byte_at(line: &[u8], at: usize) -> u8
-    requires { at < length line.now }
-{
-    digit(letter(line, at)) * 16 + digit(letter(line, at + 1))
+// The byte of the two digits that a text begins with.
+fn byte_of(text: &[u8]) -> u8 {
+    match text {
+        [] => 0,
+        [high] => digit(*high) * 16,
+        [high, low, ..] => digit(*high) * 16 + digit(*low),
+    }
 }
 
 // The value of a hexadecimal digit; any other character counts as 0.

@@ -4,35 +4,28 @@
 --   byte_halves      those of a byte are those of its upper half and of its lower half, added
 --   byte_worked      the spectrum of a byte, sum by sum
 --   half_fits        a byte of which one half is 0 fits a u8
---   Summing          the rows of the first i of these are written
---   summing_start, summing_length, summing_room, summing_next, summing_end   the loop that writes them
---   row_written      a row that a loop has written, number by number
 --   leaf_within      the byte of a leaf lies within the table
 --   leaf_places      the rows of its halves lie within the sums
 --   leaf_fits        their sums fit
 --   leaf_made        the two rows, added, are the spectrum of the leaf
-use Prim.Native.Nat.{ℕ, ◌+◌, ◌-◌, ◌*◌, ◌/◌, ◌%◌, ◌^◌, ◌≤◌, ◌<◌, zero-le}
-use native.Mathlib.Nat.{add-zero, le_of_eq, le_antisymm, mod-eq_of_lt, mul-one, mul-le-mul_right}
-use native.Mathlib.Numerals.{add-one}
+use Prim.Native.Nat.{ℕ, ◌+◌, ◌-◌, ◌*◌, ◌/◌, ◌%◌, ◌^◌, ◌≤◌, ◌<◌}
+use native.Mathlib.Nat.{zero-add, mod-eq_of_lt, mul-one, mul-le-mul_right}
 use native.Mathlib.Omega.{arith}
 use mathlib.Core.Path.{◌≡◌, refl, sym, ap, ap₂, subst, ◌∙◌}
 use mathlib.Core.Bool.{Bool, true, false, cond}
-use mathlib.Core.List.{List, [], ◌∷◌, ◌++◌, append-nil}
+use mathlib.Core.List.{List, [], ◌∷◌}
 use lib.Bits.{bit_xor, xor_zero_l}
-use lib.Dec.{lit<, lit≤}
-use lib.ListN.{length, get_or, drop, length-append, length-drop, drop_of_length-le}
-use lib.Seq.{take_at, drop-append-add, drop-drop}
-use mir.Syntax.{w8}
+use lib.Dec.{lit≤}
+use lib.ListN.{length, get_or}
+use mir.Syntax.{w8, w16}
 use mir.Val.{Fits}
 use Rattle.bits.specs.Packed.{entry, tabulate}
 use Rattle.bits.proofs.Below.{equal_below}
 use Rattle.bits.proofs.Digits.{digit_lt}
-use Rattle.bits.proofs.Packed.{tabulate_at, tabulate_ext, tabulate_list}
-use Rattle.bits.specs.Slices.{splice}
-use Rattle.bits.proofs.Splice.{Written, written_all, splice_whole}
-use Rattle.bits.specs.Blocks.{block}
-use Rattle.bits.proofs.Blocks.{length_block, block_at}
-use Rattle.spectra.specs.Recursion.{byte_entry, sums_of, byte_sums, half_byte, half_rows, half_sums, eight_from, sum_at, eight_sums, SumsFit, Asks, LeafAsks, entries_from}
+use Rattle.bits.proofs.Packed.{tabulate_at, tabulate_ext}
+use Rattle.bits.proofs.Splice.{Written, filled_all}
+use Rattle.std.proofs.lemmas.List.FromFn.{length-map-range_with_len, get_or-map-range_with_len}
+use Rattle.spectra.specs.Recursion.{byte_entry, sums_of, byte_sums, half_byte, half_sums, sum_at, Asks, LeafAsks, entries_from}
 use Rattle.spectra.specs.Operations.{at}
 use Rattle.spectra.specs.Spectrum.{inside, sum_to, subset_sum, coefficient, spectrum}
 use Rattle.spectra.specs.declared.Kind.TheVariants.{Mrm}
@@ -129,71 +122,14 @@ half_fits i h =
     let l : half_byte i ≤ 15 * (16 - 15 * (i / 16)) = mul-le-mul_right (16 - 15 * (i / 16)) m in
     record { fits = omega arith }
 
--- eight numbers of a list, one by one
-eight_read : (s : List ℕ) (at : ℕ) → eight_from s at ≡ tabulate 8 (λ j. get_or s (at + j) 0)
-unfolding tabulate
-eight_read s at =
-    ap (λ (x : ℕ). get_or s x 0 ∷ get_or s (at + 1) 0 ∷ get_or s (at + 2) 0 ∷ get_or s (at + 3) 0 ∷ get_or s (at + 4) 0 ∷ get_or s (at + 5) 0
-    ∷ get_or s (at + 6) 0 ∷ get_or s (at + 7) 0 ∷ []) (sym (add-zero at))
-
 module _ (k : ℕ) where
-  length_rows : (i : ℕ) → length (half_rows k i) ≡ i * 8
-  length_rows i = length_block 8 (λ r. byte_sums k (half_byte r)) (λ r. refl) i
+  length_sums : length (half_sums k) ≡ 32
+  unfolding half_sums
+  length_sums = length-map-range_with_len (λ i. byte_sums k (half_byte i)) 0 32
 
-  half_row : (i : ℕ) → i < 32 → eight_from (half_sums k) (i * 8) ≡ byte_sums k (half_byte i)
-  unfolding block tabulate
-  half_row i h =
-      eight_read (half_sums k) (i * 8)
-      ∙ tabulate_ext 8 (λ j. get_or (half_sums k) (i * 8 + j) 0) (at (byte_sums k (half_byte i)))
-      (λ j l. block_at 8 (λ r. byte_sums k (half_byte r)) (λ r. refl) 32 i j h l)
-
-pub record Summing (k : ℕ) (start sums : List ℕ) (i : ℕ) : Type 0 where
-  pub size : length start ≡ 256
-  pub within : i ≤ 32
-  pub done : sums ≡ half_rows k i ++ drop (i * 8) start
-
-pub summing_start : (k : ℕ) {start : List ℕ} → length start ≡ 256 → Summing k start start 0
-unfolding block
-summing_start k e = record { size = e; within = zero-le; done = refl }
-
-module _ {k : ℕ} {start sums : List ℕ} {i : ℕ} (w : Summing k start sums i) where
-  pub summing_length : length sums ≡ length start
-  summing_length = ap length w.done ∙ simp (length-append, length_rows, length-drop) (omega (arith, w.size, w.within))
-
-  pub summing_room : i < 32 → i * 8 + 8 ≤ length sums
-  summing_room h = let e = summing_length in omega (arith, w.size)
-
-  pub summing_next : {byte : ℕ} {x after : List ℕ} → i < 32 → byte ≡ half_byte i → x ≡ byte_sums k byte → after ≡ splice sums (i * 8) x
-      → Summing k start after (i + 1)
-  unfolding block
-  summing_next {byte} {x} h b e p =
-      let row : x ≡ byte_sums k (half_byte i) = e ∙ ap (byte_sums k) b in
-      let lx : length x ≡ 8 = ap length row in
-      let ld : length (half_rows k i) ≡ i * 8 = length_rows k i in
-      let next : i * 8 + 8 ≡ (i + 1) * 8 = omega arith in
-      record {
-        size = w.size;
-        within = omega arith;
-        done =
-            p
-            ∙ ap (λ (l : List ℕ). splice l (i * 8) x) w.done
-            ∙ ap₂ (λ (a b : List ℕ). a ++ x ++ b) (take_at (half_rows k i) (drop (i * 8) start) (i * 8) ld)
-            (ap₂ (λ (a b : ℕ). drop (a + b) (half_rows k i ++ drop (i * 8) start)) (sym ld) lx
-            ∙ drop-append-add (half_rows k i) (drop (i * 8) start) 8 ∙ drop-drop 8 (i * 8) start)
-            ∙ ap₂ (λ (l : List ℕ) (n : ℕ). half_rows k i ++ l ++ drop n start) row next
-            ∙ ap (λ (n : ℕ). half_rows k n ++ drop ((i + 1) * 8) start) (sym (add-one i));
-      }
-
-  pub summing_end : 32 ≤ i → sums ≡ half_sums k
-  summing_end h =
-      w.done ∙ ap (λ (n : ℕ). half_rows k n ++ drop (n * 8) start) (le_antisymm w.within h)
-      ∙ ap (λ (l : List ℕ). half_sums k ++ l) (drop_of_length-le start {i = 256} (le_of_eq w.size)) ∙ append-nil (half_sums k)
-
--- ---- rows of eight numbers
-
-pub row_written : {start : List ℕ} {to : ℕ} (x : List ℕ) {out : List ℕ} {j : ℕ} → Written start to 8 (at x) out j → length x ≡ 8 → 8 ≤ j → out ≡ splice start to x
-row_written {start} {to} x w e h =
-    written_all w h ∙ ap (λ (n : ℕ). splice start to (tabulate n (at x))) (sym e) ∙ ap (splice start to) (tabulate_list x)
+  half_row : (i : ℕ) (d : List ℕ) → i < 32 → get_or (half_sums k) i d ≡ byte_sums k (half_byte i)
+  unfolding half_sums
+  half_row i d h = get_or-map-range_with_len (λ i. byte_sums k (half_byte i)) 0 32 i i d h (zero-add i)
 
 -- ---- the leaf
 
@@ -221,23 +157,22 @@ byte_there s at k hk z =
     ap₂ (λ (x y : ℕ). get_or s x 0 / 2 ^ (7 - y) % 2) byte place))
 
 -- the rows of a byte's halves
-module _ (k byte : ℕ) {sums : List ℕ} (hk : k < 8) (h : byte < 256) (e : sums ≡ half_sums k) where
-  sums_size : length sums ≡ 256
-  sums_size = ap length e ∙ length_rows k 32
+module _ (k byte : ℕ) {sums : List (List ℕ)} (hk : k < 8) (h : byte < 256) (e : sums ≡ half_sums k) where
+  sums_size : length sums ≡ 32
+  sums_size = ap length e ∙ length_sums k
 
-  upper_row : {x : List ℕ} → x ≡ eight_from sums (byte / 16 * 8) → x ≡ byte_sums k (byte / 16 * 16)
+  upper_row : {x : List ℕ} → x ≡ get_or sums (byte / 16) [] → x ≡ byte_sums k (byte / 16 * 16)
   upper_row p =
       let l : byte / 16 < 16 = omega arith in
-      p ∙ ap (λ (s : List ℕ). eight_from s (byte / 16 * 8)) e ∙ half_row k (byte / 16) (omega arith) ∙ ap (byte_sums k) (upper_byte (byte / 16) l)
+      p ∙ ap (λ (s : List (List ℕ)). get_or s (byte / 16) []) e ∙ half_row k (byte / 16) [] (omega arith) ∙ ap (byte_sums k) (upper_byte (byte / 16) l)
 
-  lower_row : {y : List ℕ} → y ≡ eight_from sums ((16 + byte % 16) * 8) → y ≡ byte_sums k (byte % 16)
+  lower_row : {y : List ℕ} → y ≡ get_or sums (16 + byte % 16) [] → y ≡ byte_sums k (byte % 16)
   lower_row p =
-      p ∙ ap (λ (s : List ℕ). eight_from s ((16 + byte % 16) * 8)) e ∙ half_row k (16 + byte % 16) (omega arith)
+      p ∙ ap (λ (s : List (List ℕ)). get_or s (16 + byte % 16) []) e ∙ half_row k (16 + byte % 16) [] (omega arith)
       ∙ ap (byte_sums k) (lower_byte (byte % 16) (omega arith))
 
-  module _ {x y : List ℕ} (p : x ≡ eight_from sums (byte / 16 * 8)) (q : y ≡ eight_from sums ((16 + byte % 16) * 8)) where
-    rows_added : eight_sums x y ≡ byte_sums k byte
-    unfolding tabulate
+  module _ {x y : List ℕ} (p : x ≡ get_or sums (byte / 16) []) (q : y ≡ get_or sums (16 + byte % 16) []) where
+    rows_added : tabulate 8 (sum_at x y) ≡ byte_sums k byte
     rows_added =
         tabulate_ext 8 (sum_at x y) (subset_sum 3 k (byte_entry byte))
         (λ j l. ap₂ ◌+◌ (row_at k (byte / 16 * 16) j l (upper_row p)) (row_at k (byte % 16) j l (lower_row q)) ∙ sym (byte_halves k byte j hk h))
@@ -246,24 +181,11 @@ module _ (k byte : ℕ) {sums : List ℕ} (hk : k < 8) (h : byte < 256) (e : sum
     sum_fits : (j : ℕ) → j < 8 → sum_at x y j < 2 ^ 16
     sum_fits j l = omega (arith, byte_le k (byte / 16 * 16) j hk l (upper_row p), byte_le k (byte % 16) j hk l (lower_row q))
 
-    rows_fit : SumsFit x y
-    rows_fit =
-        record {
-          fit0 = sum_fits 0 (lit< tt);
-          fit1 = sum_fits 1 (lit< tt);
-          fit2 = sum_fits 2 (lit< tt);
-          fit3 = sum_fits 3 (lit< tt);
-          fit4 = sum_fits 4 (lit< tt);
-          fit5 = sum_fits 5 (lit< tt);
-          fit6 = sum_fits 6 (lit< tt);
-          fit7 = sum_fits 7 (lit< tt);
-        }
-
 -- the sums that a leaf has are for its own polarity
-leaf_sums : {places : ℕ} {sums : List ℕ} {len at k : ℕ} → Asks places sums len at 3 k → sums ≡ half_sums k
+leaf_sums : {places : ℕ} {sums : List (List ℕ)} {len at k : ℕ} → Asks places sums len at 3 k → sums ≡ half_sums k
 leaf_sums asks = asks.summed (lit≤ tt) ∙ ap half_sums (mod-eq_of_lt asks.polarity)
 
-module _ {places : ℕ} {sums : List ℕ} (s : List ℕ) {at : ℕ} (l : LeafAsks places sums (length s) at) where
+module _ {places : ℕ} {sums : List (List ℕ)} (s : List ℕ) {at : ℕ} (l : LeafAsks places sums (length s) at) where
   pub leaf_within : at / 8 < length s
   leaf_within = omega (arith, l.asks.within)
 
@@ -271,20 +193,17 @@ module _ {places : ℕ} {sums : List ℕ} (s : List ℕ) {at : ℕ} (l : LeafAsk
     abbrev byte : ℕ
     byte = get_or s (at / 8) 0
 
-    pub leaf_places : (byte / 16 * 8 + 8 ≤ length sums) × (byte / 16 * 8 < 256) × ((16 + byte % 16) * 8 + 8 ≤ length sums) × ((16 + byte % 16) * 8 < 256)
+    pub leaf_places : (byte / 16 < length sums) × (16 + byte % 16 < length sums)
     leaf_places =
-        let e : length sums ≡ 256 = sums_size l.polarity byte l.asks.polarity h (leaf_sums l.asks) in
-        (omega arith, omega arith, omega arith, omega arith)
+        let e : length sums ≡ 32 = sums_size l.polarity byte l.asks.polarity h (leaf_sums l.asks) in
+        (omega arith, omega arith)
 
-    module _ {x y : List ℕ} (p : x ≡ eight_from sums (byte / 16 * 8)) (q : y ≡ eight_from sums ((16 + byte % 16) * 8)) where
-      pub leaf_fits : SumsFit x y
-      leaf_fits = rows_fit l.polarity byte l.asks.polarity h (leaf_sums l.asks) p q
+    module _ {x y : List ℕ} (p : x ≡ get_or sums (byte / 16) []) (q : y ≡ get_or sums (16 + byte % 16) []) where
+      pub leaf_fits : (j : ℕ) → j < 8 → Fits w16 (sum_at x y j)
+      leaf_fits j h₈ = record { fits = sum_fits l.polarity byte l.asks.polarity h (leaf_sums l.asks) p q j h₈ }
 
-      pub leaf_made : (out : List ℕ) {r after : List ℕ} → places ≡ length out → r ≡ eight_sums x y → after ≡ splice out 0 r
-          → (k : ℕ) → Asks places sums (length s) at 3 k → after ≡ spectrum Mrm 3 k (entries_from s at)
-      leaf_made out {r} size e d k asks =
-          let row : r ≡ byte_sums k byte = e ∙ rows_added k byte asks.polarity h (leaf_sums asks) p q in
-          d
-          ∙ splice_whole out r (ap length row ∙ sym asks.room ∙ size)
-          ∙ row
-          ∙ byte_there s at k asks.polarity (asks.whole (lit≤ tt))
+      pub leaf_made : {start out : List ℕ} {j : ℕ} → Written start 0 8 (sum_at x y) out j → length start ≡ places → 8 ≤ j
+          → (k : ℕ) → Asks places sums (length s) at 3 k → out ≡ spectrum Mrm 3 k (entries_from s at)
+      leaf_made w e all k asks =
+          filled_all w (e ∙ asks.room) all
+          ∙ rows_added k byte asks.polarity h (leaf_sums asks) p q ∙ byte_there s at k asks.polarity (asks.whole (lit≤ tt))

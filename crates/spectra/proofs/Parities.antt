@@ -9,17 +9,14 @@
 --   digits_all       all eight
 --   Packing          what a loop has done after i turns: the first i bytes are written
 --   packing_none     no byte yet
---   packing_lt       the place of the next byte was there from the start
 --   packing_first    the eight entries of the next byte have indices that fit a usize
 --   packing_more     one byte more
 --   packing_all      all bytes: the packed parities
---   copied_whole     a table is copied to the start of a list
 use Prim.Native.Nat.{ℕ, ◌+◌, ◌*◌, ◌^◌, ◌≤◌, ◌<◌}
 use native.Mathlib.Omega.{arith}
-use native.Mathlib.Nat.{le_antisymm, le_refl}
+use native.Mathlib.Nat.{le_antisymm}
 use native.Mathlib.Numerals.{add-one}
 use mathlib.Core.Path.{◌≡◌, refl, sym, ap, ◌∙◌}
-use mathlib.Core.Bool.{Bool, cond}
 use mathlib.Core.List.{List, [], ◌∷◌, ◌++◌}
 use mathlib.Core.Logic.{⊎_elim}
 use lib.ListN.{length, set}
@@ -30,10 +27,8 @@ use Rattle.bits.specs.Bits.{value_from}
 use Rattle.bits.specs.Packed.{tabulate, packed}
 use Rattle.bits.proofs.Below.{lt_or_ge}
 use Rattle.bits.proofs.Packed.{tabulate_more, tabulate_at, tabulate_past, length_packed, packed_at, tabulate_list}
-use lib.Seq.{take_all}
-use Rattle.bits.specs.Slices.{slice, splice, copy_fits}
-use Rattle.bits.proofs.Room.{copy_fits_lem}
-use Rattle.bits.proofs.Splice.{Written, written_none, written_length, written_all, splice_whole, filled_more}
+use Rattle.bits.specs.Slices.{splice}
+use Rattle.bits.proofs.Splice.{Written, written_none, written_all, splice_whole, filled_more}
 use Rattle.spectra.specs.Operations.{at}
 use Rattle.spectra.specs.Parities.{parity_at, Packs}
 
@@ -92,26 +87,16 @@ module _ {k : ℕ} {numbers start : List ℕ} (p : Packs k numbers start) where
   packing_none = written_none (omega arith)
 
   module _ {table : List ℕ} {i : ℕ} (w : Packing k numbers start table i) where
-    pub packing_lt : i < length table → i < length start
-    packing_lt h = omega (arith, written_length w)
+    pub packing_first : i < length start → 8 * i + 8 < 2 ^ 64
+    packing_first h = omega (arith, p.room, p.few)
 
-    pub packing_first : i < length table → 8 * i + 8 < 2 ^ 64
-    packing_first h = omega (arith, written_length w, p.room, p.few)
-
-    pub packing_more : (v : ℕ) → i < length table → v ≡ value_from 0 (tabulate 8 (λ t. at (tabulate (length numbers) (parity_at numbers k)) (8 * i + t)))
+    pub packing_more : (v : ℕ) → i < length start → v ≡ value_from 0 (tabulate 8 (λ t. at (tabulate (length numbers) (parity_at numbers k)) (8 * i + t)))
         → Packing k numbers start (set table i v) (i + 1)
-    packing_more v h e = filled_more w v (packing_lt h) (e ∙ sym (packed_at (length numbers) (parity_at numbers k) i (omega (arith, packing_lt h, p.room))))
+    packing_more v h e = filled_more w v h (e ∙ sym (packed_at (length numbers) (parity_at numbers k) i (omega (arith, p.room))))
 
-    pub packing_all : length table ≤ i → table ≡ packed (length numbers) (parity_at numbers k)
+    pub packing_all : length start ≤ i → table ≡ packed (length numbers) (parity_at numbers k)
     packing_all h =
         let new = packed (length numbers) (parity_at numbers k) in
         let len : length new ≡ length start = length_packed (length numbers) (parity_at numbers k) ∙ sym p.room in
-        written_all w (omega (arith, written_length w)) ∙ ap (λ (n : ℕ). splice start 0 (tabulate n (at new))) (sym len)
+        written_all w h ∙ ap (λ (n : ℕ). splice start 0 (tabulate n (at new))) (sym len)
         ∙ ap (splice start 0) (tabulate_list new) ∙ splice_whole start new len
-
--- a table copied to the start of a list, where there is room
-pub copied_whole : (out table : List ℕ) {after : List ℕ} → length table ≤ length out
-    → after ≡ cond (copy_fits 0 0 (length table) (length out) (length table)) (splice out 0 (slice 0 (length table) table)) out → after ≡ splice out 0 table
-copied_whole out table h e =
-    e ∙ ap (λ (t : Bool). cond t (splice out 0 (slice 0 (length table) table)) out) (copy_fits_lem 0 0 (length table) (length out) (length table) (omega arith) (omega arith))
-    ∙ ap (splice out 0) (take_all (length table) table (le_refl (length table)))

@@ -5,6 +5,7 @@
 --   comparing_stop         two numbers that differ: the lists are not the same
 --   comparing_more         one number more
 --   comparing_all          all numbers: the lists are the same
+--   same_pointwise         `==` compares number by number
 --   same_lengths           lists that are not of one length are not the same
 --   few_entries            the entries of a table fit a usize, with room for spare bits
 --   packs_numbers          a lent table has room for the parities of the numbers
@@ -13,55 +14,67 @@
 --   compares               the numbers are compared with the recovered table's spectrum
 --   entries_most           no table has more entries than that of the most inputs
 --   lent_of                memory of the right sizes is lent
---   undo_low, undo_high, undo_polarity, undo_count, undo_none, undo_memory, undo_done   undoing's ways out: 2 twice, 13, 14 twice, 10, success
+--   inputs_some, inputs_most, inputs_lent   a valid number of inputs, by its test
+--   undo_unfit, undo_polarity, undo_count, undo_none, undo_memory, undo_done   undoing's ways out: 2, 13, 14 twice, 10, success
 use Prim.Native.Nat.{ℕ, suc, ◌+◌, ◌/◌, ◌%◌, ◌^◌, ◌≤◌, ◌<◌}
 use native.Mathlib.Omega.{arith}
 use native.Mathlib.Nat.{le_trans, lt_of_le_of_lt}
 use native.Mathlib.Numerals.{add-one}
 use mathlib.Core.Path.{◌≡◌, refl, sym, ap, ◌∙◌}
 use mathlib.Core.Bool.{Bool, true, false, ◌&&◌}
-use mathlib.Core.List.{List, [], ◌∷◌}
-use borrow.Author.Tests.{eq-eqb, ne_eqb, le-leb, lt-leb, lt-ltb, le-ltb}
-use lib.Dec.{eqb, lit<}
+use mathlib.Core.List.{List, [], ◌∷◌, ◌++◌}
+use borrow.Author.Tests.{eq-eqb, ne_eqb, leb-true, le-leb, lt-leb, lt-ltb, le-ltb}
+use lib.Dec.{leb, eqb, lit<}
+use lib.Pointwise.{pointwise}
 use lib.Bits.{bit_xor, xor_lt, xor_zero_r}
 use lib.ListN.{length, drop, drop_of_length-le}
-use lib.Pow.{pow_pos, pow_mono}
 use lib.Seq.{drop-cons}
-use Rattle.bits.specs.Answer.{Answer, leaves}
+use lib.Pow.{pow_pos, pow_mono}
+use Rattle.bits.specs.Answer.{leaves}
 use Rattle.bits.specs.Answer.Answer.{gives, refused}
 use Rattle.bits.specs.Packed.{packed, entry}
 use Rattle.bits.proofs.Packed.{entry_packed, packed_ext, length_packed}
-use Rattle.bits.proofs.Tests.{and_i}
+use Rattle.bits.proofs.Tests.{and_l, and_r, and_i}
 use Rattle.job.specs.Check.{inputs_ok}
 use Rattle.job.proofs.Sizes.{most_inputs, inputs_few}
 use Rattle.job.specs.Layout.{max_inputs}
 use Rattle.bits.specs.Sizes.{table_bytes, table_size_of}
 use Rattle.bits.specs.Slices.{splice}
+use Rattle.bits.proofs.Splice.{splice_start}
 use Rattle.bits.proofs.TableSizes.{table_size_exact}
 use Rattle.tables.proofs.Answers.{kept, put}
-use Rattle.spectra.specs.Operations.{table_ok, at, spectrum_of, same_numbers, is_spectrum, undone_of}
+use Rattle.spectra.specs.Operations.{at, same_numbers, is_spectrum, undone_of}
 use Rattle.spectra.specs.Parities.{parity_at, Packs, Lent}
+use Rattle.spectra.specs.Rows.{rows_filled}
 use Rattle.spectra.specs.Spectrum.{spectrum, recovered}
 use Rattle.spectra.specs.declared.Kind.{Kind}
 use Rattle.spectra.specs.declared.Kind.TheVariants.{Rm}
 use Rattle.spectra.proofs.Bounds.{length_spectrum, spectrum_at, coefficient_ext, spectrum_ext}
 use Rattle.spectra.proofs.Inverse.{coefficient_mod}
-use Rattle.spectra.proofs.Refusals.{row_done}
+use Rattle.spectra.proofs.Refusals.{one_row}
 use Rattle.spectra.proofs.Acceptance.{recovered_bits}
-use Rattle.spectra.proofs.PackedTables.{packed_whole}
 
 -- ---- comparing
 
+-- (the loop of `locating::agrees` compares so)
 pub record Comparing (a b : List ℕ) (i : ℕ) : Type 0 where
   pub within : i ≤ length a
   pub lengths : length a ≡ length b
   pub rest : same_numbers a b ≡ same_numbers (drop i a) (drop i b)
 
+-- what `==` says of two slices
+pub same_pointwise : (a b : List ℕ) → pointwise eqb a b ≡ same_numbers a b
+unfolding same_numbers
+same_pointwise [] [] = refl
+same_pointwise [] (y ∷ b) = refl
+same_pointwise (x ∷ a) [] = refl
+same_pointwise (x ∷ a) (y ∷ b) = ap (λ (t : Bool). eqb x y && t) (same_pointwise a b)
+
 and-false : (t : Bool) → t && false ≡ false
 and-false true = refl
 and-false false = refl
 
-pub same_lengths : (a b : List ℕ) → (length a ≡ length b → ⊥) → false ≡ same_numbers a b
+same_lengths : (a b : List ℕ) → (length a ≡ length b → ⊥) → false ≡ same_numbers a b
 unfolding same_numbers
 same_lengths [] [] h = absurd (h refl)
 same_lengths [] (y ∷ b) h = refl
@@ -98,9 +111,9 @@ module _ {a b : List ℕ} where
 few_entries : (n : ℕ) → n ≤ max_inputs → 2 ^ n < 2 ^ 63
 few_entries n h = lt_of_le_of_lt (pow_mono {j = 15} (le_trans h most_inputs)) (lit< tt)
 
--- what the spectrum of a table leaves
-abbrev Transformed : Kind → ℕ → ℕ → List ℕ → List ℕ → Answer (Unit {0}) → List ℕ → Type 0
-Transformed kind n k table sums answer sums₁ = record { answer = answer; memory = sums₁ } ≡ leaves (spectrum_of n table kind k (length sums)) sums
+-- the spectrum of a table is made
+abbrev Transformed : Kind → ℕ → ℕ → List ℕ → List ℕ → List ℕ → Type 0
+Transformed kind n k table sums sums₁ = sums₁ ≡ rows_filled kind n k table 1 sums
 
 module _ {n k : ℕ} {numbers table sums : List ℕ} (l : Lent n k numbers table sums) where
   pub packs_numbers : Packs 0 numbers table
@@ -116,15 +129,11 @@ module _ {n k : ℕ} {numbers table sums : List ℕ} (l : Lent n k numbers table
   length_parities : length (packed (length numbers) (parity_at numbers 0)) ≡ table_bytes n
   length_parities = length_packed (length numbers) (parity_at numbers 0) ∙ ap (λ (x : ℕ). (x + 7) / 8) l.count
 
-  parities_whole : table_ok n (packed (length numbers) (parity_at numbers 0)) ≡ true
-  parities_whole =
-      ap (λ (x : ℕ). table_ok n (packed x (parity_at numbers 0))) l.count ∙ packed_whole n (parity_at numbers 0) (λ m _. omega arith)
-
-  parity_spectrum : {table₁ sums₁ : List ℕ} {answer : Answer (Unit {0})} → table₁ ≡ packed (length numbers) (parity_at numbers 0) → Transformed Rm n 0 table₁ sums answer sums₁
+  parity_spectrum : {table₁ sums₁ : List ℕ} → table₁ ≡ packed (length numbers) (parity_at numbers 0) → Transformed Rm n 0 table₁ sums sums₁
       → sums₁ ≡ spectrum Rm n 0 (entry table₁)
-  parity_spectrum {table₁} et es = row_done Rm n 0 table₁ sums l.some l.few (ap (table_ok n) et ∙ parities_whole) (pow_pos n) l.places es
+  parity_spectrum {table₁} et es = one_row Rm n 0 table₁ sums (ap length et ∙ length_parities) l.places es
 
-  pub packs_sums : {table₁ sums₁ : List ℕ} {answer : Answer (Unit {0})} → table₁ ≡ packed (length numbers) (parity_at numbers 0) → Transformed Rm n 0 table₁ sums answer sums₁
+  pub packs_sums : {table₁ sums₁ : List ℕ} → table₁ ≡ packed (length numbers) (parity_at numbers 0) → Transformed Rm n 0 table₁ sums sums₁
       → Packs k sums₁ table₁
   packs_sums {table₁} {sums₁} et es =
       let p = few_entries n l.few in
@@ -141,7 +150,7 @@ module _ {n k : ℕ} {numbers table sums : List ℕ} (l : Lent n k numbers table
       entry_packed (length numbers) (parity_at numbers 0) (λ m _. omega arith) j (omega (arith, l.count))
       ∙ ap (λ (x : ℕ). at numbers x % 2) (xor_zero_r j)
 
-  pub recovers : {table₁ sums₁ table₂ : List ℕ} {answer : Answer (Unit {0})} → table₁ ≡ packed (length numbers) (parity_at numbers 0) → Transformed Rm n 0 table₁ sums answer sums₁
+  pub recovers : {table₁ sums₁ table₂ : List ℕ} → table₁ ≡ packed (length numbers) (parity_at numbers 0) → Transformed Rm n 0 table₁ sums sums₁
       → table₂ ≡ packed (length sums₁) (parity_at sums₁ k) → table₂ ≡ packed (2 ^ n) (recovered n k (at numbers))
   unfolding recovered
   recovers {table₁} {sums₁} {table₂} et filled e =
@@ -155,18 +164,26 @@ module _ {n k : ℕ} {numbers table sums : List ℕ} (l : Lent n k numbers table
       ∙ coefficient_ext Rm n 0 (entry table₁) (λ j. at numbers j % 2) (bit_xor m k) (pow_pos n)
       (λ j hj. ap (λ (s : List ℕ). entry s j) et ∙ parity_entry j hj))
 
-  pub compares : (kind : Kind) {table₁ : List ℕ} (sums₁ : List ℕ) {sums₂ : List ℕ} {answer : Answer (Unit {0})} → table₁ ≡ packed (2 ^ n) (recovered n k (at numbers))
-      → length sums₁ ≡ length sums → Transformed kind n k table₁ sums₁ answer sums₂ → same_numbers numbers sums₂ ≡ is_spectrum kind n k numbers
+  pub compares : (kind : Kind) {table₁ : List ℕ} (sums₁ : List ℕ) {sums₂ : List ℕ} → table₁ ≡ packed (2 ^ n) (recovered n k (at numbers))
+      → length sums₁ ≡ length sums → Transformed kind n k table₁ sums₁ sums₂ → same_numbers numbers sums₂ ≡ is_spectrum kind n k numbers
   unfolding is_spectrum
   compares kind {table₁} sums₁ et el es =
       ap (same_numbers numbers)
-      (row_done kind n k table₁ sums₁ l.some l.few
-      (ap (table_ok n) et ∙ packed_whole n (recovered n k (at numbers)) (recovered_bits n k numbers)) l.polarity (el ∙ l.places) es
+      (one_row kind n k table₁ sums₁ (ap length et ∙ length_packed (2 ^ n) (recovered n k (at numbers))) (el ∙ l.places) es
       ∙ spectrum_ext kind n k (entry table₁) (recovered n k (at numbers)) l.polarity
       (λ m h. ap (λ (s : List ℕ). entry s m) et
       ∙ entry_packed (2 ^ n) (recovered n k (at numbers)) (recovered_bits n k numbers) m h))
 
 -- ---- the ways out
+
+pub inputs_some : {n : ℕ} → inputs_ok n ≡ true → 1 ≤ n
+inputs_some {n} h = leb-true 1 n (and_l (leb 1 n) (leb n max_inputs) h)
+
+pub inputs_most : {n : ℕ} → inputs_ok n ≡ true → n ≤ max_inputs
+inputs_most {n} h = leb-true n max_inputs (and_r (leb 1 n) (leb n max_inputs) h)
+
+pub inputs_lent : {n k : ℕ} {numbers table sums : List ℕ} → Lent n k numbers table sums → inputs_ok n ≡ true
+inputs_lent {n} l = and_i (le-leb 1 n l.some) (le-leb n max_inputs l.few)
 
 no_spectrum : (kind : Kind) (n k : ℕ) (numbers : List ℕ) → (length numbers ≡ 2 ^ n → ⊥) → false ≡ is_spectrum kind n k numbers
 unfolding is_spectrum
@@ -187,44 +204,39 @@ module _ (n : ℕ) (numbers : List ℕ) (kind : Kind) (k : ℕ) (out : List ℕ)
   abbrev Refuses : ℕ → Type 0
   Refuses number = record { answer = refused number; memory = out } ≡ leaves (undone_of n numbers kind k (length out)) out
 
-  pub undo_low : n < 1 → Refuses 2
+  pub undo_unfit : inputs_ok n ≡ false → Refuses 2
   unfolding undone_of
-  undo_low h = kept (undone_of n numbers kind k (length out)) 2 out (simp (lt-leb 1 n h))
+  undo_unfit h = kept (undone_of n numbers kind k (length out)) 2 out (simp h)
 
-  module _ (low : 1 ≤ n) where
-    pub undo_high : max_inputs < n → Refuses 2
+  module _ (inputs : inputs_ok n ≡ true) where
+    high : n ≤ max_inputs
+    high = inputs_most inputs
+
+    pub undo_polarity : {size : ℕ} → size ≡ table_size_of n → size ≤ k → Refuses 13
     unfolding undone_of
-    undo_high h = kept (undone_of n numbers kind k (length out)) 2 out (simp (le-leb 1 n low, lt-leb n max_inputs h))
+    undo_polarity told h = kept (undone_of n numbers kind k (length out)) 13 out (simp (inputs, le-ltb k (2 ^ n) (rw (table_size_exact (inputs_few high) told) at h)))
 
-    module _ (high : n ≤ max_inputs) where
-      inputs : inputs_ok n ≡ true
-      inputs = and_i (le-leb 1 n low) (le-leb n max_inputs high)
+    pub undo_none : k < 2 ^ n → false ≡ is_spectrum kind n k numbers → Refuses 14
+    unfolding undone_of
+    undo_none h e = kept (undone_of n numbers kind k (length out)) 14 out (simp (inputs, lt-ltb k (2 ^ n) h, sym e))
 
-      pub undo_polarity : {size : ℕ} → size ≡ table_size_of n → size ≤ k → Refuses 13
+    pub undo_count : {size : ℕ} → size ≡ table_size_of n → k < size → (length numbers ≡ size → ⊥) → Refuses 14
+    undo_count told h d = let e = table_size_exact (inputs_few high) told in undo_none (rw e at h) (no_spectrum kind n k numbers (λ q. d (q ∙ sym e)))
+
+    module _ (h : k < 2 ^ n) (e : true ≡ is_spectrum kind n k numbers) {table : List ℕ} (t : table ≡ packed (2 ^ n) (recovered n k (at numbers))) where
+      length_undone : length table ≡ table_bytes n
+      length_undone = ap length t ∙ length_packed (2 ^ n) (recovered n k (at numbers))
+
+      pub undo_memory : length out < length table → Refuses 10
       unfolding undone_of
-      undo_polarity told h = kept (undone_of n numbers kind k (length out)) 13 out (simp (inputs, le-ltb k (2 ^ n) (rw (table_size_exact (inputs_few high) told) at h)))
+      undo_memory l =
+          kept (undone_of n numbers kind k (length out)) 10 out
+          (simp (inputs, lt-ltb k (2 ^ n) h, sym e, lt-leb (table_bytes n) (length out) (omega (arith, length_undone))))
 
-      pub undo_none : k < 2 ^ n → false ≡ is_spectrum kind n k numbers → Refuses 14
+      pub undo_done : {front : List ℕ} → length table ≤ length out → front ≡ table
+          → record { answer = gives tt; memory = front ++ drop (length table) out } ≡ leaves (undone_of n numbers kind k (length out)) out
       unfolding undone_of
-      undo_none h e = kept (undone_of n numbers kind k (length out)) 14 out (simp (inputs, lt-ltb k (2 ^ n) h, sym e))
-
-      pub undo_count : {size : ℕ} → size ≡ table_size_of n → k < size → (length numbers ≡ size → ⊥) → Refuses 14
-      undo_count told h d = let e = table_size_exact (inputs_few high) told in undo_none (rw e at h) (no_spectrum kind n k numbers (λ q. d (q ∙ sym e)))
-
-      module _ (h : k < 2 ^ n) (e : true ≡ is_spectrum kind n k numbers) {table : List ℕ} (t : table ≡ packed (2 ^ n) (recovered n k (at numbers))) where
-        length_undone : length table ≡ table_bytes n
-        length_undone = ap length t ∙ length_packed (2 ^ n) (recovered n k (at numbers))
-
-        pub undo_memory : length out < length table → Refuses 10
-        unfolding undone_of
-        undo_memory l =
-            kept (undone_of n numbers kind k (length out)) 10 out
-            (simp (inputs, lt-ltb k (2 ^ n) h, sym e, lt-leb (table_bytes n) (length out) (omega (arith, length_undone))))
-
-        pub undo_done : {after : List ℕ} → length table ≤ length out → after ≡ splice out 0 table
-            → record { answer = gives tt; memory = after } ≡ leaves (undone_of n numbers kind k (length out)) out
-        unfolding undone_of
-        undo_done {after} l p =
-            put (undone_of n numbers kind k (length out)) tt (packed (2 ^ n) (recovered n k (at numbers))) out after
-            (simp (inputs, lt-ltb k (2 ^ n) h, sym e, le-leb (table_bytes n) (length out) (omega (arith, length_undone))))
-            (p ∙ ap (splice out 0) t)
+      undo_done {front} l p =
+          put (undone_of n numbers kind k (length out)) tt (packed (2 ^ n) (recovered n k (at numbers))) out (front ++ drop (length table) out)
+          (simp (inputs, lt-ltb k (2 ^ n) h, sym e, le-leb (table_bytes n) (length out) (omega (arith, length_undone))))
+          (ap (λ (s : List ℕ). s ++ drop (length table) out) p ∙ sym (splice_start out table) ∙ ap (splice out 0) t)

@@ -10,13 +10,8 @@
 --   half_fits             half x of the table begins at a number that fits a usize
 --   place_fits            and so does its place in the bytes
 --   inner_asked           what the transform asks of a half
---   half_scaled           the second half begins at an offset that fits
 --   front_inside          the first half lies within the memory
---   front_size            the size of the first half of the memory
---   joined_size           the memory is as large as before when its first half is back
---   back_start            its second half begins within it
---   back_size             the size of its second half
---   whole_halves          the memory when both halves are back
+--   back_size             the size of the second half
 --   combine_asked         what combining asks: two halves of numbers that are at most 2 ^ 14
 --   transformed           the combined halves are the spectrum
 --   transformed_one       the spectrum of one entry
@@ -27,11 +22,11 @@ use Prim.Native.Nat.{ℕ, suc, ◌+◌, ◌-◌, ◌*◌, ◌/◌, ◌%◌, ◌^
 use native.Mathlib.Nat.{div-lt_iff_lt-mul, div-add-mod', mod-lt, mul-le-mul_right, mul_assoc, add_assoc, add-zero, one-mul, le_trans}
 use native.Mathlib.Omega.{arith}
 use mathlib.Core.Path.{◌≡◌, refl, sym, ap, ap₂, subst, ◌∙◌}
-use mathlib.Core.List.{List, [], ◌∷◌, ◌++◌, append-nil}
+use mathlib.Core.List.{List, [], ◌∷◌, ◌++◌}
 use mathlib.Core.Logic.{⊎_elim}
-use lib.ListN.{length, get_or, take, drop, set, length-append, length-take, length-drop, drop_of_length-le, get_or-append, get_or-eq_default}
+use lib.ListN.{length, get_or, take, drop, set, length-append, get_or-append, get_or-eq_default}
+use lib.Seq.{get_or-append-add, take_at, drop_at}
 use lib.Pow.{pow_pos, pow_mono, pow-add, mod-mod-pow}
-use lib.Seq.{get_or-append-add, take_at, drop_at, length_front}
 use mir.Syntax.{w64}
 use mir.Val.{Fits}
 use Rattle.bits.specs.Packed.{entry}
@@ -50,7 +45,7 @@ use Rattle.spectra.proofs.Sums.{pow_double}
 
 -- ---- the two halves
 
-pub record Halved (out sums : List ℕ) (len at n k h : ℕ) : Type 0 where
+pub record Halved (out : List ℕ) (sums : List (List ℕ)) (len at n k h : ℕ) : Type 0 where
   pub asks : Asks (length out) sums len at n k
   pub some : 1 ≤ n
   pub half : h ≡ 2 ^ (n - 1)
@@ -66,7 +61,7 @@ doubled n h some e =
     let s : n ≡ suc (n - 1) = omega arith in
     ap (λ (x : ℕ). 2 ^ x) s ∙ pow_double (n - 1) ∙ ap₂ ◌+◌ (sym e) (sym e)
 
-pub halved : (out sums : List ℕ) (len at n k : ℕ) {h : ℕ} → Asks (length out) sums len at n k → 1 ≤ n → h ≡ 2 ^ (n - 1)
+pub halved : (out : List ℕ) (sums : List (List ℕ)) (len at n k : ℕ) {h : ℕ} → Asks (length out) sums len at n k → 1 ≤ n → h ≡ 2 ^ (n - 1)
     → Halved out sums len at n k h
 halved out sums len at n k {h} asks some e =
     let d : 2 ^ n ≡ h + h = doubled n h some e in
@@ -88,10 +83,10 @@ halved out sums len at n k {h} asks some e =
 abbrev pub half_size : ℕ → ℕ
 half_size n = 1 * 2 ^ (n - 1) % 2 ^ 64
 
-pub half_shift : {places : ℕ} {sums : List ℕ} {len at n k : ℕ} → Asks places sums len at n k → n - 1 < 64
+pub half_shift : {places : ℕ} {sums : List (List ℕ)} {len at n k : ℕ} → Asks places sums len at n k → n - 1 < 64
 half_shift asks = omega (arith, asks.few)
 
-pub halved_at : (out sums : List ℕ) (len at n k : ℕ) → Asks (length out) sums len at n k → (n ≡ 0 → ⊥) → Halved out sums len at n k (half_size n)
+pub halved_at : (out : List ℕ) (sums : List (List ℕ)) (len at n k : ℕ) → Asks (length out) sums len at n k → (n ≡ 0 → ⊥) → Halved out sums len at n k (half_size n)
 halved_at out sums len at n k asks ne = halved out sums len at n k asks (omega arith) (shift_exact (n - 1) (half_shift asks))
 
 pub down : {n t : ℕ} → 1 ≤ n → n ≡ t → n - 1 < t
@@ -114,7 +109,7 @@ module _ (n h : ℕ) (e : h ≡ 2 ^ (n - 1)) (three : 3 ≤ n - 1) where
       let over : n - 1 ≡ (n - 4) + 3 = omega arith in
       ap (λ (y : ℕ). k % y % 8) (e ∙ ap (λ (y : ℕ). 2 ^ y) over) ∙ mod-mod-pow k (n - 4) 3
 
-module _ {out sums : List ℕ} {len at n k h : ℕ} (p : Halved out sums len at n k h) where
+module _ {out : List ℕ} {sums : List (List ℕ)} {len at n k h : ℕ} (p : Halved out sums len at n k h) where
   pub top_le : k / h ≤ 1
   top_le = let l : k / h < 2 = (div-lt_iff_lt-mul {k = h} {x = k} {y = 2} p.half_some).1 (omega (arith, p.below)) in omega arith
 
@@ -142,34 +137,11 @@ module _ {out sums : List ℕ} {len at n k h : ℕ} (p : Halved out sums len at 
           summed = λ three. p.asks.summed (omega arith) ∙ ap half_sums (sym (low_half n h p.half three k));
         }
 
-  pub half_scaled : Fits w64 (h * 2)
-  half_scaled = record { fits = omega (arith, p.half_few) }
-
   pub front_inside : h ≤ length out
   front_inside = omega (arith, p.room)
 
-  pub front_size : length (take h out) ≡ h
-  front_size = simp length-take (omega (arith, p.room))
-
-  module _ (lo : List ℕ) (kept : length lo ≡ length (take h out)) where
-    low_size : length lo ≡ h
-    low_size = kept ∙ front_size
-
-    pub joined_size : length (lo ++ drop h out) ≡ h + h
-    joined_size = length_front out lo h kept ∙ p.room
-
-    pub back_start : h ≤ length (lo ++ drop h out)
-    back_start = let e = joined_size in omega arith
-
-    pub back_size : length (take (length (lo ++ drop h out) - h) (drop h (lo ++ drop h out))) ≡ h
-    back_size = simp (length-take, length-drop) (let e = joined_size in omega arith)
-
-    pub whole_halves : (hi : List ℕ) → length hi ≡ length (take (length (lo ++ drop h out) - h) (drop h (lo ++ drop h out)))
-        → take h (lo ++ drop h out) ++ (hi ++ drop (length (lo ++ drop h out) - h) (drop h (lo ++ drop h out))) ≡ lo ++ hi
-    whole_halves hi e =
-        ap₂ (λ (a b : List ℕ). a ++ (hi ++ b)) (take_at lo (drop h out) h low_size)
-        (drop_of_length-le (drop h (lo ++ drop h out)) {i = length (lo ++ drop h out) - h} (simp length-drop (omega arith)))
-        ∙ ap (λ (a : List ℕ). lo ++ a) (append-nil hi)
+  pub back_size : {places : ℕ} → places + h ≡ length out → places ≡ h
+  back_size e = omega (arith, p.room)
 
 -- ---- the size of the numbers
 
@@ -202,7 +174,7 @@ module _ (s : List ℕ) (at m r : ℕ) (l : r < 2 ^ m) where
       spectrum_halves Mrm m b d r (entries_from s at) e l
       ∙ ap₂ (λ (x y : List ℕ). combined (2 ^ m) x y) (moved (b * 2 ^ m)) (moved (d * 2 ^ m))
 
-module _ (s : List ℕ) {out sums : List ℕ} {at n k h : ℕ} (p : Halved out sums (length s) at n k h) where
+module _ (s : List ℕ) {out : List ℕ} {sums : List (List ℕ)} {at n k h : ℕ} (p : Halved out sums (length s) at n k h) where
   -- the spectrum of half x of the table
   abbrev half_of : ℕ → List ℕ
   half_of x = spectrum Mrm (n - 1) (k % h) (entries_from s (at + x * h))
@@ -223,7 +195,7 @@ module _ (s : List ℕ) {out sums : List ℕ} {at n k h : ℕ} (p : Halved out s
       (spectrum Mrm (n - 1) (k % h) (entries_from s (at + (1 - k / h) * x))))
       (sym p.half)
 
-  module _ (whole lo hi : List ℕ) (e : whole ≡ lo ++ hi) (low : lo ≡ half_of (k / h)) (high : hi ≡ half_of (1 - k / h)) where
+  module _ (lo hi : List ℕ) (low : lo ≡ half_of (k / h)) (high : hi ≡ half_of (1 - k / h)) where
     low_length : length lo ≡ h
     low_length = ap length low ∙ length_spectrum Mrm (n - 1) (k % h) (entries_from s (at + k / h * h)) ∙ sym p.half
 
@@ -233,17 +205,17 @@ module _ (s : List ℕ) {out sums : List ℕ} {at n k h : ℕ} (p : Halved out s
     most_half : (x : ℕ) → Most (2 ^ 14) (half_of x)
     most_half x i = let l = most_spectrum (n - 1) (k % h) s (at + x * h) rest_below i in omega (arith, p.half, p.half_few)
 
-    pub combine_asked : (h + h ≡ length whole) × Most (2 ^ 14) whole
+    pub combine_asked : (h + h ≡ length (lo ++ hi)) × Most (2 ^ 14) (lo ++ hi)
     combine_asked = (
-      sym (ap length e ∙ length-append lo hi ∙ ap₂ ◌+◌ low_length high_length),
-      subst (λ (x : List ℕ). Most (2 ^ 14) x) (sym (e ∙ ap₂ ◌++◌ low high)) (most_append (2 ^ 14) (half_of (k / h)) (half_of (1 - k / h)) (most_half (k / h)) (most_half (1 - k / h))),
+      sym (length-append lo hi ∙ ap₂ ◌+◌ low_length high_length),
+      subst (λ (x : List ℕ). Most (2 ^ 14) x) (sym (ap₂ ◌++◌ low high)) (most_append (2 ^ 14) (half_of (k / h)) (half_of (1 - k / h)) (most_half (k / h)) (most_half (1 - k / h))),
     )
 
-    pub transformed : (after : List ℕ) → after ≡ combined h (take h whole) (drop h whole) → after ≡ spectrum Mrm n k (entries_from s at)
+    pub transformed : (after : List ℕ) → after ≡ combined h (take h (lo ++ hi)) (drop h (lo ++ hi)) → after ≡ spectrum Mrm n k (entries_from s at)
     transformed after q =
         q
         ∙ ap₂ (λ (x y : List ℕ). combined h x y)
-        (ap (take h) e ∙ take_at lo hi h low_length ∙ low) (ap (drop h) e ∙ drop_at lo hi h low_length ∙ high)
+        (take_at lo hi h low_length ∙ low) (drop_at lo hi h low_length ∙ high)
         ∙ sym whole_spectrum
 
 -- ---- the smallest tables
@@ -264,14 +236,14 @@ transformed_one s out at n k x z size below e =
     ∙ sym (spectrum_one Mrm (entries_from s at) (entry_lt s (at + 0)))
     ∙ ap₂ (λ (m y : ℕ). spectrum Mrm m y (entries_from s at)) (sym z) (sym none)
 
-module _ (out sums : List ℕ) (len at n k : ℕ) (asks : Asks (length out) sums len at n k) where
+module _ (out : List ℕ) (sums : List (List ℕ)) (len at n k : ℕ) (asks : Asks (length out) sums len at n k) where
   pub one_asked : n ≡ 0 → (at < 8 * len) × (0 < length out)
   one_asked z =
       let p : 2 ^ n ≡ 1 = ap (λ (m : ℕ). 2 ^ m) z in
       (omega (arith, asks.within), omega (arith, asks.room))
 
 -- the place of a whole table
-pub row_asked : {places len n k : ℕ} {sums : List ℕ} → n ≤ max_inputs → places ≡ 2 ^ n → k < 2 ^ n → len ≡ table_bytes n → Summed n k sums
+pub row_asked : {places len n k : ℕ} {sums : List (List ℕ)} → n ≤ max_inputs → places ≡ 2 ^ n → k < 2 ^ n → len ≡ table_bytes n → Summed n k sums
     → Asks places sums len 0 n k
 row_asked {places} {len} {n} few room polarity bytes summed =
     let l : n ≤ 15 = le_trans few most_inputs in
@@ -279,7 +251,7 @@ row_asked {places} {len} {n} few room polarity bytes summed =
     record { few = l; room = room; polarity = polarity; within = omega arith; fits = omega arith; whole = λ _. refl; summed = summed }
 
 -- a leaf, or four inputs, in the place of n
-pub asked_at : {places : ℕ} {sums : List ℕ} {len at n k : ℕ} (m : ℕ) → n ≡ m → Asks places sums len at n k → Asks places sums len at m k
+pub asked_at : {places : ℕ} {sums : List (List ℕ)} {len at n k : ℕ} (m : ℕ) → n ≡ m → Asks places sums len at n k → Asks places sums len at m k
 asked_at {places} {sums} {len} {at} {n} {k} m e asks = subst (λ (x : ℕ). Asks places sums len at x k) e asks
 
 pub transformed_at : (s : List ℕ) {after : List ℕ} (at k : ℕ) {n m : ℕ} → n ≡ m → after ≡ spectrum Mrm m k (entries_from s at)

@@ -2,7 +2,6 @@
 --
 --   Reducing           what the loop has done after j turns: the first j numbers are reduced
 --   reducing_none      no number yet
---   reducing_lt        the loop is within what it began with
 --   reducing_more      one number more
 --   reducing_all       all numbers
 --   spectrum_reduced   the sums of a table, reduced, are its spectrum
@@ -10,12 +9,12 @@
 --   row_parities       for RM their parities are
 use Prim.Native.Nat.{ℕ, ◌+◌, ◌^◌, ◌<◌, ◌≤◌}
 use native.Mathlib.Nat.{zero-add, le_of_eq}
-use mathlib.Core.Path.{◌≡◌, refl, sym, ap, subst, ◌∙◌}
+use mathlib.Core.Path.{◌≡◌, refl, sym, ap, ◌∙◌}
 use mathlib.Core.List.{List}
 use lib.ListN.{length, get_or, set}
 use Rattle.bits.specs.Packed.{tabulate}
 use Rattle.bits.proofs.Packed.{tabulate_ext}
-use Rattle.bits.proofs.Splice.{Written, written_none, written_length, filled_more, filled_all}
+use Rattle.bits.proofs.Splice.{Written, written_none, filled_more, filled_all}
 use Rattle.spectra.specs.Spectrum.{reduce, coefficient, spectrum}
 use Rattle.spectra.specs.Recursion.{all_reduced}
 use Rattle.spectra.specs.declared.Kind.{Kind}
@@ -31,15 +30,12 @@ module _ (kind : Kind) {start : List ℕ} where
   reducing_none = written_none (le_of_eq (zero-add (length start)))
 
   module _ {out : List ℕ} {j : ℕ} (w : Reducing kind start out j) where
-    pub reducing_lt : j < length out → j < length start
-    reducing_lt h = subst (λ (x : ℕ). j < x) (written_length w) h
-
-    pub reducing_more : j < length out → Reducing kind start (set out j (reduce kind (get_or out j 0))) (j + 1)
+    pub reducing_more : j < length start → Reducing kind start (set out j (reduce kind (get_or out j 0))) (j + 1)
     reducing_more h =
-        filled_more w (reduce kind (get_or out j 0)) (reducing_lt h) (ap (reduce kind) (written_after w j (le_of_eq (zero-add j))))
+        filled_more w (reduce kind (get_or out j 0)) h (ap (reduce kind) (written_after w j (le_of_eq (zero-add j))))
 
-    pub reducing_all : length out ≤ j → out ≡ all_reduced kind start
-    reducing_all h = filled_all w refl (subst (λ (x : ℕ). x ≤ j) (written_length w) h)
+    pub reducing_all : length start ≤ j → out ≡ all_reduced kind start
+    reducing_all h = filled_all w refl h
 
 pub spectrum_reduced : (kind : Kind) (n k : ℕ) (e : ℕ → ℕ) → all_reduced kind (spectrum Mrm n k e) ≡ spectrum kind n k e
 unfolding spectrum coefficient

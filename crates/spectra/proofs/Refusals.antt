@@ -1,12 +1,12 @@
 -- What the operations on tables answer and leave, case by case (specs/Operations.antt, specs/Rows.antt).
 --
---   tables_low, tables_high, tables_wrong, tables_right   the checks of tables: 2 twice, 12, none
+--   tables_unfit, tables_wrong, tables_right   the checks of tables: 2, 12, none
 --   filled_unchecked, filled_polarity, filled_memory, filled_done   the spectra of tables: 2 or 12, 13, 10, success
 --   rows_room               the places of tables that pass the checks are a number
 --   spectrum_left           the spectrum of a table is what is left of one row
---   row_done                memory of its size holds it where no test fails
+--   one_row                 of one table memory of its size holds it
 use Prim.Native.Nat.{ℕ, ◌-◌, ◌*◌, ◌^◌, ◌≤◌, ◌<◌}
-use native.Mathlib.Nat.{one-mul, le_of_eq, mul-le-mul, lt_of_le_of_lt}
+use native.Mathlib.Nat.{one-mul, mul-le-mul, lt_of_le_of_lt}
 use native.Mathlib.Omega.{arith}
 use mathlib.Core.Path.{◌≡◌, refl, sym, ap, ap₂, subst, ◌∙◌}
 use mathlib.Core.Bool.{Bool, true, false, ◌&&◌}
@@ -15,7 +15,7 @@ use borrow.Author.Tests.{eqb-true, le-leb, lt-leb, lt-ltb, le-ltb}
 use lib.Dec.{leb, eqb}
 use lib.ListN.{length, drop, drop_of_length-le}
 use lib.Pow.{pow_mono}
-use Rattle.bits.specs.Answer.{Answer, Fills, Leaves, leaves, unless, onward}
+use Rattle.bits.specs.Answer.{Answer, Fills, leaves, unless, onward}
 use Rattle.bits.specs.Answer.Answer.{gives, refused}
 use Rattle.bits.specs.Blocks.{block}
 use Rattle.bits.specs.Packed.{entry}
@@ -31,7 +31,6 @@ use Rattle.spectra.specs.Operations.{zero_from, table_ok, table_row, rows_in, ro
 use Rattle.spectra.specs.Rows.{rows_filled, row_spectra, rows_of, one_table}
 use Rattle.spectra.specs.Spectrum.{spectrum}
 use Rattle.spectra.specs.declared.Kind.{Kind}
-use Rattle.spectra.proofs.Bounds.{length_spectrum}
 use Rattle.spectra.proofs.Families.{Fits, unchecked, checked, rows_family}
 use Rattle.spectra.proofs.Rows.{length_row_spectra, row_whole}
 use Rattle.spectra.proofs.Sizes.{one_output}
@@ -40,21 +39,17 @@ use Rattle.spectra.proofs.TableTests.{rows_few}
 -- ---- the checks of tables
 
 module _ (counts : Counts) (s : List ℕ) where
-  pub tables_low : counts.inputs < 1 → refused 2 ≡ tables_checked counts s
+  pub tables_unfit : inputs_ok counts.inputs ≡ false → refused 2 ≡ tables_checked counts s
   unfolding tables_checked
-  tables_low h = simp (lt-leb 1 counts.inputs h)
+  tables_unfit h = simp h
 
-  pub tables_high : 1 ≤ counts.inputs → max_inputs < counts.inputs → refused 2 ≡ tables_checked counts s
+  pub tables_wrong : inputs_ok counts.inputs ≡ true → tables_ok counts s ≡ false → refused 12 ≡ tables_checked counts s
   unfolding tables_checked
-  tables_high h l = simp (le-leb 1 counts.inputs h, lt-leb counts.inputs max_inputs l)
+  tables_wrong h e = simp (h, e)
 
-  pub tables_wrong : 1 ≤ counts.inputs → counts.inputs ≤ max_inputs → tables_ok counts s ≡ false → refused 12 ≡ tables_checked counts s
+  pub tables_right : inputs_ok counts.inputs ≡ true → tables_ok counts s ≡ true → gives tt ≡ tables_checked counts s
   unfolding tables_checked
-  tables_wrong h l e = simp (le-leb 1 counts.inputs h, le-leb counts.inputs max_inputs l, e)
-
-  pub tables_right : 1 ≤ counts.inputs → counts.inputs ≤ max_inputs → tables_ok counts s ≡ true → gives tt ≡ tables_checked counts s
-  unfolding tables_checked
-  tables_right h l e = simp (le-leb 1 counts.inputs h, le-leb counts.inputs max_inputs l, e)
+  tables_right h e = simp (h, e)
 
 -- ---- the spectra of tables
 
@@ -152,15 +147,11 @@ spectrum_left n s kind k out e =
     ap (λ (x : Counts). leaves (rows_of x s kind k (length out)) out) e
     ∙ ap (λ (x : Answer (Fills (Unit {0}))). leaves x out) (spectrum_row n s kind k (length out))
 
-pub row_done : (kind : Kind) (n k : ℕ) (s out : List ℕ) {answer : Answer (Unit {0})} {after : List ℕ} → 1 ≤ n → n ≤ max_inputs → table_ok n s ≡ true
-    → k < 2 ^ n → length out ≡ 2 ^ n → record { answer = answer; memory = after } ≡ leaves (spectrum_of n s kind k (length out)) out
-    → after ≡ spectrum kind n k (entry s)
-unfolding spectrum_of
-row_done kind n k s out some few ok h size p =
-    let gave : spectrum_of n s kind k (length out) ≡ gives (record { value = tt; filled = spectrum kind n k (entry s) }) =
-    simp (le-leb 1 n some, le-leb n max_inputs few, ok, lt-ltb k (2 ^ n) h, le-leb (2 ^ n) (length out) (le_of_eq (sym size))) in
-    ap (λ (l : Leaves (Unit {0})). l.memory) p
-    ∙ ap (λ (x : Answer (Fills (Unit {0}))). (leaves x out).memory) gave
-    ∙ ap (λ (l : List ℕ). spectrum kind n k (entry s) ++ l)
-    (drop_of_length-le out {i = length (spectrum kind n k (entry s))} (rw length_spectrum (le_of_eq size)))
+pub one_row : (kind : Kind) (n k : ℕ) (s out : List ℕ) {after : List ℕ} → length s ≡ table_bytes n → length out ≡ 2 ^ n
+    → after ≡ rows_filled kind n k s 1 out → after ≡ spectrum kind n k (entry s)
+unfolding block
+one_row kind n k s out whole size p =
+    p
+    ∙ ap (λ (l : List ℕ). spectrum kind n k (entry l) ++ drop (1 * 2 ^ n) out) (row_whole n s whole)
+    ∙ ap (λ (l : List ℕ). spectrum kind n k (entry s) ++ l) (drop_of_length-le out {i = 1 * 2 ^ n} (omega arith))
     ∙ append-nil (spectrum kind n k (entry s))

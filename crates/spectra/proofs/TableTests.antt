@@ -14,10 +14,11 @@
 --   testing_next     one row more is a table
 --   testing_stop     a row is none
 --   testing_end      all are
---   faults_many, outputs_none, outputs_many   more faults or outputs than a job may have, or no output
+--   counted          the counts are no more than a job may have, and there is an output
+--   counted_faults, counted_outputs   so the faults and the outputs are few
 --   rows_few         no more rows than there may be
 --   rows_fit, circuits_fit   the rows and the circuits are numbers
---   tables_counted   of so many the rows are left to test
+--   tables_counted   the tests of the counts and of the rows are that of the tables
 use Prim.Native.Nat.{ℕ, zero, suc, ◌+◌, ◌-◌, ◌*◌, ◌/◌, ◌%◌, ◌^◌, ◌≤◌, ◌<◌}
 use native.Mathlib.Nat.{mul-one, zero-mul, zero-add, suc-mul, le_antisymm, le_of_eq, mul-le-mul, lt_of_le_of_lt}
 use native.Mathlib.Numerals.{add-one}
@@ -26,14 +27,14 @@ use mathlib.Core.Path.{◌≡◌, refl, sym, ap, ap₂, subst, ◌∙◌}
 use mathlib.Core.Bool.{Bool, true, false, not, ◌&&◌}
 use mathlib.Core.List.{List}
 use mathlib.Core.Logic.{⊎_elim}
-use borrow.Author.Tests.{eq-eqb, ne_eqb, le-leb, lt-leb, not-true, not-false}
-use lib.Dec.{eqb}
+use borrow.Author.Tests.{eq-eqb, ne_eqb, leb-true, not-true, not-false}
+use lib.Dec.{leb, eqb}
 use lib.ListN.{length, get_or, take, drop}
 use lib.Pow.{pow_pos, pow_mono, pow-add, mod-pow-add}
 use Rattle.bits.specs.Packed.{entry}
 use Rattle.bits.proofs.Below.{lt_or_ge}
 use Rattle.bits.proofs.Packed.{entry_digit}
-use Rattle.bits.proofs.Tests.{and_i}
+use Rattle.bits.proofs.Tests.{and_l, and_r, and_i}
 use Rattle.bits.specs.Sizes.{table_bytes}
 use Rattle.job.specs.Layout.{max_outputs, max_faults}
 use Rattle.tables.specs.declared.Counts.{Counts}
@@ -168,21 +169,23 @@ rows_fit h l = omega (arith, rows_few h l, all_rows_fit)
 pub circuits_fit : {faults : ℕ} → faults ≤ max_faults → faults + 1 < 2 ^ 64
 circuits_fit {faults} h = subst (λ (x : ℕ). x < 2 ^ 64) (mul-one (faults + 1)) (rows_fit h one_output)
 
-module _ (counts : Counts) (s : List ℕ) where
-  pub faults_many : max_faults < counts.faults → false ≡ tables_ok counts s
-  unfolding tables_ok
-  faults_many h = simp (lt-leb counts.faults max_faults h)
+-- no more faults and outputs than a job may have, and an output
+abbrev pub counted : Counts → Bool
+counted counts = leb counts.faults max_faults && (leb 1 counts.outputs && leb counts.outputs max_outputs)
 
-  module _ (few : counts.faults ≤ max_faults) where
-    pub outputs_none : counts.outputs < 1 → false ≡ tables_ok counts s
-    unfolding tables_ok
-    outputs_none h = simp (le-leb counts.faults max_faults few, lt-leb 1 counts.outputs h)
+pub counted_faults : (counts : Counts) → counted counts ≡ true → counts.faults ≤ max_faults
+counted_faults counts h = leb-true counts.faults max_faults (and_l _ _ h)
 
-    module _ (one : 1 ≤ counts.outputs) where
-      pub outputs_many : max_outputs < counts.outputs → false ≡ tables_ok counts s
-      unfolding tables_ok
-      outputs_many h = simp (le-leb counts.faults max_faults few, le-leb 1 counts.outputs one, lt-leb counts.outputs max_outputs h)
+pub counted_outputs : (counts : Counts) → counted counts ≡ true → counts.outputs ≤ max_outputs
+counted_outputs counts h = leb-true counts.outputs max_outputs (and_r (leb 1 counts.outputs) _ (and_r (leb counts.faults max_faults) _ h))
 
-      pub tables_counted : counts.outputs ≤ max_outputs → all_rows_ok counts.inputs (rows_in counts) s ≡ tables_ok counts s
-      unfolding tables_ok
-      tables_counted h = simp (le-leb counts.faults max_faults few, le-leb 1 counts.outputs one, le-leb counts.outputs max_outputs h)
+regroup : (a b c d : Bool) → a && (b && c) && d ≡ a && (b && (c && d))
+regroup true true c d = refl
+regroup true false c d = refl
+regroup false b c d = refl
+
+pub tables_counted : (counts : Counts) (s : List ℕ) {t : Bool} → t ≡ counted counts → t && all_rows_ok counts.inputs (rows_in counts) s ≡ tables_ok counts s
+unfolding tables_ok
+tables_counted counts s e =
+    ap (λ (t : Bool). t && all_rows_ok counts.inputs (rows_in counts) s) e
+    ∙ regroup (leb counts.faults max_faults) (leb 1 counts.outputs) (leb counts.outputs max_outputs) (all_rows_ok counts.inputs (rows_in counts) s)

@@ -8,16 +8,14 @@
 --   byte_entry    entry t mod 8 of a byte, the first its highest bit
 --   byte_sums     the MRM spectrum of a byte's eight entries in polarity k, sum by sum
 --   half_byte     byte i of those of which one half is 0: sixteen with lower halves that are 0, and then sixteen with upper halves that are 0
---   half_sums     their spectra, one after the other; `half_rows` has the first i
---   eight_from    eight numbers of a list, from a place on
---   eight_sums    the sums of two rows of eight
---   SumsFit       each of them fits a u16
+--   half_sums     their spectra
+--   sum_at        number j of two rows, added
 --   Summed        the sums are those for the three lowest bits of the polarity, where there is a leaf
 --   Asks          what the transform asks, of so many places of memory and so many bytes of tables
 --   LeafAsks      what a leaf asks: what the transform of three inputs does, in some polarity
 --   LeafMade      what a leaf makes, in whatever polarity that is
-use Rattle.std.specs.Prelude.{ℕ, ◌+◌, ◌≤◌, ◌-◌, ◌*◌, ◌/◌, ◌%◌, ◌^◌, ◌<◌, List, ◌++◌, [], ◌∷◌, length, get_or, ◌≡◌}
-use Rattle.bits.specs.Blocks.{block}
+use Rattle.std.specs.Prelude.{ℕ, ◌+◌, ◌≤◌, ◌-◌, ◌*◌, ◌/◌, ◌%◌, ◌^◌, ◌<◌, List, ◌++◌, [], ◌∷◌, map, length, get_or, ◌≡◌}
+use Rattle.std.specs.List.{range_with_len}
 use Rattle.bits.specs.Packed.{entry, tabulate}
 use Rattle.spectra.specs.Spectrum.{reduce, spectrum}
 use Rattle.spectra.specs.declared.Kind.{Kind}
@@ -56,38 +54,17 @@ byte_sums k byte =
 abbrev pub half_byte : ℕ → ℕ
 half_byte i = i % 16 * (16 - 15 * (i / 16))
 
-abbrev pub half_rows : ℕ → ℕ → List ℕ
-half_rows k i = block i (λ r. byte_sums k (half_byte r))
-
-abbrev pub half_sums : ℕ → List ℕ
-half_sums k = half_rows k 32
-
-abbrev pub eight_from : List ℕ → ℕ → List ℕ
-eight_from l at =
-    get_or l at 0 ∷ get_or l (at + 1) 0 ∷ get_or l (at + 2) 0 ∷ get_or l (at + 3) 0 ∷ get_or l (at + 4) 0 ∷ get_or l (at + 5) 0 ∷ get_or l (at + 6) 0 ∷ get_or l (at + 7) 0 ∷ []
+unfoldable pub half_sums : ℕ → List (List ℕ)
+half_sums k = map (λ i. byte_sums k (half_byte i)) (range_with_len 0 32)
 
 -- number j of two rows, added
 abbrev pub sum_at : List ℕ → List ℕ → ℕ → ℕ
 sum_at x y j = get_or x j 0 + get_or y j 0
 
-abbrev pub eight_sums : List ℕ → List ℕ → List ℕ
-eight_sums x y =
-    sum_at x y 0 ∷ sum_at x y 1 ∷ sum_at x y 2 ∷ sum_at x y 3 ∷ sum_at x y 4 ∷ sum_at x y 5 ∷ sum_at x y 6 ∷ sum_at x y 7 ∷ []
-
-pub record SumsFit (x y : List ℕ) : Type 0 where
-  pub fit0 : sum_at x y 0 < 2 ^ 16
-  pub fit1 : sum_at x y 1 < 2 ^ 16
-  pub fit2 : sum_at x y 2 < 2 ^ 16
-  pub fit3 : sum_at x y 3 < 2 ^ 16
-  pub fit4 : sum_at x y 4 < 2 ^ 16
-  pub fit5 : sum_at x y 5 < 2 ^ 16
-  pub fit6 : sum_at x y 6 < 2 ^ 16
-  pub fit7 : sum_at x y 7 < 2 ^ 16
-
-abbrev pub Summed : ℕ → ℕ → List ℕ → Type 0
+abbrev pub Summed : ℕ → ℕ → List (List ℕ) → Type 0
 Summed n k sums = 3 ≤ n → sums ≡ half_sums (k % 8)
 
-pub record Asks (places : ℕ) (sums : List ℕ) (len at n k : ℕ) : Type 0 where
+pub record Asks (places : ℕ) (sums : List (List ℕ)) (len at n k : ℕ) : Type 0 where
   pub few : n ≤ 15
   pub room : places ≡ 2 ^ n
   pub polarity : k < 2 ^ n
@@ -96,9 +73,9 @@ pub record Asks (places : ℕ) (sums : List ℕ) (len at n k : ℕ) : Type 0 whe
   pub whole : 3 ≤ n → at % 8 ≡ 0
   pub summed : Summed n k sums
 
-pub record LeafAsks (places : ℕ) (sums : List ℕ) (len at : ℕ) : Type 0 where
+pub record LeafAsks (places : ℕ) (sums : List (List ℕ)) (len at : ℕ) : Type 0 where
   pub polarity : ℕ
   pub asks : Asks places sums len at 3 polarity
 
-abbrev pub LeafMade : ℕ → List ℕ → List ℕ → ℕ → List ℕ → Type 0
+abbrev pub LeafMade : ℕ → List (List ℕ) → List ℕ → ℕ → List ℕ → Type 0
 LeafMade places sums s at out = (k : ℕ) → Asks places sums (length s) at 3 k → out ≡ spectrum Mrm 3 k (entries_from s at)

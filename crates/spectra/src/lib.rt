@@ -17,14 +17,14 @@ ghost use Rattle.spectra.specs.Parities.{parity_at, Closed, Packs, Lent};
 ghost use Rattle.spectra.specs.Rows.{max_rows, one_table};
 ghost use Rattle.spectra.specs.Spectrum.{recovered};
 
-use bits::{Outcome, Refusal};
+use bits::Refusal;
 use job::{MAX_FAULTS, MAX_INPUTS, MAX_OUTPUTS};
 use tables::{Counts, MAX_TABLE_BYTES};
 
 mod transform;
 
 // The kind of a spectrum: Reed-Muller, or modified Reed-Muller.
-#[derive(Clone, Copy)]
+#[derive(Clone, Copy, Debug, PartialEq, Eq)]
 pub enum Kind {
     Rm,
     Mrm,
@@ -38,13 +38,11 @@ fn table_ok(table: &[u8], n: usize) -> bool
     if table.len() != bits::table_bytes(n) {
         return false;
     }
-    if n == 1 {
-        return table[0] % 64 == 0;
+    match n {
+        1 => table[0] % 64 == 0,
+        2 => table[0] % 16 == 0,
+        _ => true,
     }
-    if n == 2 {
-        return table[0] % 16 == 0;
-    }
-    true
 }
 
 // Whether the bytes are so many packed tables of n inputs, row after row.
@@ -56,12 +54,10 @@ fn rows_ok(tables: &[u8], n: usize, rows: usize) -> bool
     if tables.len() != rows * bytes {
         return false;
     }
-    let mut r = 0;
-    while r < rows {
+    for r in 0..rows {
         if !table_ok(&tables[r * bytes..r * bytes + bytes], n) {
             return false;
         }
-        r += 1;
     }
     true
 }
@@ -71,67 +67,67 @@ fn tables_ok(counts: Counts, tables: &[u8]) -> bool
     requires { (1 ≤ counts.inputs) × (counts.inputs ≤ 15) }
     ensures { result ≡ tables_ok counts tables.now }
 {
-    if MAX_FAULTS < counts.faults {
-        return false;
-    }
-    if counts.outputs < 1 {
-        return false;
-    }
-    if MAX_OUTPUTS < counts.outputs {
-        return false;
-    }
-    rows_ok(tables, counts.inputs, (counts.faults + 1) * counts.outputs)
+    counts.faults <= MAX_FAULTS
+        && (1..=MAX_OUTPUTS).contains(&counts.outputs)
+        && rows_ok(tables, counts.inputs, (counts.faults + 1) * counts.outputs)
 }
 
 // Whether the bytes are the packed tables of the counted circuits, one after the other: 2; 12.
-pub fn check_tables(counts: Counts, tables: &[u8]) -> Outcome
+pub fn check_tables(counts: Counts, tables: &[u8]) -> Result<(), Refusal>
     ensures { outcome result ≡ tables_checked counts tables.now }
 {
-    if counts.inputs < 1 {
-        return Outcome::Refused(Refusal::Inputs);
-    }
-    if MAX_INPUTS < counts.inputs {
-        return Outcome::Refused(Refusal::Inputs);
+    if !(1..=MAX_INPUTS).contains(&counts.inputs) {
+        return Err(Refusal::Inputs);
     }
     if !tables_ok(counts, tables) {
-        return Outcome::Refused(Refusal::Table);
+        return Err(Refusal::Table);
     }
-    Outcome::Done
+    Ok(())
 }
 
 // The spectra of the counted circuits, from their tables: 2; 12; 13; 10.
-pub fn fill(counts: Counts, tables: &[u8], kind: Kind, polarity: usize, work: &mut [u16]) -> Outcome
+pub fn fill(
+    counts: Counts,
+    tables: &[u8],
+    kind: Kind,
+    polarity: usize,
+    work: &mut [u16],
+) -> Result<(), Refusal>
     ensures { record { answer = outcome result; memory = work.new } ≡ leaves (from_tables counts tables.now (λ F. filled_from F kind polarity (length work.old))) work.old }
 {
-    let checked = check_tables(counts, tables);
-    if let Outcome::Refused(cause) = checked {
-        return Outcome::Refused(cause);
-    }
+    check_tables(counts, tables)?;
     let n = counts.inputs;
     let rows = (counts.faults + 1) * counts.outputs;
     let size = bits::table_size(n);
     if size <= polarity {
-        return Outcome::Refused(Refusal::Polarity);
+        return Err(Refusal::Polarity);
     }
     if work.len() < rows * size {
-        return Outcome::Refused(Refusal::Memory);
+        return Err(Refusal::Memory);
     }
     transform::fill_rows(work, tables, n, rows, polarity, kind);
-    Outcome::Done
+    Ok(())
 }
 
 // The counts of one table.
 fn one_table(n: usize) -> Counts
     ensures { result ≡ one_table n }
 {
-    let mut counts = tables::no_counts();
-    counts.inputs = n;
-    counts.outputs = 1;
-    counts
+    Counts {
+        inputs: n,
+        outputs: 1,
+        ..tables::no_counts()
+    }
 }
 
 // The spectrum of one packed table, as that of one circuit: 2; 12; 13; 10.
-pub fn spectrum(n: usize, table: &[u8], kind: Kind, polarity: usize, out: &mut [u16]) -> Outcome
+pub fn spectrum(
+    n: usize,
+    table: &[u8],
+    kind: Kind,
+    polarity: usize,
+    out: &mut [u16],
+) -> Result<(), Refusal>
     ensures { record { answer = outcome result; memory = out.new } ≡ leaves (spectrum_of n table.now kind polarity (length out.old)) out.old }
 {
     fill(one_table(n), table, kind, polarity, out)
@@ -158,10 +154,8 @@ fn packed_byte(numbers: &[u16], first: usize, k: usize) -> u8
     ensures { result ≡ value_from 0 (tabulate 8 (λ t. at (tabulate (length numbers.now) (parity_at numbers.now k)) (first + t))) }
 {
     let mut byte: u8 = 0;
-    let mut m = 0;
-    while m < 8 {
+    for m in 0..8 {
         byte = byte * 2 + parity(numbers, first + m, k);
-        m += 1;
     }
     byte
 }
@@ -171,10 +165,8 @@ fn pack(table: &mut [u8], numbers: &[u16], k: usize)
     requires { Packs k numbers.now table.old }
     ensures { table.new ≡ packed (length numbers.now) (parity_at numbers.now k) }
 {
-    let mut i = 0;
-    while i < table.len() {
-        table[i] = packed_byte(numbers, 8 * i, k);
-        i += 1;
+    for (i, byte) in table.iter_mut().enumerate() {
+        *byte = packed_byte(numbers, 8 * i, k);
     }
 }
 
@@ -184,25 +176,8 @@ fn recover(table: &mut [u8], sums: &mut [u16], numbers: &[u16], n: usize, k: usi
     ensures { table.new ≡ packed (2 ^ n) (recovered n k (at numbers.now)) }
 {
     pack(table, numbers, 0);
-    spectrum(n, table, Kind::Rm, 0, sums);
+    transform::fill_rows(sums, table, n, 1, 0, Kind::Rm);
     pack(table, sums, k);
-}
-
-// Whether two slices hold the same numbers.
-fn same(a: &[u16], b: &[u16]) -> bool
-    ensures { result ≡ same_numbers a.now b.now }
-{
-    if a.len() != b.len() {
-        return false;
-    }
-    let mut i = 0;
-    while i < a.len() {
-        if a[i] != b[i] {
-            return false;
-        }
-        i += 1;
-    }
-    true
 }
 
 // Recovers the table, makes its spectrum, and compares.
@@ -214,38 +189,41 @@ fn undo_in(
     kind: Kind,
     k: usize,
     out: &mut [u8],
-) -> Outcome
+) -> Result<(), Refusal>
     requires { Lent n k numbers.now table.old sums.old }
     ensures { record { answer = outcome result; memory = out.new } ≡ leaves (undone_of n numbers.now kind k (length out.old)) out.old }
 {
     recover(table, sums, numbers, n, k);
-    spectrum(n, table, kind, k, sums);
-    if !same(numbers, sums) {
-        return Outcome::Refused(Refusal::NoSpectrum);
+    transform::fill_rows(sums, table, n, 1, k, kind);
+    if numbers != sums {
+        return Err(Refusal::NoSpectrum);
     }
     if out.len() < table.len() {
-        return Outcome::Refused(Refusal::Memory);
+        return Err(Refusal::Memory);
     }
-    bits::copy(out, 0, table, 0, table.len());
-    Outcome::Done
+    out[..table.len()].copy_from_slice(table);
+    Ok(())
 }
 
 // The table of a spectrum: 2; 13; 14, not exactly N numbers or no table has this spectrum; 10.
-pub fn undo(n: usize, numbers: &[u16], kind: Kind, polarity: usize, out: &mut [u8]) -> Outcome
+pub fn undo(
+    n: usize,
+    numbers: &[u16],
+    kind: Kind,
+    polarity: usize,
+    out: &mut [u8],
+) -> Result<(), Refusal>
     ensures { record { answer = outcome result; memory = out.new } ≡ leaves (undone_of n numbers.now kind polarity (length out.old)) out.old }
 {
-    if n < 1 {
-        return Outcome::Refused(Refusal::Inputs);
-    }
-    if MAX_INPUTS < n {
-        return Outcome::Refused(Refusal::Inputs);
+    if !(1..=MAX_INPUTS).contains(&n) {
+        return Err(Refusal::Inputs);
     }
     let size = bits::table_size(n);
     if size <= polarity {
-        return Outcome::Refused(Refusal::Polarity);
+        return Err(Refusal::Polarity);
     }
     if numbers.len() != size {
-        return Outcome::Refused(Refusal::NoSpectrum);
+        return Err(Refusal::NoSpectrum);
     }
     let bytes = (size + 7) / 8;
     let mut table = [0u8; MAX_TABLE_BYTES];

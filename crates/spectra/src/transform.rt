@@ -11,12 +11,11 @@
 ghost use Rattle.std.specs.Prelude.{◌+◌, ◌*◌, ◌/◌, ◌%◌, ◌^◌, ◌≤◌, ◌<◌, length, take, drop, ◌≡◌};
 ghost use Rattle.bits.specs.Packed.{entry};
 ghost use Rattle.spectra.specs.Rows.{rows_filled};
-ghost use Rattle.spectra.specs.Recursion.{byte_sums, half_byte, half_sums, eight_from, eight_sums, SumsFit, Summed, Asks, LeafAsks, LeafMade, entries_from, Most, combined, all_reduced};
+ghost use Rattle.spectra.specs.Recursion.{byte_sums, half_byte, half_sums, Summed, Asks, LeafAsks, LeafMade, entries_from, Most, combined, all_reduced};
 ghost use Rattle.spectra.specs.Spectrum.{spectrum};
 ghost use Rattle.spectra.specs.declared.Kind.TheVariants.{Rm, Mrm};
 ghost use Rattle.job.specs.Layout.{max_inputs};
 ghost use Rattle.bits.specs.Sizes.{table_bytes};
-ghost use Rattle.bits.specs.Slices.{splice};
 
 use crate::Kind;
 
@@ -29,14 +28,13 @@ fn entry_at(table: &[u8], m: usize) -> u16
 }
 
 // Combines the sums of the two halves: the upper half becomes the sum of both. The numbers are small enough that their sums fit.
+// It takes one slice and goes by an index: of two slices, as of `split_at_mut`, it would first have to be tested that they are apart.
 fn combine(out: &mut [u16], half: usize)
     requires { (half + half ≡ length out.old) × Most (2 ^ 14) out.old }
     ensures { out.new ≡ combined half (take half out.old) (drop half out.old) }
 {
-    let mut i = 0;
-    while i < half {
+    for i in 0..half {
         out[half + i] = out[i] + out[half + i];
-        i += 1;
     }
 }
 
@@ -69,52 +67,6 @@ fn byte_sums(byte: u8, k: usize) -> [u16; 8]
     ]
 }
 
-// Writes a row of eight numbers from `to` on.
-fn put_eight(out: &mut [u16], to: usize, x: [u16; 8])
-    requires { to + 8 ≤ length out.old }
-    ensures { out.new ≡ splice out.old to x }
-{
-    let mut j = 0;
-    while j < 8 {
-        out[to + j] = x[j];
-        j += 1;
-    }
-}
-
-// A row of eight numbers. All are read at once, so that a row is one vector.
-fn eight_at(sums: &[u16], at: usize) -> [u16; 8]
-    requires { (at + 8 ≤ length sums.now) × (at < 256) }
-    ensures { result ≡ eight_from sums.now at }
-{
-    [
-        sums[at],
-        sums[at + 1],
-        sums[at + 2],
-        sums[at + 3],
-        sums[at + 4],
-        sums[at + 5],
-        sums[at + 6],
-        sums[at + 7],
-    ]
-}
-
-// The sums of two rows of eight, as one vector.
-fn added(x: [u16; 8], y: [u16; 8]) -> [u16; 8]
-    requires { SumsFit x y }
-    ensures { result ≡ eight_sums x y }
-{
-    [
-        x[0] + y[0],
-        x[1] + y[1],
-        x[2] + y[2],
-        x[3] + y[3],
-        x[4] + y[4],
-        x[5] + y[5],
-        x[6] + y[6],
-        x[7] + y[7],
-    ]
-}
-
 // Byte i of those of which one half is 0: sixteen have the number in their upper half, and then sixteen in their lower half. Rows are made
 // side by side, so that a product takes less time than a test.
 fn half_byte(i: u8) -> u8
@@ -124,43 +76,46 @@ fn half_byte(i: u8) -> u8
     i % 16 * (16 - 15 * (i / 16))
 }
 
-// The MRM spectra of these bytes, for the three lowest bits of a polarity.
-fn half_sums(sums: &mut [u16], k: usize)
-    requires { (length sums.old ≡ 256) × (k < 8) }
+// The MRM spectra of these bytes, for the three lowest bits of a polarity. They are written into a lent array: a returned one would be copied.
+type HalfSums = [[u16; 8]; 32];
+
+fn half_sums(sums: &mut HalfSums, k: usize)
+    requires { k < 8 }
     ensures { sums.new ≡ half_sums k }
 {
-    let mut i: u8 = 0;
-    while i < 32 {
-        put_eight(sums, i as usize * 8, byte_sums(half_byte(i), k));
-        i += 1;
+    for (i, row) in sums.iter_mut().enumerate() {
+        *row = byte_sums(half_byte(i as u8), k);
     }
 }
 
 // The MRM spectrum of three inputs, from one byte: the sums of its halves, added.
-fn leaf(out: &mut [u16], sums: &[u16], table: &[u8], at: usize)
+fn leaf(out: &mut [u16], sums: &HalfSums, table: &[u8], at: usize)
     requires { LeafAsks (length out.old) sums.now (length table.now) at }
     ensures { LeafMade (length out.old) sums.now table.now at out.new }
 {
     let byte = table[at / 8];
-    let upper = eight_at(sums, (byte / 16) as usize * 8);
-    let lower = eight_at(sums, (16 + byte % 16) as usize * 8);
-    put_eight(out, 0, added(upper, lower));
+    let upper = sums[(byte / 16) as usize];
+    let lower = sums[(16 + byte % 16) as usize];
+    for j in 0..8 {
+        out[j] = upper[j] + lower[j];
+    }
 }
 
 // That of four inputs: both halves are bytes. It is the step of the transform with the leaf as its inner call, which saves half of all calls.
-fn four(out: &mut [u16], sums: &[u16], table: &[u8], at: usize, k: usize)
+fn four(out: &mut [u16], sums: &HalfSums, table: &[u8], at: usize, k: usize)
     requires { Asks (length out.old) sums.now (length table.now) at 4 k }
     ensures { out.new ≡ spectrum Mrm 4 k (entries_from table.now at) }
 {
     let top = k / 8;
-    leaf(&mut out[..8], sums, table, at + top * 8);
-    leaf(&mut out[8..], sums, table, at + (1 - top) * 8);
+    let (lower, upper) = out.split_at_mut(8);
+    leaf(lower, sums, table, at + top * 8);
+    leaf(upper, sums, table, at + (1 - top) * 8);
     combine(out, 8);
 }
 
 // The MRM spectrum of the 2 to the power n entries from `at` on. "The spectrum of n inputs is combined from those of its two halves
 // ..; the halves change places where the top bit of k is 1."
-fn transform(out: &mut [u16], sums: &[u16], table: &[u8], at: usize, n: usize, k: usize)
+fn transform(out: &mut [u16], sums: &HalfSums, table: &[u8], at: usize, n: usize, k: usize)
     requires { Asks (length out.old) sums.now (length table.now) at n k }
     ensures { out.new ≡ spectrum Mrm n k (entries_from table.now at) }
 {
@@ -179,15 +134,9 @@ fn transform(out: &mut [u16], sums: &[u16], table: &[u8], at: usize, n: usize, k
     let half = 1 << (n - 1);
     let top = k / half;
     let rest = k % half;
-    transform(&mut out[..half], sums, table, at + top * half, n - 1, rest);
-    transform(
-        &mut out[half..],
-        sums,
-        table,
-        at + (1 - top) * half,
-        n - 1,
-        rest,
-    );
+    let (lower, upper) = out.split_at_mut(half);
+    transform(lower, sums, table, at + top * half, n - 1, rest);
+    transform(upper, sums, table, at + (1 - top) * half, n - 1, rest);
     combine(out, half);
 }
 
@@ -195,15 +144,13 @@ fn transform(out: &mut [u16], sums: &[u16], table: &[u8], at: usize, n: usize, k
 fn parities(sums: &mut [u16])
     ensures { sums.new ≡ all_reduced Rm sums.old }
 {
-    let mut j = 0;
-    while j < sums.len() {
-        sums[j] = sums[j] % 2;
-        j += 1;
+    for sum in sums.iter_mut() {
+        *sum = *sum % 2;
     }
 }
 
 // The spectrum of one table: the kind comes last.
-fn transform_row(out: &mut [u16], sums: &[u16], table: &[u8], n: usize, k: usize, kind: Kind)
+fn transform_row(out: &mut [u16], sums: &HalfSums, table: &[u8], n: usize, k: usize, kind: Kind)
     requires { Asks (length out.old) sums.now (length table.now) 0 n k }
     ensures { out.new ≡ spectrum kind n k (entries_from table.now 0) }
 {
@@ -217,7 +164,7 @@ fn transform_row(out: &mut [u16], sums: &[u16], table: &[u8], n: usize, k: usize
 // The spectra of tables that stand row after row.
 fn transform_rows(
     work: &mut [u16],
-    sums: &[u16],
+    sums: &HalfSums,
     tables: &[u8],
     n: usize,
     rows: usize,
@@ -229,8 +176,7 @@ fn transform_rows(
 {
     let size = bits::table_size(n);
     let bytes = bits::table_bytes(n);
-    let mut r = 0;
-    while r < rows {
+    for r in 0..rows {
         transform_row(
             &mut work[r * size..r * size + size],
             sums,
@@ -239,7 +185,6 @@ fn transform_rows(
             k,
             kind,
         );
-        r += 1;
     }
 }
 
@@ -255,7 +200,7 @@ pub(crate) fn fill_rows(
     requires { (n ≤ max_inputs) × (k < 2 ^ n) × (rows * 2 ^ n ≤ length work.old) × (rows * table_bytes n ≤ length tables.now) }
     ensures { work.new ≡ rows_filled kind n k tables.now rows work.old }
 {
-    let mut sums = [0u16; 256];
+    let mut sums = [[0; 8]; 32];
     half_sums(&mut sums, k % 8);
     transform_rows(work, &sums, tables, n, rows, k, kind);
 }

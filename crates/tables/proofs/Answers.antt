@@ -8,19 +8,15 @@ use mathlib.Core.Path.{◌≡◌, sym, ap, ap₂, subst, ◌∙◌}
 use mathlib.Core.List.{List}
 use borrow.Author.Tests.{lt-ltb, le-ltb, le-leb, lt-leb}
 use lib.ListN.{length}
-use Rattle.bits.specs.Answer.{Answer, Fills, leaves, number, outcome}
+use Rattle.bits.specs.Answer.{Answer, Fills, leaves}
 use Rattle.bits.specs.Answer.Answer.{gives, refused}
-use Rattle.bits.specs.declared.Refusal.{Refusal}
-use Rattle.bits.specs.declared.Refusal.TheVariants.{Memory}
-use Rattle.bits.specs.declared.Outcome.TheVariants.{Refused}
 use Rattle.job.specs.declared.Job.{Job}
 use Rattle.reading.specs.Reading.{reading}
 use Rattle.bits.specs.Sizes.{table_bytes}
 use Rattle.bits.specs.Slices.{splice}
 use Rattle.tables.specs.Circuit.{circuit_table}
-use Rattle.tables.specs.Operations.{table_of, tables_of, tables_to, tables_bytes, counts_of, no_counts, delivered}
+use Rattle.tables.specs.Operations.{table_of, tables_of, tables_to, tables_bytes, counts_of, delivered}
 use Rattle.tables.specs.declared.Counts.{Counts}
-use Rattle.tables.specs.declared.Delivery.{Delivery}
 use Rattle.tables.proofs.WrittenTables.{length_tables_to}
 use Rattle.bits.proofs.Splice.{splice_start}
 
@@ -63,35 +59,27 @@ module _ (s out : List ℕ) (c o : ℕ) where
           (simp (e, le-leb c j.fault_count h, lt-ltb o j.output_count k, le-leb (table_bytes j.inputs) (length out) l)) p
 
 module _ (s out : List ℕ) where
-  module _ {r : Delivery} {cause : Refusal} (none : r ≡ record { outcome = Refused cause; counts = no_counts; bytes = 0 }) where
-    -- a refusal leaves the memory as it was, beside counts of 0
-    refuses : tables_of s (length out) ≡ refused (number cause)
-        → record { answer = outcome r.outcome; counts = r.counts; bytes = r.bytes; memory = out } ≡ delivered (tables_of s (length out)) out
-    refuses e =
-        ap (λ (x : Delivery). record { answer = outcome x.outcome; counts = x.counts; bytes = x.bytes; memory = out }) none
-        ∙ ap (λ (x : Answer (Fills Counts)). delivered x out) (sym e)
+  -- a refusal leaves the memory as it was
+  refuses : {k : ℕ} → tables_of s (length out) ≡ refused k → record { answer = refused k; memory = out } ≡ delivered (tables_of s (length out)) out
+  refuses e = ap (λ (x : Answer (Fills Counts)). delivered x out) (sym e)
 
-    pub tables_unread : reading s ≡ refused (number cause)
-        → record { answer = outcome r.outcome; counts = r.counts; bytes = r.bytes; memory = out } ≡ delivered (tables_of s (length out)) out
-    unfolding tables_of
-    tables_unread e = refuses (rw e)
+  pub tables_unread : {k : ℕ} → reading s ≡ refused k → record { answer = refused k; memory = out } ≡ delivered (tables_of s (length out)) out
+  unfolding tables_of
+  tables_unread e = refuses (rw e)
 
-    pub tables_memory : cause ≡ Memory → (j : Job) → reading s ≡ gives j → length out < tables_bytes j
-        → record { answer = outcome r.outcome; counts = r.counts; bytes = r.bytes; memory = out } ≡ delivered (tables_of s (length out)) out
-    unfolding tables_of
-    tables_memory m j e l =
-        let short : tables_of s (length out) ≡ refused 10 = simp (e, lt-leb (tables_bytes j) (length out) l) in
-        refuses (short ∙ ap (λ (x : Refusal). refused (number x)) (sym m))
+  pub tables_memory : (j : Job) → reading s ≡ gives j → length out < tables_bytes j → record { answer = refused 10; memory = out } ≡ delivered (tables_of s (length out)) out
+  unfolding tables_of
+  tables_memory j e l = refuses (simp (e, lt-leb (tables_bytes j) (length out) l))
 
   pub tables_done : (j : Job) → reading s ≡ gives j → {counts : Counts} {bytes : ℕ} (after : List ℕ) → counts ≡ counts_of j → bytes ≡ tables_bytes j
       → bytes ≤ length out → after ≡ splice out 0 (tables_to j (j.fault_count + 1))
-      → record { answer = gives tt; counts = counts; bytes = bytes; memory = after } ≡ delivered (tables_of s (length out)) out
+      → record { answer = gives (record { counts = counts; bytes = bytes }); memory = after } ≡ delivered (tables_of s (length out)) out
   unfolding tables_of
   tables_done j e {counts} {bytes} after counted size l p =
       let room : tables_bytes j ≤ length out = subst (λ (k : ℕ). k ≤ length out) size l in
       let gave : tables_of s (length out) ≡ gives (record { value = counts_of j; filled = tables_to j (j.fault_count + 1) }) =
       simp (e, le-leb (tables_bytes j) (length out) room) in
-      ap (λ (x : Counts). record { answer = gives tt; counts = x; bytes = bytes; memory = after }) counted
-      ∙ ap₂ (λ (n : ℕ) (m : List ℕ). record { answer = gives tt; counts = counts_of j; bytes = n; memory = m })
+      ap (λ (x : Counts). record { answer = gives (record { counts = x; bytes = bytes }); memory = after }) counted
+      ∙ ap₂ (λ (n : ℕ) (m : List ℕ). record { answer = gives (record { counts = counts_of j; bytes = n }); memory = m })
       (size ∙ sym (length_tables_to j (j.fault_count + 1))) (p ∙ splice_start out (tables_to j (j.fault_count + 1)))
       ∙ ap (λ (x : Answer (Fills Counts)). delivered x out) (sym gave)

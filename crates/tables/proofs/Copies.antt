@@ -14,34 +14,34 @@
 --   tables_put       the tables of all circuits are put
 --   Putting          the tables of the first faulty circuits are put, and the good circuit's rows stand
 --   putting_start    none is put yet
---   putting_within, putting_wide, putting_turn, putting_room   the next batch has faults of the job, rows, a circuit or more, and room
+--   putting_within, putting_rows, putting_turn, putting_room   the next batch has faults of the job, rows, a circuit or more, and room
 --   putting_place    its place fits a word
 --   putting_next     the tables of a batch are put
-use Prim.Native.Nat.{ℕ, ◌+◌, ◌-◌, ◌*◌, ◌/◌, ◌^◌, ◌≤◌, ◌<◌}
+use Prim.Native.Nat.{ℕ, min, ◌+◌, ◌-◌, ◌*◌, ◌/◌, ◌^◌, ◌≤◌, ◌<◌}
 use native.Mathlib.Omega.{arith}
 use native.Mathlib.Nat.{add-mul, one-mul, le-div_iff_mul-le}
 use mathlib.Core.Path.{◌≡◌, refl, sym, ap, subst, ◌∙◌}
 use mathlib.Core.Bool.{cond}
 use mathlib.Core.List.{List}
-use lib.Dec.{ltb}
 use lib.ListN.{length, get_or}
 use mir.Syntax.{w64}
 use mir.Val.{Fits}
+use Rattle.job.specs.Check.{Valid}
 use Rattle.job.specs.Record.{lines}
 use Rattle.job.specs.declared.Job.{Job}
 use Rattle.bits.specs.Sizes.{table_bytes}
 use Rattle.bits.specs.Slices.{slice, splice, copy_fits}
 use Rattle.bits.proofs.Room.{fitted, copy_fits_lem}
-use Rattle.bits.proofs.Minimum.{least_left, least_right, least_some}
 use Rattle.bits.specs.Blocks.{block}
-use Rattle.tables.specs.Work.{block_bytes, row_of, Wide, Sound, Good, Side, Asked, tables_at, tables_from, asked_row, rows_at, RowsThere}
+use Rattle.tables.specs.Sizes.{shape_of}
+use Rattle.tables.specs.Work.{block_bytes, row_of, RowsFor, Good, Side, Asked, tables_at, tables_from, asked_row, rows_at, RowsThere}
 use Rattle.tables.specs.declared.evaluator.Batch.{Batch}
 use Rattle.tables.specs.declared.rows.Shape.{Shape}
 use Rattle.bits.proofs.Blocks.{block_ext, length_below}
 use Rattle.tables.proofs.Blocks.{length_slice, splice_again, Placed, placed_none, placed_length, placed_room, placed_one, placed_next, placed_more}
 use Rattle.tables.proofs.WrittenTables.{side_tables, length_tables, tables_single, tables_all}
 use Rattle.tables.proofs.Sizes.{block_fits}
-use Rattle.tables.proofs.Space.{row_order, wide_bytes, wide_some, wide_kept, wide_fewer, table_bytes_most, sound_bytes, sound_some, block_room}
+use Rattle.tables.proofs.Space.{Sound, row_order, shape_bytes, shape_some, rows_kept, rows_fewer, table_bytes_most, sound_bytes, sound_some, block_room}
 
 module _ {b : Batch} {bytes : ℕ} {asked : List ℕ} {room i : ℕ} (r : RowsThere b bytes asked room) (h : i < b.count) (p : ℕ) (l : p < length asked) where
   row_there : (row_of b (get_or asked p 0) + i) * bytes + bytes ≤ room
@@ -122,9 +122,8 @@ module _ (j : Job) (asked : List ℕ) where
   pub first_room : {size : ℕ} → (j.fault_count + 1) * step ≤ size → step ≤ size
   first_room h = omega (arith, first_end j.fault_count)
 
-  pub step_fits_lem : {shape : Shape} {width size : ℕ} {rows : List ℕ} → Wide j shape width rows → (j.fault_count + 1) * step ≤ size → size < 2 ^ 64
-      → Fits w64 (length asked * shape.bytes)
-  step_fits_lem wide h short = record { fits = omega (arith, first_room h, ap (λ (k : ℕ). length asked * k) (wide_bytes wide)) }
+  pub step_fits_lem : {shape : Shape} {size : ℕ} → shape ≡ shape_of j.inputs → (j.fault_count + 1) * step ≤ size → size < 2 ^ 64 → length asked * shape.bytes < 2 ^ 64
+  step_fits_lem shaped h short = omega (arith, first_room h, ap (λ (k : ℕ). length asked * k) (shape_bytes j shaped))
 
   pub tables_put : (start : List ℕ) {mid out : List ℕ} → (j.fault_count + 1) * step ≤ length start → mid ≡ splice start 0 (tables_at j asked 0)
       → out ≡ splice mid step (tables_from j asked 1 j.fault_count) → out ≡ splice start 0 (tables_from j asked 0 (j.fault_count + 1))
@@ -132,40 +131,41 @@ module _ (j : Job) (asked : List ℕ) where
       put ∙ ap (λ (l : List ℕ). splice l step (tables_from j asked 1 j.fault_count)) good
       ∙ tables_all j asked start j.fault_count (first_room room)
 
-  pub record Putting (shape : Shape) (start first out rows : List ℕ) (done : ℕ) : Type 0 where
-    pub wide : Wide j shape (block_bytes / table_bytes j.inputs) rows
+  pub record Putting (start first out rows : List ℕ) (done : ℕ) : Type 0 where
+    pub room : RowsFor j (block_bytes / table_bytes j.inputs) rows
     pub good : Good j rows
     pub long : length rows ≡ length first
     pub placed : Placed start step j.fault_count step (λ i. tables_at j asked (1 + i)) out done
 
-  pub putting_start : {shape : Shape} {out rows : List ℕ} → Wide j shape (block_bytes / table_bytes j.inputs) rows → Good j rows
-      → (j.fault_count + 1) * step ≤ length out → Putting shape out rows out rows 0
-  putting_start wide good h =
-      record { wide = wide; good = good; long = refl; placed = placed_none (omega (arith, first_end j.fault_count)) (λ i _. length_tables j asked (1 + i)) }
+  pub putting_start : {out rows : List ℕ} → RowsFor j (block_bytes / table_bytes j.inputs) rows → Good j rows
+      → (j.fault_count + 1) * step ≤ length out → Putting out rows out rows 0
+  putting_start room good h =
+      record { room = room; good = good; long = refl; placed = placed_none (omega (arith, first_end j.fault_count)) (λ i _. length_tables j asked (1 + i)) }
 
-module _ {j : Job} {asked : List ℕ} {shape : Shape} {start first out rows : List ℕ} {done : ℕ} (p : Putting j asked shape start first out rows done) where
+module _ {j : Job} {asked : List ℕ} {shape : Shape} {start first out rows : List ℕ} {done : ℕ} (valid : Valid j) (shaped : shape ≡ shape_of j.inputs)
+    (p : Putting j asked start first out rows done) where
   bytes : shape.bytes ≡ table_bytes j.inputs
-  bytes = wide_bytes p.wide
+  bytes = shape_bytes j shaped
 
   -- a block has room for a table or more
   width_some : 1 ≤ block_bytes / shape.bytes
   width_some =
-      (le-div_iff_mul-le (wide_some p.wide)).1
-      (omega (arith, one-mul shape.bytes, bytes, table_bytes_most j.inputs p.wide.valid.few, block_fits))
+      (le-div_iff_mul-le (shape_some j shaped)).1
+      (omega (arith, one-mul shape.bytes, bytes, table_bytes_most j.inputs valid.few, block_fits))
 
   -- where the next batch's tables start
   place : (done + 1) * (length asked * shape.bytes) ≡ step j asked + done * step j asked
   place = ap (λ (k : ℕ). (done + 1) * (length asked * k)) bytes ∙ first_end j asked done
 
-  module _ {count : ℕ} (least : count ≡ cond (ltb (block_bytes / shape.bytes) (j.fault_count - done)) (block_bytes / shape.bytes) (j.fault_count - done)) where
+  module _ {count : ℕ} (least : count ≡ min (block_bytes / shape.bytes) (j.fault_count - done)) where
     pub putting_within : done + 1 + count ≤ j.fault_count + 1
-    putting_within = omega (arith, p.placed.within, least_right (block_bytes / shape.bytes) (j.fault_count - done) least)
+    putting_within = omega (arith, p.placed.within, least)
 
-    pub putting_wide : Wide j shape count rows
-    putting_wide = wide_fewer p.wide (subst (λ (k : ℕ). count ≤ k) (ap (λ (k : ℕ). block_bytes / k) bytes) (least_left (block_bytes / shape.bytes) (j.fault_count - done) least))
+    pub putting_rows : RowsFor j count rows
+    putting_rows = rows_fewer p.room (subst (λ (k : ℕ). count ≤ k) (ap (λ (k : ℕ). block_bytes / k) bytes) (omega (arith, least)))
 
     pub putting_turn : done < j.fault_count → 1 ≤ count
-    putting_turn h = least_some (block_bytes / shape.bytes) (j.fault_count - done) least width_some (omega arith)
+    putting_turn h = omega (arith, least, width_some)
 
     pub putting_room : (done + 1) * (length asked * shape.bytes) + count * step j asked ≤ length out
     putting_room = omega (arith, place, placed_room p.placed count (omega (arith, putting_within)))
@@ -174,10 +174,10 @@ module _ {j : Job} {asked : List ℕ} {shape : Shape} {start first out rows : Li
     putting_place short = record { fits = omega (arith, putting_room, placed_length p.placed) }
 
     pub putting_next : {put after : List ℕ} → Good j after → length after ≡ length rows
-        → put ≡ splice out ((done + 1) * (length asked * shape.bytes)) (tables_from j asked (done + 1) count) → Putting j asked shape start first put after (done + count)
+        → put ≡ splice out ((done + 1) * (length asked * shape.bytes)) (tables_from j asked (done + 1) count) → Putting j asked start first put after (done + count)
     putting_next good l e =
         record {
-          wide = wide_kept p.wide l;
+          room = rows_kept p.room l;
           good = good;
           long = l ∙ p.long;
           placed =

@@ -18,11 +18,9 @@ use borrow.Author.Tests.{eq-eqb, eqb-true, le-leb}
 use lib.Dec.{eqb, leb}
 use lib.ListN.{length, take, drop, length-append}
 use lib.Seq.{take_at}
-use Rattle.bits.specs.Answer.{Answer, Fills, number, outcome}
+use Rattle.bits.specs.Answer.{Answer, Fills, Leaves}
 use Rattle.bits.specs.Answer.Answer.{gives, refused}
 use Rattle.bits.specs.Bounds.{each_below}
-use Rattle.bits.specs.declared.Outcome.TheVariants.{Done, Refused}
-use Rattle.bits.specs.declared.Refusal.{Refusal}
 use Rattle.bits.proofs.Bounds.{each_all, all_each}
 use Rattle.bits.proofs.Answers.{gives_same, never_gives, refused_same, unless_gives, onward_gives}
 use Rattle.job.specs.Check.{Valid}
@@ -33,7 +31,7 @@ use Rattle.reading.specs.Reading.{reading}
 use Rattle.reading.proofs.Validity.{reading_valid}
 use Rattle.tables.specs.Circuit.{circuit_entry, fixing_of, values_to, free}
 use Rattle.tables.specs.Family.{Family, family_of, same_tables}
-use Rattle.tables.specs.Operations.{tables_of, tables_to, tables_bytes, counts_of, Delivered, delivered}
+use Rattle.tables.specs.Operations.{tables_of, tables_to, tables_bytes, counts_of, delivered}
 use Rattle.tables.specs.Work.{max_table_bytes, line_value}
 use Rattle.tables.specs.declared.Counts.{Counts}
 use Rattle.tables.specs.declared.Delivery.{Delivery}
@@ -106,49 +104,44 @@ pub record Delivers (s : List ℕ) (r : Delivery) (after : List ℕ) : Type 0 wh
   pub inside : r.bytes ≤ length after
   pub stands : take r.bytes after ≡ tables_to job (job.fault_count + 1)
 
-abbrev at_end : Delivery → List ℕ → Delivered
-at_end r after = record { answer = outcome r.outcome; counts = r.counts; bytes = r.bytes; memory = after }
-
-module _ (s out after : List ℕ) (r : Delivery) (p : at_end r after ≡ delivered (tables_of s (length out)) out) where
-  delivers : (a : Answer (Fills Counts)) → a ≡ tables_of s (length out) → at_end r after ≡ delivered a out → r.outcome ≡ Done → Delivers s r after
+module _ (s out after : List ℕ) where
+  delivers : (d : Delivery) (a : Answer (Fills Counts)) → tables_of s (length out) ≡ a → record { answer = gives d; memory = after } ≡ delivered a out → Delivers s d after
   unfolding tables_of
-  delivers (refused k) e q done = absurd (never_gives (sym (ap (λ (x : Delivered). x.answer) q) ∙ ap outcome done))
-  delivers (gives w) e q done =
-      let read = onward_gives (reading s) _ (sym e) in
+  delivers d (refused k) e q = absurd (never_gives (sym (ap (λ (x : Leaves Delivery). x.answer) q)))
+  delivers d (gives w) e q =
+      let read = onward_gives (reading s) _ e in
       let j = read.0 in
       let room = unless_gives (leb (tables_bytes j) (length out)) 10 _ read.2 in
       let same = gives_same room.1 in
-      let text : after ≡ w.filled ++ drop (length w.filled) out = ap (λ (x : Delivered). x.memory) q in
-      let size : r.bytes ≡ length w.filled = ap (λ (x : Delivered). x.bytes) q in
+      let text : after ≡ w.filled ++ drop (length w.filled) out = ap (λ (x : Leaves Delivery). x.memory) q in
+      let told : d ≡ record { counts = w.value; bytes = length w.filled } = gives_same (ap (λ (x : Leaves Delivery). x.answer) q) in
+      let size : d.bytes ≡ length w.filled = ap (λ (x : Delivery). x.bytes) told in
       record {
         job = j;
         read = read.1;
-        counted = ap (λ (x : Delivered). x.counts) q ∙ sym (ap (λ (x : Fills Counts). x.value) same);
+        counted = ap (λ (x : Delivery). x.counts) told ∙ sym (ap (λ (x : Fills Counts). x.value) same);
         inside =
             let long : length after ≡ length w.filled + length (drop (length w.filled) out) = ap length text ∙ length-append w.filled _ in
             omega arith;
         stands =
-            ap (take r.bytes) text ∙ take_at w.filled (drop (length w.filled) out) r.bytes (sym size)
+            ap (take d.bytes) text ∙ take_at w.filled (drop (length w.filled) out) d.bytes (sym size)
             ∙ sym (ap (λ (x : Fills Counts). x.filled) same);
       }
 
-  pub tables_deliver : r.outcome ≡ Done → Delivers s r after
-  tables_deliver done = delivers (tables_of s (length out)) refl p done
+  pub tables_deliver : {d : Delivery} → record { answer = gives d; memory = after } ≡ delivered (tables_of s (length out)) out → Delivers s d after
+  tables_deliver {d} = delivers d (tables_of s (length out)) refl
 
-  unread : (a : Answer Job) → reading s ≡ a → length out ≡ (max_faults + 1) * max_outputs * max_table_bytes → (k : ℕ) → outcome r.outcome ≡ refused k
-      → reading s ≡ refused k
-  unfolding tables_of
-  unread (refused i) e size k q =
-      let same : tables_of s (length out) ≡ refused i = rw e in
-      e
-      ∙ ap refused
-      (sym (refused_same {A = Unit {0}}
-      (sym q ∙ ap (λ (x : Delivered). x.answer) (p ∙ ap (λ (x : Answer (Fills Counts)). delivered x out) same))))
-  unread (gives j) e size k q =
-      let room : tables_bytes j ≤ length out = rw size (all_tables_room j (reading_valid s j e)) in
-      let gave : tables_of s (length out) ≡ gives (record { value = counts_of j; filled = tables_to j (j.fault_count + 1) }) =
-      simp (e, le-leb (tables_bytes j) (length out) room) in
-      absurd (never_gives (sym q ∙ ap (λ (x : Delivered). x.answer) (p ∙ ap (λ (x : Answer (Fills Counts)). delivered x out) gave)))
+  module _ {k : ℕ} (p : record { answer = refused k; memory = after } ≡ delivered (tables_of s (length out)) out) where
+    unread : (a : Answer Job) → reading s ≡ a → length out ≡ (max_faults + 1) * max_outputs * max_table_bytes → reading s ≡ refused k
+    unfolding tables_of
+    unread (refused i) e size =
+        let same : tables_of s (length out) ≡ refused i = rw e in
+        e ∙ ap refused (sym (refused_same {A = Delivery} (ap (λ (x : Leaves Delivery). x.answer) (p ∙ ap (λ (x : Answer (Fills Counts)). delivered x out) same))))
+    unread (gives j) e size =
+        let room : tables_bytes j ≤ length out = rw size (all_tables_room j (reading_valid s j e)) in
+        let gave : tables_of s (length out) ≡ gives (record { value = counts_of j; filled = tables_to j (j.fault_count + 1) }) =
+        simp (e, le-leb (tables_bytes j) (length out) room) in
+        absurd (never_gives (ap (λ (x : Leaves Delivery). x.answer) (p ∙ ap (λ (x : Answer (Fills Counts)). delivered x out) gave)))
 
-  pub delivery_unread : (cause : Refusal) → length out ≡ (max_faults + 1) * max_outputs * max_table_bytes → r.outcome ≡ Refused cause → reading s ≡ refused (number cause)
-  delivery_unread cause size e = unread (reading s) refl size (number cause) (ap outcome e)
+    pub delivery_unread : length out ≡ (max_faults + 1) * max_outputs * max_table_bytes → reading s ≡ refused k
+    delivery_unread = unread (reading s) refl

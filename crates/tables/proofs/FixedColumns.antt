@@ -33,13 +33,13 @@ use Rattle.bits.specs.Sizes.{table_bytes}
 use Rattle.bits.specs.Slices.{splice}
 use Rattle.tables.specs.Circuit.{fixing_of}
 use Rattle.tables.specs.Sizes.{shape_of, Below, fixed_row}
-use Rattle.tables.specs.Work.{line_value, line_table, row_at, row_of, fixes_line, Fixes, Sound, side_table, Side, Made}
+use Rattle.tables.specs.Work.{line_value, line_table, row_at, row_of, fixes_line, Fixes, side_table, Side, Made}
 use Rattle.tables.specs.declared.evaluator.Batch.{Batch}
 use Rattle.tables.specs.declared.rows.Shape.{Shape}
 use Rattle.tables.proofs.Batches.{side_kept, side_next}
 use Rattle.tables.proofs.Faults.{fixes, fixed_table}
 use Rattle.tables.proofs.LineTables.{Puts, row_puts}
-use Rattle.tables.proofs.Space.{fault_number, fault_index, sound_kept, row_inside, column_fits, offset_fits, column_below}
+use Rattle.tables.proofs.Space.{Sound, fault_number, fault_index, sound_kept, row_inside, column_fits, offset_fits, column_below}
 
 pub made_done : {j : Job} {b : Batch} {l left : ℕ} {rows : List ℕ} → Made j b l left rows → left ≡ 0 → Side j b (l + 1) rows
 made_done {j} {b} {l} {left} {rows} made none =
@@ -76,11 +76,11 @@ module _ {j : Job} {shape : Shape} {b : Batch} {l left : ℕ} {start rows : List
   mending_faulty =
       ⊎_elim
       (λ h. let none : b.first ≡ 0 = omega arith in
-      absurd (omega (arith, column, (sound.alone none).1, fixes_some j (b.first + lowest left) l fixed_here)))
+      absurd (omega (arith, column, (sound.stands.alone none).1, fixes_some j (b.first + lowest left) l fixed_here)))
       (λ h. h) (lt_or_ge b.first 1)
 
   fault : b.first - 1 + lowest left < j.fault_count
-  fault = fault_number mending_faulty sound.within column
+  fault = fault_number mending_faulty sound.stands.within column
 
   number : b.first + lowest left ≡ suc (b.first - 1 + lowest left)
   number = omega (arith, mending_faulty)
@@ -114,7 +114,7 @@ module _ {j : Job} {shape : Shape} {b : Batch} {l left : ℕ} {start rows : List
     put_next : Made j b l (later left) after
     put_next =
         record {
-          before = side_kept j b l rows after sound.behind m.made.before (λ k before. puts.kept k (λ e. omega arith));
+          before = side_kept j b l rows after sound.stands.behind m.made.before (λ k before. puts.kept k (λ e. omega arith));
           fixed = λ i h. m.made.fixed i (and_l (has left i) (not (eqb (lowest left) i)) (sym (set_later left i m.word) ∙ h));
           done = λ i h none. go i h none (ℕ_discrete i (lowest left));
         }

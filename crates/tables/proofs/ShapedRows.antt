@@ -10,8 +10,6 @@
 --   fixed_stuck, fixed_bridge   what the code puts for a fault is the table that the fault gives its lines
 --   low_fits, high_fits         the places of the tables that a bridge reads fit a word
 --   gate_stepped        the gate step over blocks finds its places
---   shaped_some         a table of a shape has a byte
---   block_space         there is room for an input's block
 use Prim.Native.Nat.{ℕ, ◌+◌, ◌-◌, ◌*◌, ◌^◌, ◌≤◌, ◌<◌}
 use native.Mathlib.Nat.{add_assoc, add-mul}
 use native.Mathlib.Omega.{arith}
@@ -27,7 +25,6 @@ use Rattle.bits.specs.Packed.{tabulate, packed, entry}
 use Rattle.bits.proofs.Digits.{digit_above}
 use Rattle.bits.proofs.Packed.{tabulate_ext}
 use Rattle.job.specs.Record.{level_number, fault_a, fault_b}
-use Rattle.job.specs.declared.Gate.{Gate}
 use Rattle.job.specs.declared.Fault.{Fault}
 use Rattle.job.specs.declared.Fault.TheVariants.{Stuck, Bridge}
 use Rattle.gates.specs.Answers.{answer}
@@ -43,12 +40,12 @@ use Rattle.bits.proofs.TableSizes.{table_bytes_exact}
 use Rattle.gates.proofs.Tables.{gate_packed, level_packed, pattern_packed, alternate_packed}
 use Rattle.bits.specs.Blocks.{block}
 use Rattle.tables.specs.Sizes.{shape_of, shape_within, Room, Space, Below, fixed_row}
-use Rattle.tables.specs.Work.{row_of, LineRoom}
+use Rattle.tables.specs.Work.{row_of}
 use Rattle.tables.specs.declared.evaluator.Batch.{Batch}
 use Rattle.tables.specs.declared.rows.Shape.{Shape}
 use Rattle.bits.proofs.Blocks.{block_ext}
 use Rattle.tables.proofs.Blocks.{tabulate_block}
-use Rattle.tables.proofs.Space.{bytes_some, block_before}
+use Rattle.tables.proofs.Space.{block_before}
 
 pub few_shape : {n : ℕ} → n < 64 → shape_within n ≡ shape_of n
 few_shape {n} h = let p : table_bytes_of n ≡ table_bytes n = table_bytes_exact h refl in (λ i. record { inputs = n; bytes = p i; mask = mask_of n })
@@ -169,18 +166,10 @@ module _ (shape : Shape) (to : ℕ) (rows : List ℕ) (x : Fault) (below : Below
 
 -- the gate step over the blocks of a gate's line and of the lines that it reads
 pub gate_stepped : (b : Batch) (line p q bytes : ℕ) (rows : List ℕ) → p < line → q < line → row_of b line * bytes + b.count * bytes ≤ length rows
-    → {x y to : ℕ} → x ≡ row_of b p * bytes → y ≡ row_of b q * bytes → to ≡ row_of b line * bytes → (polynomial : Polynomial) {out : List ℕ}
-    → out ≡ cond (step_fits x y to (b.count * bytes) (length rows)) (splice rows to (tabulate (b.count * bytes) (combined polynomial x y rows))) rows
+    → {x y to : ℕ} → x ≡ row_of b p * bytes → y ≡ row_of b q * bytes → to ≡ row_of b line * bytes → {given polynomial : Polynomial} → given ≡ polynomial → {out : List ℕ}
+    → out ≡ cond (step_fits x y to (b.count * bytes) (length rows)) (splice rows to (tabulate (b.count * bytes) (combined given x y rows))) rows
     → out ≡ splice rows (row_of b line * bytes) (tabulate (b.count * bytes) (combined polynomial (row_of b p * bytes) (row_of b q * bytes) rows))
-gate_stepped b line p q bytes rows hp hq room {x} {y} {to} ex ey eto polynomial e =
+gate_stepped b line p q bytes rows hp hq room {x} {y} {to} ex ey eto formed e =
     fitted _ rows
     (step_fits_lem x y to (b.count * bytes) (length rows) (omega arith) (omega (arith, block_before b p line bytes hp)) (omega (arith, block_before b q line bytes hq))) e
-    ∙ (λ i. splice rows (eto i) (tabulate (b.count * bytes) (combined polynomial (ex i) (ey i) rows)))
-
--- what working out a line's block asks for
-pub shaped_some : {shape : Shape} → shape ≡ shape_of shape.inputs → 1 ≤ shape.bytes
-shaped_some {shape} shaped = subst (λ (k : ℕ). 1 ≤ k) (sym (ap (λ (s : Shape). s.bytes) shaped)) (bytes_some shape.inputs)
-
-pub block_space : {shape : Shape} {b : Batch} {g : Gate} {l : ℕ} {rows : List ℕ} → LineRoom shape b g l rows → {to : ℕ} → to ≡ row_of b l * shape.bytes → Space shape to b.count rows
-block_space {shape} {b} {g} {l} {rows} room e =
-    record { shaped = room.shaped; few = room.few; room = subst (λ (k : ℕ). k + b.count * shape.bytes ≤ length rows) (sym e) room.room }
+    ∙ (λ i. splice rows (eto i) (tabulate (b.count * bytes) (combined (formed i) (ex i) (ey i) rows)))

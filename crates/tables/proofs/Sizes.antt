@@ -1,7 +1,6 @@
 -- That one size fits another, computed from the limits' values (job's specs/Layout.antt, specs/Work.antt).
 --
 --   table_fits        the largest table has as many bytes as are kept for one
---   some_gates        the record has room for a gate
 --   byte_inputs       an input behind the third has a bit of a byte
 --   all_tables_fit    places in the tables of the most circuits at the most outputs fit a word
 --   block_fits        a block has room for the largest table
@@ -9,17 +8,13 @@
 use Prim.Native.Nat.{◌+◌, ◌*◌, ◌^◌, ◌≤◌, ◌<◌}
 use lib.Dec.{lit<, lit≤}
 use Rattle.bits.specs.Sets.{max_members}
-use Rattle.job.specs.Layout.{max_inputs, max_gates, max_outputs, max_faults}
+use Rattle.job.specs.Layout.{max_inputs, max_outputs, max_faults}
 use Rattle.bits.specs.Sizes.{table_bytes}
 use Rattle.tables.specs.Work.{max_table_bytes, block_bytes}
 
 pub table_fits : table_bytes max_inputs ≤ max_table_bytes
 unfolding max_inputs max_table_bytes
 table_fits = lit≤ tt
-
-pub some_gates : 1 ≤ max_gates
-unfolding max_gates
-some_gates = lit≤ tt
 
 pub byte_inputs : max_inputs ≤ 11
 unfolding max_inputs

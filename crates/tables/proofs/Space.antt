@@ -8,9 +8,11 @@
 --   bytes_some        each has one
 --   row_order         a row before another ends before it
 --   times_some        a factor of a product that fits a word fits one
---   good_sound, faulty_sound   where there are rows for a batch, a batch is sound
---   wide_kept, wide_fewer      so for rows of the same length, and for fewer circuits
---   wide_bytes, sound_bytes    the shape has the table's bytes, one or more (wide_some, sound_some)
+--   Sound             a valid job's shape, and rows for a batch of circuits
+--   good_stands, faulty_stands   where there are rows for a batch, a batch has its rows
+--   stands_kept       so have rows of the same length
+--   rows_kept, rows_fewer   there are rows where rows have the same length, and for fewer circuits
+--   shape_bytes, sound_bytes   the shape has the table's bytes, one or more (shape_some, sound_some)
 --   sound_kept       rows of the same length stay sound
 --   sound_inputs, sound_few, sound_shaped   the shape is that of the job's inputs, which are few
 --   block_before     a line's block ends before those of later lines
@@ -18,6 +20,7 @@
 --   row_before       the rows of a line's block are before those of later lines
 --   row_inside       a row of a line's block lies within the rows, and so does the block (block_inside, block_room)
 --   place_small      the block's place fits a word, and so do the place and the bytes of a row in it (column_fits, offset_fits)
+--   block_space      there is room for an input's block
 --   column_below     the good circuit's rows are before a row of a faulty circuit
 use Prim.Native.Nat.{ℕ, ◌+◌, ◌-◌, ◌*◌, ◌^◌, ◌≤◌, ◌<◌}
 use native.Mathlib.Nat.{le_trans, mul-le-mul_left, mul-le-mul_right, suc-mul, add-mul, mul-one}
@@ -34,8 +37,8 @@ use Rattle.job.specs.Record.{fault_a, fault_b, lines}
 use Rattle.job.specs.declared.Fault.{Fault}
 use Rattle.job.specs.declared.Job.{Job}
 use Rattle.bits.specs.Sizes.{table_bytes}
-use Rattle.tables.specs.Sizes.{shape_of, Below}
-use Rattle.tables.specs.Work.{max_table_bytes, max_lines, row_of, Wide, Sound, Fixes}
+use Rattle.tables.specs.Sizes.{shape_of, Space, Below}
+use Rattle.tables.specs.Work.{max_table_bytes, max_lines, row_of, RowsFor, Stands, Fixes}
 use Rattle.tables.specs.declared.evaluator.Batch.{Batch}
 use Rattle.tables.specs.declared.rows.Shape.{Shape}
 use Rattle.tables.proofs.Sizes.{table_fits, byte_inputs}
@@ -64,37 +67,49 @@ row_order r s w h = omega (arith, mul-le-mul_right w h, suc-mul r w)
 pub times_some : (row bytes : ℕ) → 1 ≤ bytes → row * bytes < 2 ^ 64 → row < 2 ^ 64
 times_some row bytes some h = omega (arith, mul-le-mul_left row some, mul-one row)
 
-module _ {j : Job} {shape : Shape} {width : ℕ} {rows : List ℕ} (wide : Wide j shape width rows) where
-  pub good_sound : Sound j shape (record { base = 0; first = 0; count = 1 }) rows
-  good_sound =
+-- a valid job, its shape, and rows for a batch of its circuits
+pub record Sound (j : Job) (shape : Shape) (b : Batch) (rows : List ℕ) : Type 0 where
+  pub valid : Valid j
+  pub shaped : shape ≡ shape_of j.inputs
+  pub stands : Stands j b rows
+
+pub stands_kept : {j : Job} {b : Batch} {rows after : List ℕ} → length after ≡ length rows → Stands j b rows → Stands j b after
+stands_kept {j} {b} e s =
+    record {
+      room = subst (λ (k : ℕ). (b.base + lines j * b.count) * table_bytes j.inputs ≤ k) (sym e) s.room;
+      behind = s.behind;
+      within = s.within;
+      alone = s.alone;
+    }
+
+module _ {j : Job} {width : ℕ} {rows : List ℕ} (r : RowsFor j width rows) where
+  pub good_stands : Stands j (record { base = 0; first = 0; count = 1 }) rows
+  good_stands =
       let few : 0 + lines j * 1 ≤ lines j + lines j * width = omega (arith, mul-one (lines j)) in
       record {
-        valid = wide.valid;
-        shaped = wide.shaped;
-        room = le_trans (mul-le-mul_right (table_bytes j.inputs) few) wide.room;
+        room = le_trans (mul-le-mul_right (table_bytes j.inputs) few) r.room;
         behind = λ h. absurd (omega arith);
         within = omega arith;
         alone = λ _. (refl, refl);
       }
 
-  pub faulty_sound : {first : ℕ} → 1 ≤ first → first + width ≤ j.fault_count + 1 → Sound j shape (record { base = lines j; first = first; count = width }) rows
-  faulty_sound some h =
-      record { valid = wide.valid; shaped = wide.shaped; room = wide.room; behind = λ _. omega arith; within = h; alone = λ none. absurd (omega (arith, none)) }
+  pub faulty_stands : {first : ℕ} → 1 ≤ first → first + width ≤ j.fault_count + 1 → Stands j (record { base = lines j; first = first; count = width }) rows
+  faulty_stands some h = record { room = r.room; behind = λ _. omega arith; within = h; alone = λ none. absurd (omega (arith, none)) }
 
-  pub wide_kept : {after : List ℕ} → length after ≡ length rows → Wide j shape width after
-  wide_kept e =
-      record { valid = wide.valid; shaped = wide.shaped; room = subst (λ (k : ℕ). (lines j + lines j * width) * table_bytes j.inputs ≤ k) (sym e) wide.room }
+  pub rows_kept : {after : List ℕ} → length after ≡ length rows → RowsFor j width after
+  rows_kept e = record { room = subst (λ (k : ℕ). (lines j + lines j * width) * table_bytes j.inputs ≤ k) (sym e) r.room }
 
-  pub wide_fewer : {count : ℕ} → count ≤ width → Wide j shape count rows
-  wide_fewer {count} h =
+  pub rows_fewer : {count : ℕ} → count ≤ width → RowsFor j count rows
+  rows_fewer {count} h =
       let few : lines j + lines j * count ≤ lines j + lines j * width = omega (arith, mul-le-mul_left (lines j) h) in
-      record { valid = wide.valid; shaped = wide.shaped; room = le_trans (mul-le-mul_right (table_bytes j.inputs) few) wide.room }
+      record { room = le_trans (mul-le-mul_right (table_bytes j.inputs) few) r.room }
 
-  pub wide_bytes : shape.bytes ≡ table_bytes j.inputs
-  wide_bytes = ap (λ (s : Shape). s.bytes) wide.shaped
+module _ (j : Job) {shape : Shape} (shaped : shape ≡ shape_of j.inputs) where
+  pub shape_bytes : shape.bytes ≡ table_bytes j.inputs
+  shape_bytes = ap (λ (s : Shape). s.bytes) shaped
 
-  pub wide_some : 1 ≤ shape.bytes
-  wide_some = subst (λ (k : ℕ). 1 ≤ k) (sym wide_bytes) (bytes_some j.inputs)
+  pub shape_some : 1 ≤ shape.bytes
+  shape_some = subst (λ (k : ℕ). 1 ≤ k) (sym shape_bytes) (bytes_some j.inputs)
 
 pub block_before : (b : Batch) (k l bytes : ℕ) → k < l → row_of b k * bytes + b.count * bytes ≤ row_of b l * bytes
 block_before b k l bytes h =
@@ -110,21 +125,13 @@ row_before b k l i h less = omega (arith, mul-le-mul_right b.count h, suc-mul k 
 
 module _ {j : Job} {shape : Shape} {b : Batch} {rows : List ℕ} (sound : Sound j shape b rows) where
   pub sound_bytes : shape.bytes ≡ table_bytes j.inputs
-  sound_bytes = ap (λ (s : Shape). s.bytes) sound.shaped
+  sound_bytes = shape_bytes j sound.shaped
 
   pub sound_some : 1 ≤ shape.bytes
-  sound_some = subst (λ (k : ℕ). 1 ≤ k) (sym sound_bytes) (bytes_some j.inputs)
+  sound_some = shape_some j sound.shaped
 
   pub sound_kept : {after : List ℕ} → length after ≡ length rows → Sound j shape b after
-  sound_kept e =
-      record {
-        valid = sound.valid;
-        shaped = sound.shaped;
-        room = subst (λ (k : ℕ). (b.base + lines j * b.count) * table_bytes j.inputs ≤ k) (sym e) sound.room;
-        behind = sound.behind;
-        within = sound.within;
-        alone = sound.alone;
-      }
+  sound_kept e = record { valid = sound.valid; shaped = sound.shaped; stands = stands_kept e sound.stands }
 
   pub sound_inputs : shape.inputs ≡ j.inputs
   sound_inputs = ap (λ (s : Shape). s.inputs) sound.shaped
@@ -139,7 +146,7 @@ module _ {j : Job} {shape : Shape} {b : Batch} {rows : List ℕ} (sound : Sound 
     pub block_inside : (row_of b l + b.count) * table_bytes j.inputs ≤ length rows
     block_inside =
         let e : row_of b l + b.count ≤ b.base + lines j * b.count = omega (arith, mul-le-mul_right b.count h, suc-mul l b.count) in
-        le_trans (mul-le-mul_right (table_bytes j.inputs) e) sound.room
+        le_trans (mul-le-mul_right (table_bytes j.inputs) e) sound.stands.room
 
     pub block_room : row_of b l * shape.bytes + b.count * shape.bytes ≤ length rows
     block_room =
@@ -148,6 +155,9 @@ module _ {j : Job} {shape : Shape} {b : Batch} {rows : List ℕ} (sound : Sound 
 
     pub place_small : length rows < 2 ^ 64 → row_of b l * shape.bytes < 2 ^ 64
     place_small short = omega (arith, block_room)
+
+    pub block_space : {to : ℕ} → to ≡ row_of b l * shape.bytes → Space shape to b.count rows
+    block_space e = record { shaped = sound_shaped; few = sound_few; room = subst (λ (k : ℕ). k + b.count * shape.bytes ≤ length rows) (sym e) block_room }
 
     module _ {i : ℕ} (less : i < b.count) where
       pub row_inside : (row_of b l + i) * table_bytes j.inputs + table_bytes j.inputs ≤ length rows
@@ -177,6 +187,6 @@ module _ {j : Job} {shape : Shape} {b : Batch} {rows : List ℕ} (sound : Sound 
           before a less =
               omega (
                 arith,
-                row_order a (row_of b l + i) shape.bytes (omega (arith, sound.behind some)),
+                row_order a (row_of b l + i) shape.bytes (omega (arith, sound.stands.behind some)),
                 add-mul (row_of b l) i shape.bytes,
               )

@@ -3,7 +3,7 @@
 --   length_table         a circuit's table at an output has table_bytes bytes
 --   length_circuit       its tables have as many for each output
 --   length_tables_to     the tables of c circuits have c times as many
---   wide_one, wide_block   the lent rows have room for the good circuit and one more, or as many as fit a block
+--   rows_one, rows_block   the lent rows have room for the good circuit and one more, or as many as fit a block
 --   all_tables_room     all tables of a valid job are no more bytes than those of the most circuits at the most outputs
 --   table_count_fits    so they fit a usize, and so does how many tables they are (tables_fit)
 --   side_good           a batch leaves the good circuit's rows, whether it is the good circuit or stands behind it
@@ -34,10 +34,8 @@ use Rattle.bits.specs.Slices.{slice, splice}
 use Rattle.tables.specs.Circuit.{circuit_entry, circuit_table, fixing_of}
 use Rattle.tables.specs.Operations.{tables_to, tables_bytes}
 use Rattle.bits.specs.Blocks.{block}
-use Rattle.tables.specs.Sizes.{shape_of}
-use Rattle.tables.specs.Work.{max_table_bytes, block_bytes, row_bytes, all_row_bytes, line_value, line_table, row_at, row_of, Wide, Sound, Good, side_table, Side, Asked, tables_at, tables_from, rows_at}
+use Rattle.tables.specs.Work.{max_table_bytes, block_bytes, row_bytes, all_row_bytes, line_value, line_table, row_at, row_of, RowsFor, Stands, Good, side_table, Side, Asked, tables_at, tables_from, rows_at}
 use Rattle.tables.specs.declared.evaluator.Batch.{Batch}
-use Rattle.tables.specs.declared.rows.Shape.{Shape}
 use Rattle.bits.proofs.Blocks.{block_ext, block_append, length_block}
 use Rattle.tables.proofs.Blocks.{length_slice, splice_append}
 use Rattle.tables.proofs.Sizes.{all_tables_fit}
@@ -59,23 +57,17 @@ length_tables_to j c =
     length_block (j.output_count * table_bytes j.inputs) (λ i. block j.output_count (circuit_table j i)) (length_circuit j) c
     ∙ sym (mul_assoc c j.output_count (table_bytes j.inputs))
 
-module _ (j : Job) (shape : Shape) (rows : List ℕ) (v : Valid j) (e : shape ≡ shape_of j.inputs) where
-  pub wide_one : length rows ≡ row_bytes → Wide j shape 1 rows
+module _ (j : Job) (rows : List ℕ) (v : Valid j) where
+  pub rows_one : length rows ≡ row_bytes → RowsFor j 1 rows
   unfolding row_bytes
-  wide_one h =
+  rows_one h =
       let few : lines j + lines j * 1 ≤ 2 * (max_inputs + max_gates) = omega (arith, v.few, v.gates_few, mul-one (lines j)) in
-      record {
-        valid = v;
-        shaped = e;
-        room = subst (λ (k : ℕ). (lines j + lines j * 1) * table_bytes j.inputs ≤ k) (sym h) (mul-le-mul few (table_bytes_most j.inputs v.few));
-      }
+      record { room = subst (λ (k : ℕ). (lines j + lines j * 1) * table_bytes j.inputs ≤ k) (sym h) (mul-le-mul few (table_bytes_most j.inputs v.few)) }
 
-  pub wide_block : length rows ≡ all_row_bytes → Wide j shape (block_bytes / table_bytes j.inputs) rows
+  pub rows_block : length rows ≡ all_row_bytes → RowsFor j (block_bytes / table_bytes j.inputs) rows
   unfolding all_row_bytes
-  wide_block h =
+  rows_block h =
       record {
-        valid = v;
-        shaped = e;
         room =
             subst (λ (k : ℕ). (lines j + lines j * (block_bytes / table_bytes j.inputs)) * table_bytes j.inputs ≤ k) (sym h)
             (subst (λ (k : ℕ). k ≤ (max_inputs + max_gates) * (max_table_bytes + block_bytes)) (sym (side_by_side (lines j) (block_bytes / table_bytes j.inputs) (table_bytes j.inputs)))
@@ -105,9 +97,9 @@ alone_good j b rows first base count side =
           ap (λ (r : ℕ). row_at j r rows) (sym e) ∙ side.line l 0 h (omega (arith, count)) ∙ ap (λ (n : ℕ). line_table (fixing_of j n) j l) c;
     }
 
-pub side_good : {j : Job} {shape : Shape} {b : Batch} {start rows : List ℕ} → Sound j shape b start → Side j b (lines j) rows → Good j rows
-side_good {j} {shape} {b} {start} {rows} sound side =
-    ⊎_elim (λ h. let none : b.first ≡ 0 = omega arith in alone_good j b rows none (sound.alone none).0 (sound.alone none).1 side)
+pub side_good : {j : Job} {b : Batch} {start rows : List ℕ} → Stands j b start → Side j b (lines j) rows → Good j rows
+side_good {j} {b} {start} {rows} stands side =
+    ⊎_elim (λ h. let none : b.first ≡ 0 = omega arith in alone_good j b rows none (stands.alone none).0 (stands.alone none).1 side)
     (λ h. side.good h) (lt_or_ge b.first 1)
 
 pub side_tables : {j : Job} {b : Batch} {rows : List ℕ} → Side j b (lines j) rows → (asked : List ℕ) → Asked j asked

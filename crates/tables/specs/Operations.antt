@@ -8,7 +8,7 @@
 --   tables_of     the tables of all its circuits, with these
 --   delivered     what the second operation answers and leaves
 use Rattle.std.specs.Prelude.{ℕ, ◌+◌, ◌*◌, List, ◌∷◌, map, leb, ltb, length, get_or, replicate}
-use Rattle.bits.specs.Answer.{Answer, Fills, leaves, unless, onward}
+use Rattle.bits.specs.Answer.{Answer, Fills, Leaves, leaves, unless, onward}
 use Rattle.bits.specs.Answer.Answer.{gives, refused}
 use Rattle.bits.specs.Blocks.{block}
 use Rattle.job.specs.Layout.{max_faults}
@@ -18,6 +18,7 @@ use Rattle.reading.specs.Reading.{reading}
 use Rattle.bits.specs.Sizes.{table_bytes}
 use Rattle.tables.specs.Circuit.{circuit_table}
 use Rattle.tables.specs.declared.Counts.{Counts}
+use Rattle.tables.specs.declared.Delivery.{Delivery}
 
 -- "Table of a circuit: reading's, then 11, circuit number over f, then 10"; "20: output number too high, in the table operation after 11"
 unfoldable pub table_of : List ℕ → ℕ → ℕ → ℕ → Answer (Fills (Unit {0}))
@@ -62,13 +63,7 @@ tables_of s room =
 abbrev pub no_counts : Counts
 no_counts = record { inputs = 0; gates = 0; outputs = 0; faults = 0; parts = replicate (max_faults + 1) 0 }
 
-pub record Delivered : Type 0 where
-  pub answer : Answer (Unit {0})
-  pub counts : Counts
-  pub bytes : ℕ
-  pub memory : List ℕ
-
--- the counts, and how many bytes are filled, stand beside the answer; they are 0 beside a refusal
-abbrev pub delivered : Answer (Fills Counts) → List ℕ → Delivered
-delivered (gives w) memory = record { answer = gives tt; counts = w.value; bytes = length w.filled; memory = (leaves (gives w) memory).memory }
-delivered (refused i) memory = record { answer = refused i; counts = no_counts; bytes = 0; memory = memory }
+-- the counts, and how many bytes are filled; a refusal leaves the memory as it was
+abbrev pub delivered : Answer (Fills Counts) → List ℕ → Leaves Delivery
+delivered (gives w) memory = record { answer = gives (record { counts = w.value; bytes = length w.filled }); memory = (leaves (gives w) memory).memory }
+delivered (refused i) memory = record { answer = refused i; memory = memory }

@@ -17,7 +17,6 @@ use Rattle.bits.specs.Sizes.{table_bytes, table_bytes_of}
 use Rattle.bits.specs.Slices.{slice}
 use Rattle.gates.specs.Values.{bridged}
 use Rattle.gates.specs.declared.Polynomial.{Polynomial}
-use Rattle.tables.specs.declared.rows.Polynomials.{Polynomials}
 use Rattle.tables.specs.declared.rows.Shape.{Shape}
 
 abbrev pub shape_of : ℕ → Shape
@@ -44,8 +43,8 @@ pub record Below (shape : Shape) (x y to : ℕ) (rows : List ℕ) : Type 0 where
 abbrev pub no_polynomial : Polynomial
 no_polynomial = record { constant = 0; first = 0; second = 0; both = 0 }
 
-pub record Formed (mask : ℕ) (polynomials : Polynomials) : Type 0 where
-  pub polynomial : (kind : ℕ) → kind < 8 → get_or polynomials.of kind no_polynomial ≡ kind_polynomial kind mask
+pub record Formed (mask : ℕ) (polynomials : List Polynomial) : Type 0 where
+  pub polynomial : (kind : ℕ) → kind < 8 → get_or polynomials kind no_polynomial ≡ kind_polynomial kind mask
 
 unfoldable pub fixed_row : Shape → Fault → List ℕ → List ℕ
 fixed_row shape (Stuck l level) rows = packed (2 ^ shape.inputs) (λ m. level_number level)

@@ -6,20 +6,18 @@
 --   line_value, line_table   the value of a line for one input number, and its packed table
 --   row_at        the bytes of a row
 --   row_of        the row where the block of a line's tables starts
---   gate_number   the gate that drives a line, or 0
 --   is_fixed      whether a fault fixes a line
 --   fixes_line    whether a circuit's fault does
 --   FixedIn       for each line the set of the columns whose faults fix it
 --   good_fix, fault_fix   the fixings of the good circuit and of a fault
 --   Unfixed       a fixing leaves a line as it is
 --   Fixes         the lines that a fault fixes are lines of the circuit
---   LineRoom      what working out a line's block asks for
---   line_block    the rows with that block
---   Wide          a valid job, its shape, and rows for the good circuit and so many circuits side by side
---   Sound         so for a batch of circuits, which stands behind the good circuit's rows if it is not the good circuit itself
+--   RowsFor       there are rows for the good circuit and so many circuits side by side
+--   Stands        there are rows for a batch of circuits, which stands behind the good circuit's rows if it is not the good circuit itself
 --   Good          the first rows are the good circuit's tables
 --   side_table    the table of a line in a column of the batch
 --   Side          the blocks of the first lines are their tables in each circuit of the batch, and the good circuit's rows stand
+--   Blocked       a line's block is its tables in the columns that leave the line as it is, and the rows before it stand
 --   Made          so for the lines before one; its own block has its tables in the columns that are not in a set, and those of the set fix it
 --   Asked         lines of the circuit, as those whose tables are asked for
 --   tables_at     the tables of a circuit at some lines, one after the other
@@ -27,25 +25,18 @@
 --   asked_row     the row of a batch's column at one of some lines
 --   rows_at       its rows at these lines, one after the other
 --   RowsThere     a batch's rows at these lines lie within so many bytes
-use Rattle.std.specs.Prelude.{ℕ, zero, suc, ◌+◌, ◌-◌, ◌*◌, ◌^◌, ◌≤◌, ◌<◌, ◌≡◌, Bool, true, false, cond, ◌&&◌, ◌||◌, List, eqb, ltb, length, get_or}
-use Rattle.bits.specs.Packed.{tabulate, packed}
+use Rattle.std.specs.Prelude.{ℕ, zero, suc, ◌+◌, ◌*◌, ◌^◌, ◌≤◌, ◌<◌, ◌≡◌, Bool, true, false, ◌&&◌, ◌||◌, List, eqb, ltb, length, get_or}
+use Rattle.bits.specs.Packed.{packed}
 use Rattle.bits.specs.Sets.{has}
-use Rattle.job.specs.Check.{Valid}
 use Rattle.job.specs.Layout.{max_inputs, max_gates}
-use Rattle.job.specs.Record.{gate_a, gate_b, fault_a, fault_b, fault_at, lines}
+use Rattle.job.specs.Record.{fault_a, fault_b, fault_at, lines}
 use Rattle.job.specs.declared.Fault.{Fault}
-use Rattle.job.specs.declared.Gate.{Gate}
 use Rattle.job.specs.declared.Job.{Job}
-use Rattle.gates.specs.Polynomial.{combined}
 use Rattle.bits.specs.Sizes.{table_bytes}
-use Rattle.bits.specs.Slices.{slice, splice}
-use Rattle.gates.specs.Values.{input_value}
-use Rattle.gates.specs.declared.Polynomial.{Polynomial}
+use Rattle.bits.specs.Slices.{slice}
 use Rattle.tables.specs.Circuit.{Fixing, free, values_to, fixed_by, fixing_of}
 use Rattle.bits.specs.Blocks.{block}
-use Rattle.tables.specs.Sizes.{shape_of}
 use Rattle.tables.specs.declared.evaluator.Batch.{Batch}
-use Rattle.tables.specs.declared.rows.Shape.{Shape}
 
 unfoldable pub max_table_bytes : ℕ
 max_table_bytes = 32
@@ -76,9 +67,6 @@ row_at j r rows = slice (r * table_bytes j.inputs) (table_bytes j.inputs) rows
 abbrev pub row_of : Batch → ℕ → ℕ
 row_of b l = b.base + l * b.count
 
-abbrev pub gate_number : ℕ → ℕ → ℕ
-gate_number inputs l = cond (ltb l inputs) 0 (l - inputs)
-
 abbrev pub is_fixed : Fault → ℕ → Bool
 is_fixed x l = eqb l (fault_a x) || eqb l (fault_b x)
 
@@ -103,27 +91,11 @@ pub record Fixes (j : Job) (x : Fault) : Type 0 where
   pub low : fault_a x < lines j
   pub high : fault_b x < lines j
 
-pub record LineRoom (shape : Shape) (b : Batch) (g : Gate) (l : ℕ) (rows : List ℕ) : Type 0 where
-  pub shaped : shape ≡ shape_of shape.inputs
-  pub few : shape.inputs ≤ 11
-  pub room : row_of b l * shape.bytes + b.count * shape.bytes ≤ length rows
-  pub first : shape.inputs ≤ l → gate_a g < l
-  pub second : shape.inputs ≤ l → gate_b g < l
-
-abbrev pub line_block : Shape → Batch → Gate → Polynomial → ℕ → List ℕ → List ℕ
-line_block shape b g polynomial l rows =
-    splice rows (row_of b l * shape.bytes)
-    (cond (ltb l shape.inputs) (block b.count (λ i. packed (2 ^ shape.inputs) (λ m. input_value m l)))
-    (tabulate (b.count * shape.bytes) (combined polynomial (row_of b (gate_a g) * shape.bytes) (row_of b (gate_b g) * shape.bytes) rows)))
-
-pub record Wide (j : Job) (shape : Shape) (width : ℕ) (rows : List ℕ) : Type 0 where
-  pub valid : Valid j
-  pub shaped : shape ≡ shape_of j.inputs
+-- rows for the good circuit and so many circuits side by side
+pub record RowsFor (j : Job) (width : ℕ) (rows : List ℕ) : Type 0 where
   pub room : (lines j + lines j * width) * table_bytes j.inputs ≤ length rows
 
-pub record Sound (j : Job) (shape : Shape) (b : Batch) (rows : List ℕ) : Type 0 where
-  pub valid : Valid j
-  pub shaped : shape ≡ shape_of j.inputs
+pub record Stands (j : Job) (b : Batch) (rows : List ℕ) : Type 0 where
   pub room : (b.base + lines j * b.count) * table_bytes j.inputs ≤ length rows
   pub behind : 1 ≤ b.first → lines j ≤ b.base
   pub within : b.first + b.count ≤ j.fault_count + 1
@@ -139,6 +111,10 @@ side_table j b i l = line_table (fixing_of j (b.first + i)) j l
 pub record Side (j : Job) (b : Batch) (next : ℕ) (rows : List ℕ) : Type 0 where
   pub good : 1 ≤ b.first → Good j rows
   pub line : (l i : ℕ) → l < next → i < b.count → row_at j (row_of b l + i) rows ≡ side_table j b i l
+
+pub record Blocked (j : Job) (b : Batch) (l : ℕ) (rows after : List ℕ) : Type 0 where
+  pub kept : (k : ℕ) → k < row_of b l → row_at j k after ≡ row_at j k rows
+  pub right : (i : ℕ) → i < b.count → Unfixed (fixing_of j (b.first + i)) l → row_at j (row_of b l + i) after ≡ side_table j b i l
 
 pub record Made (j : Job) (b : Batch) (l left : ℕ) (rows : List ℕ) : Type 0 where
   pub before : Side j b l rows

@@ -8,156 +8,167 @@
 // The good circuit is a batch of one column in which nothing is fixed, and the table of one circuit a batch of one
 // column, so that one loop over lines serves all (`work_out`). The columns that fix a line are a set, the bits of a
 // word.
-ghost use Rattle.std.specs.Prelude.{◌≡◌, ◌+◌, ◌*◌, ◌^◌, ◌≤◌, ◌<◌, length};
+ghost use Rattle.std.specs.Prelude.{◌≡◌, ◌+◌, ◌-◌, ◌*◌, ◌^◌, ◌≤◌, ◌<◌, length};
 ghost use Rattle.bits.specs.Packed.{tabulate};
 ghost use Rattle.job.specs.Check.{Valid};
-ghost use Rattle.job.specs.Record.{gate_a, gate_b, lines};
-ghost use Rattle.gates.specs.Polynomial.{combined};
+ghost use Rattle.job.specs.Record.{gate_kind, gate_a, gate_b, gate_at, lines};
+ghost use Rattle.gates.specs.Polynomial.{kind_polynomial, combined};
 ghost use Rattle.bits.specs.Slices.{splice};
-ghost use Rattle.tables.specs.Sizes.{Formed};
-ghost use Rattle.tables.specs.Work.{row_of, gate_number, line_block, LineRoom, FixedIn, Sound, Good, Side, Made};
+ghost use Rattle.tables.specs.Sizes.{shape_of, Formed};
+ghost use Rattle.tables.specs.Work.{row_of, FixedIn, Stands, Good, Side, Blocked, Made};
 
-use crate::rows::{Polynomials, Shape};
+use crate::rows::{KINDS, Shape};
 use gates::Polynomial;
 use job::{Gate, Job, MAX_GATES, MAX_INPUTS};
 
 pub(crate) const MAX_LINES: usize = MAX_INPUTS + MAX_GATES;
 
-// `count` circuits from number `first` on. The table of line l of circuit first + i is row base + l * count + i, so that the tables of one line are a
-// block. The good circuit is a batch by itself.
+// `count` circuits from number `first` on. The table of line l of circuit first + i is row base + l * count + i, so that
+// the tables of one line are a block. The good circuit is a batch by itself.
 #[derive(Clone, Copy)]
 pub(crate) struct Batch {
-    pub(crate) base: usize,
-    pub(crate) first: usize,
+    base: usize,
+    first: usize,
     pub(crate) count: usize,
 }
 
-// Where the block of a line's tables starts.
-pub(crate) fn block_place(batch: Batch, line: usize, bytes: usize) -> usize
-    requires { (1 ≤ bytes) × (row_of batch line * bytes < 2 ^ 64) }
-    ensures { result ≡ row_of batch line * bytes }
-{
-    (batch.base + line * batch.count) * bytes
+impl Batch {
+    pub(crate) const GOOD: Batch = Batch {
+        base: 0,
+        first: 0,
+        count: 1,
+    };
+
+    // Where the block of a line's tables starts.
+    pub(crate) fn block_place(self, line: usize, bytes: usize) -> usize
+        requires { (1 ≤ bytes) × (row_of self line * bytes < 2 ^ 64) }
+        ensures { result ≡ row_of self line * bytes }
+    {
+        (self.base + line * self.count) * bytes
+    }
 }
 
-// For each line the set of the batch's columns whose faults fix it: column i is circuit first + i.
+// The circuits of a valid job: the shape of their tables, and the polynomial of each kind of gate.
 #[derive(Clone, Copy)]
-struct Fixed {
-    of: [u64; MAX_LINES],
+pub(crate) struct Circuits<'a> {
+    pub(crate) job: &'a Job,
+    pub(crate) shape: Shape,
+    polynomials: [Polynomial; KINDS],
+    ghost valid: { Valid job.now },
+    ghost shaped: { shape ≡ shape_of job.now.inputs },
+    ghost formed: { Formed shape.mask polynomials },
 }
 
-// The good circuit has no fault.
-fn fixed_lines(job: Job, batch: Batch) -> Fixed
-    requires { Valid job × (batch.first + batch.count ≤ job.fault_count + 1) × (batch.first ≡ 0 → batch.count ≡ 1) }
-    ensures { FixedIn job batch result.of }
-{
-    let first = batch.first;
-    let count = batch.count;
-    let mut of = [0u64; MAX_LINES];
-    if first == 0 {
-        return Fixed { of };
-    }
-    let mut i = 0;
-    while i < count {
-        let entry = job.faults[first - 1 + i];
-        let fault = entry.fault;
-        let low = fault.first();
-        let high = fault.second();
-        of[low] = bits::sets::joined(of[low], i);
-        of[high] = bits::sets::joined(of[high], i);
-        i += 1;
-    }
-    Fixed { of }
-}
-
-// Works out the circuits of a batch; faulty ones stand behind the rows of the good one.
-pub(crate) fn work_out(
-    rows: &mut [u8],
-    job: Job,
-    polynomials: Polynomials,
-    batch: Batch,
-    shape: Shape,
-)
-    requires { Sound job shape batch rows.old × Formed shape.mask polynomials × (1 ≤ batch.first → Good job rows.old) }
-    ensures { Side job batch (lines job) rows.new }
-{
-    let inputs = job.inputs as usize;
-    let lines = inputs + job.gate_count as usize;
-    let fixed = fixed_lines(job, batch);
-    let mut line = 0;
-    while line < lines {
-        let entry = job.gates[gate_number(line, inputs)];
-        let gate = entry.gate;
-        let kind = gate.kind();
-        let polynomial = polynomials.of[kind];
-        line_block(rows, gate, polynomial, batch, line, shape);
-        // The record is handed on for few lines only: that copies it.
-        let columns = fixed.of[line];
-        if columns != 0 {
-            fix_line(rows, job, batch, line, columns, shape);
+impl<'a> Circuits<'a> {
+    pub(crate) fn new(job: &'a Job) -> Self
+        requires { Valid job.now }
+        ensures { result.job.now ≡ job.now }
+    {
+        let shape = Shape::new(job.inputs as usize);
+        Circuits {
+            job,
+            shape,
+            polynomials: shape.polynomials(),
         }
-        line += 1;
     }
-}
 
-// The number of the gate that drives a line; an input has none, and 0 serves.
-fn gate_number(line: usize, inputs: usize) -> usize
-    ensures { result ≡ gate_number inputs line }
-{
-    if line < inputs { 0 } else { line - inputs }
-}
-
-// The tables of a line where it is not fixed: of an input, or of a gate from the blocks of the lines that it reads.
-fn line_block(
-    rows: &mut [u8],
-    gate: Gate,
-    polynomial: Polynomial,
-    batch: Batch,
-    line: usize,
-    shape: Shape,
-)
-    requires { LineRoom shape batch gate line rows.old }
-    ensures { rows.new ≡ line_block shape batch gate polynomial line rows.old }
-{
-    if line < shape.inputs {
-        let to = block_place(batch, line, shape.bytes);
-        crate::rows::input_block(rows, line, to, batch.count, shape);
-    } else {
-        gate_block(rows, gate, polynomial, batch, line, shape.bytes);
+    // How many lines each circuit has.
+    fn lines(&self) -> usize
+        ensures { result ≡ lines self.now.job.now }
+    {
+        self.job.inputs as usize + self.job.gate_count as usize
     }
-}
 
-// One gate in all circuits of the batch at once.
-fn gate_block(
-    rows: &mut [u8],
-    gate: Gate,
-    polynomial: Polynomial,
-    batch: Batch,
-    line: usize,
-    bytes: usize,
-)
-    requires { (1 ≤ bytes) × (gate_a gate < line) × (gate_b gate < line) × (row_of batch line * bytes + batch.count * bytes ≤ length rows.old) }
-    ensures { rows.new ≡ splice rows.old (row_of batch line * bytes) (tabulate (batch.count * bytes) (combined polynomial (row_of batch (gate_a gate) * bytes) (row_of batch (gate_b gate) * bytes) rows.old)) }
-{
-    let x = block_place(batch, gate.first(), bytes);
-    let y = block_place(batch, gate.second(), bytes);
-    let to = block_place(batch, line, bytes);
-    gates::combine(rows, x, y, to, batch.count * bytes, polynomial);
-}
+    // A batch of faulty circuits, whose rows stand behind those of the good one.
+    pub(crate) fn faulty(&self, first: usize, count: usize) -> Batch
+        ensures { result ≡ record { base = lines self.now.job.now; first = first; count = count } }
+    {
+        Batch {
+            base: self.lines(),
+            first,
+            count,
+        }
+    }
 
-// The tables of a line in the columns that fix it, over those of the line's block.
-fn fix_line(rows: &mut [u8], job: Job, batch: Batch, line: usize, columns: u64, shape: Shape)
-    requires { Sound job shape batch rows.old × Made job batch line columns rows.old × (line < lines job) }
-    ensures { Side job batch (line + 1) rows.new }
-{
-    let bytes = shape.bytes;
-    let start = block_place(batch, line, bytes);
-    let mut left = columns;
-    while left != 0 {
-        let column = bits::sets::lowest(left);
-        let entry = job.faults[batch.first - 1 + column];
-        let fault = entry.fault;
-        crate::rows::fix_row(rows, start + column * bytes, fault, shape);
-        left = bits::sets::later(left);
+    // Works out the circuits of a batch.
+    pub(crate) fn work_out(&self, rows: &mut [u8], batch: Batch)
+        requires { Stands self.now.job.now batch rows.old × (1 ≤ batch.first → Good self.now.job.now rows.old) }
+        ensures { Side self.now.job.now batch (lines self.now.job.now) rows.new }
+    {
+        let fixed = self.fixed_lines(batch);
+        for line in 0..self.lines() {
+            self.line_block(rows, batch, line);
+            let columns = fixed[line];
+            if columns != 0 {
+                self.fix_line(rows, batch, line, columns);
+            }
+        }
+    }
+
+    // For each line the set of the batch's columns whose faults fix it: column i is circuit first + i. The good circuit
+    // has no fault.
+    fn fixed_lines(&self, batch: Batch) -> [u64; MAX_LINES]
+        requires { (batch.first + batch.count ≤ self.now.job.now.fault_count + 1) × (batch.first ≡ 0 → batch.count ≡ 1) }
+        ensures { FixedIn self.now.job.now batch result }
+    {
+        let first = batch.first;
+        let mut fixed = [0u64; MAX_LINES];
+        if first == 0 {
+            return fixed;
+        }
+        for i in 0..batch.count {
+            let entry = self.job.faults[first - 1 + i];
+            let fault = entry.fault;
+            let low = fault.first();
+            let high = fault.second();
+            fixed[low] = bits::sets::joined(fixed[low], i);
+            fixed[high] = bits::sets::joined(fixed[high], i);
+        }
+        fixed
+    }
+
+    // The tables of a line where it is not fixed: of an input, or of a gate from the blocks of the lines that it reads.
+    fn line_block(&self, rows: &mut [u8], batch: Batch, line: usize)
+        requires { Stands self.now.job.now batch rows.old × Side self.now.job.now batch line rows.old × (line < lines self.now.job.now) }
+        ensures { Blocked self.now.job.now batch line rows.old rows.new }
+    {
+        let inputs = self.job.inputs as usize;
+        if line < inputs {
+            let to = batch.block_place(line, self.shape.bytes);
+            self.shape.input_block(rows, line, to, batch.count);
+        } else {
+            let entry = self.job.gates[line - inputs];
+            self.gate_block(rows, batch, line, entry.gate);
+        }
+    }
+
+    // One gate in all circuits of the batch at once.
+    fn gate_block(&self, rows: &mut [u8], batch: Batch, line: usize, gate: Gate)
+        requires { (gate_a gate < line) × (gate_b gate < line) × (row_of batch line * self.now.shape.bytes + batch.count * self.now.shape.bytes ≤ length rows.old) }
+        ensures { rows.new ≡ splice rows.old (row_of batch line * self.now.shape.bytes) (tabulate (batch.count * self.now.shape.bytes) (combined (kind_polynomial (gate_kind gate) self.now.shape.mask) (row_of batch (gate_a gate) * self.now.shape.bytes) (row_of batch (gate_b gate) * self.now.shape.bytes) rows.old)) }
+    {
+        let bytes = self.shape.bytes;
+        let x = batch.block_place(gate.first(), bytes);
+        let y = batch.block_place(gate.second(), bytes);
+        let to = batch.block_place(line, bytes);
+        let polynomial = self.polynomials[gate.kind()];
+        gates::combine(rows, x, y, to, batch.count * bytes, polynomial);
+    }
+
+    // The tables of a line in the columns that fix it, over those of the line's block.
+    fn fix_line(&self, rows: &mut [u8], batch: Batch, line: usize, columns: u64)
+        requires { Stands self.now.job.now batch rows.old × Made self.now.job.now batch line columns rows.old × (line < lines self.now.job.now) }
+        ensures { Side self.now.job.now batch (line + 1) rows.new }
+    {
+        let bytes = self.shape.bytes;
+        let start = batch.block_place(line, bytes);
+        let mut left = columns;
+        while left != 0 {
+            let column = bits::sets::lowest(left);
+            let entry = self.job.faults[batch.first - 1 + column];
+            self.shape
+                .fix_row(rows, start + column * bytes, entry.fault);
+            left = bits::sets::later(left);
+        }
     }
 }

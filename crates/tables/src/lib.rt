@@ -3,20 +3,18 @@
 // the output lines are copied to the lent bytes, circuit after circuit, output after output.
 #![tactic(auto)]
 
-ghost use Rattle.std.specs.Prelude.{◌≡◌, ◌+◌, ◌*◌, ◌/◌, ◌≤◌, ◌<◌, length};
+ghost use Rattle.std.specs.Prelude.{◌≡◌, ◌+◌, ◌*◌, ◌/◌, ◌^◌, ◌≤◌, ◌<◌, length};
 ghost use Rattle.bits.specs.Answer.{outcome, leaves};
 ghost use Rattle.bits.specs.Sizes.{table_bytes};
 ghost use Rattle.bits.specs.Blocks.{block};
 ghost use Rattle.bits.specs.Slices.{splice};
-ghost use Rattle.bits.specs.declared.Outcome.TheVariants.{Refused};
+ghost use Rattle.job.specs.Layout.{max_faults};
 ghost use Rattle.tables.specs.Operations.{table_of, tables_of, counts_of, no_counts, delivered};
-ghost use Rattle.tables.specs.Sizes.{Formed};
-ghost use Rattle.tables.specs.Work.{block_bytes, Wide, Sound, Good, Asked, tables_at, tables_from, rows_at, RowsThere};
+ghost use Rattle.tables.specs.Work.{block_bytes, RowsFor, Stands, Good, Asked, tables_at, tables_from, rows_at, RowsThere};
 
-use bits::{Outcome, Refusal};
-use evaluator::{Batch, MAX_LINES};
+use bits::Refusal;
+use evaluator::{Batch, Circuits, MAX_LINES};
 use job::{Job, MAX_FAULTS, MAX_INPUTS, MAX_OUTPUTS};
-use rows::{Polynomials, Shape};
 
 mod evaluator;
 mod rows;
@@ -41,7 +39,7 @@ const BLOCK_BYTES: usize = 512;
 const ALL_ROW_BYTES: usize = MAX_LINES * (MAX_TABLE_BYTES + BLOCK_BYTES);
 
 // How many inputs, gates, outputs and faults a job has, and the part of each circuit.
-#[derive(Clone, Copy)]
+#[derive(Clone, Copy, Debug, PartialEq, Eq)]
 pub struct Counts {
     pub inputs: usize,
     pub gates: usize,
@@ -50,51 +48,43 @@ pub struct Counts {
     pub parts: [u8; MAX_CIRCUITS],
 }
 
-// Whether the tables of a job are written, its counts, and how many bytes the tables have; these are 0 beside a refusal.
-#[derive(Clone, Copy)]
+// The counts of a job whose tables are written, and how many bytes they have.
+#[derive(Clone, Copy, Debug, PartialEq, Eq)]
 pub struct Delivery {
-    pub outcome: Outcome,
     pub counts: Counts,
     pub bytes: usize,
 }
 
 // The packed table of circuit `circuit` at output `output` of the job that the bytes give.
-pub fn table(bytes: &[u8], circuit: usize, output: usize, out: &mut [u8]) -> Outcome
+pub fn table(bytes: &[u8], circuit: usize, output: usize, out: &mut [u8]) -> Result<(), Refusal>
     ensures { record { answer = outcome result; memory = out.new } ≡ leaves (table_of bytes.now circuit output (length out.old)) out.old }
 {
-    let reading = reading::read(bytes);
-    let outcome = reading.outcome;
-    if let Outcome::Refused(cause) = outcome {
-        return Outcome::Refused(cause);
-    }
-    let job = reading.job;
+    let job = reading::read(bytes)?;
     if (job.fault_count as usize) < circuit {
-        return Outcome::Refused(Refusal::Circuit);
+        return Err(Refusal::Circuit);
     }
     if job.output_count as usize <= output {
-        return Outcome::Refused(Refusal::OutputNumber);
+        return Err(Refusal::OutputNumber);
     }
-    let shape = rows::shape_of(job.inputs as usize);
-    if out.len() < shape.bytes {
-        return Outcome::Refused(Refusal::Memory);
+    let circuits = Circuits::new(&job);
+    if out.len() < circuits.shape.bytes {
+        return Err(Refusal::Memory);
     }
     let mut rows = [0u8; ROW_BYTES];
-    let lines = job.outputs;
-    let asked = &lines[output..output + 1];
-    put_table(out, &mut rows, job, circuit, asked, shape);
-    Outcome::Done
+    let asked = &job.outputs[output..output + 1];
+    let listing = Listing { circuits, asked };
+    listing.put_table(&mut rows, circuit, out);
+    Ok(())
 }
 
 // The counts and parts of a job: the good circuit's part is 0.
-fn counts_of(job: Job) -> Counts
-    ensures { result ≡ counts_of job }
+fn counts_of(job: &Job) -> Counts
+    requires { length job.now.faults ≡ max_faults }
+    ensures { result ≡ counts_of job.now }
 {
     let mut parts = [0u8; MAX_CIRCUITS];
-    let mut i = 0;
-    while i < MAX_FAULTS {
-        let entry = job.faults[i];
+    for (i, entry) in job.faults.iter().enumerate() {
         parts[1 + i] = entry.part;
-        i += 1;
     }
     Counts {
         inputs: job.inputs as usize,
@@ -105,7 +95,7 @@ fn counts_of(job: Job) -> Counts
     }
 }
 
-// What counts and parts are beside a refusal.
+// Counts and parts of 0.
 pub fn no_counts() -> Counts
     ensures { result ≡ no_counts }
 {
@@ -118,178 +108,113 @@ pub fn no_counts() -> Counts
     }
 }
 
-// What stands beside a refusal.
-fn undelivered(cause: Refusal) -> Delivery
-    ensures { result ≡ record { outcome = Refused cause; counts = no_counts; bytes = 0 } }
-{
-    Delivery {
-        outcome: Outcome::Refused(cause),
-        counts: no_counts(),
-        bytes: 0,
-    }
-}
-
 // The packed tables of all circuits of the job that the bytes give, circuit after circuit, output after output.
-pub fn tables(bytes: &[u8], out: &mut [u8]) -> Delivery
-    ensures { record { answer = outcome result.outcome; counts = result.counts; bytes = result.bytes; memory = out.new } ≡ delivered (tables_of bytes.now (length out.old)) out.old }
+pub fn tables(bytes: &[u8], out: &mut [u8]) -> Result<Delivery, Refusal>
+    ensures { record { answer = outcome result; memory = out.new } ≡ delivered (tables_of bytes.now (length out.old)) out.old }
 {
-    let reading = reading::read(bytes);
-    let outcome = reading.outcome;
-    if let Outcome::Refused(cause) = outcome {
-        return undelivered(cause);
-    }
-    let job = reading.job;
+    let job = reading::read(bytes)?;
     let outputs = job.output_count as usize;
     let faults = job.fault_count as usize;
-    let shape = rows::shape_of(job.inputs as usize);
-    let bytes = (faults + 1) * outputs * shape.bytes;
+    let circuits = Circuits::new(&job);
+    let bytes = (faults + 1) * outputs * circuits.shape.bytes;
     if out.len() < bytes {
-        return undelivered(Refusal::Memory);
+        return Err(Refusal::Memory);
     }
     let mut rows = [0u8; ALL_ROW_BYTES];
     let lines = job.outputs;
-    put_tables(out, &mut rows, job, &lines[..outputs], shape);
-    Delivery {
-        outcome: Outcome::Done,
-        counts: counts_of(job),
-        bytes,
+    let asked = &lines[..outputs];
+    let listing = Listing { circuits, asked };
+    listing.put_tables(&mut rows, out);
+    let counts = counts_of(&job);
+    Ok(Delivery { counts, bytes })
+}
+
+// The circuits of a job, and the lines whose tables are asked for.
+#[derive(Clone, Copy)]
+struct Listing<'a> {
+    circuits: Circuits<'a>,
+    asked: &'a [u8],
+    ghost lie: { Asked circuits.job.now asked.now },
+}
+
+impl<'a> Listing<'a> {
+    // Copies the tables of one circuit, a column of a batch.
+    fn put_column(&self, rows: &[u8], batch: Batch, column: usize, out: &mut [u8], to: usize)
+        requires { RowsThere batch self.now.circuits.shape.bytes self.now.asked.now (length rows.now) × (column < batch.count) × (to + length self.now.asked.now * self.now.circuits.shape.bytes ≤ length out.old) }
+        ensures { out.new ≡ splice out.old to (rows_at batch self.now.circuits.shape.bytes self.now.asked.now rows.now column) }
+    {
+        let bytes = self.circuits.shape.bytes;
+        for (p, line) in self.asked.iter().enumerate() {
+            let at = batch.block_place(*line as usize, bytes) + column * bytes;
+            bits::copy(out, to + p * bytes, rows, at, bytes);
+        }
     }
-}
 
-// Copies the tables of one circuit, a column of a batch, at the lines asked for.
-fn put_column(
-    out: &mut [u8],
-    to: usize,
-    rows: &[u8],
-    asked: &[u8],
-    batch: Batch,
-    column: usize,
-    bytes: usize,
-)
-    requires { RowsThere batch bytes asked.now (length rows.now) × (column < batch.count) × (to + length asked.now * bytes ≤ length out.old) }
-    ensures { out.new ≡ splice out.old to (rows_at batch bytes asked.now rows.now column) }
-{
-    let mut p = 0;
-    while p < asked.len() {
-        let at = evaluator::block_place(batch, asked[p] as usize, bytes) + column * bytes;
-        bits::copy(out, to + p * bytes, rows, at, bytes);
-        p += 1;
+    // Copies the tables of a batch's circuits, circuit after circuit.
+    fn put_columns(&self, rows: &[u8], batch: Batch, out: &mut [u8], to: usize)
+        requires { RowsThere batch self.now.circuits.shape.bytes self.now.asked.now (length rows.now) × (to + batch.count * (length self.now.asked.now * self.now.circuits.shape.bytes) ≤ length out.old) }
+        ensures { out.new ≡ splice out.old to (block batch.count (rows_at batch self.now.circuits.shape.bytes self.now.asked.now rows.now)) }
+    {
+        for i in 0..batch.count {
+            let step = self.asked.len() * self.circuits.shape.bytes;
+            self.put_column(rows, batch, i, out, to + i * step);
+        }
     }
-}
 
-// Copies the tables of a batch's circuits at the lines asked for, circuit after circuit.
-fn put_columns(out: &mut [u8], to: usize, rows: &[u8], asked: &[u8], batch: Batch, bytes: usize)
-    requires { RowsThere batch bytes asked.now (length rows.now) × (to + batch.count * (length asked.now * bytes) ≤ length out.old) }
-    ensures { out.new ≡ splice out.old to (block batch.count (rows_at batch bytes asked.now rows.now)) }
-{
-    let count = batch.count;
-    let mut i = 0;
-    while i < count {
-        let step = asked.len() * bytes;
-        put_column(out, to + i * step, rows, asked, batch, i, bytes);
-        i += 1;
+    // Works out a batch, and puts its circuits' tables to a place of the lent bytes.
+    fn put_batch(&self, rows: &mut [u8], batch: Batch, out: &mut [u8], to: usize)
+        requires { Stands self.now.circuits.job.now batch rows.old × (1 ≤ batch.first → Good self.now.circuits.job.now rows.old) × (to + batch.count * (length self.now.asked.now * table_bytes self.now.circuits.job.now.inputs) ≤ length out.old) }
+        ensures { Good self.now.circuits.job.now rows.new × (out.new ≡ splice out.old to (tables_from self.now.circuits.job.now self.now.asked.now batch.first batch.count)) }
+    {
+        self.circuits.work_out(rows, batch);
+        self.put_columns(rows, batch, out, to);
     }
-}
 
-// Works out a batch, and puts its circuits' tables at the lines asked for to a place of the lent bytes.
-fn put_batch(
-    out: &mut [u8],
-    to: usize,
-    rows: &mut [u8],
-    job: Job,
-    polynomials: Polynomials,
-    asked: &[u8],
-    batch: Batch,
-    shape: Shape,
-)
-    requires { Sound job shape batch rows.old × Formed shape.mask polynomials × (1 ≤ batch.first → Good job rows.old) × Asked job asked.now × (to + batch.count * (length asked.now * table_bytes job.inputs) ≤ length out.old) }
-    ensures { Good job rows.new × (out.new ≡ splice out.old to (tables_from job asked.now batch.first batch.count)) }
-{
-    evaluator::work_out(rows, job, polynomials, batch, shape);
-    put_columns(out, to, rows, asked, batch, shape.bytes);
-}
-
-// The good circuit by itself: its rows come first, and its tables at the start of the lent bytes.
-fn put_good(
-    out: &mut [u8],
-    rows: &mut [u8],
-    job: Job,
-    polynomials: Polynomials,
-    asked: &[u8],
-    shape: Shape,
-)
-    requires { Wide job shape 0 rows.old × Formed shape.mask polynomials × Asked job asked.now × (length asked.now * table_bytes job.inputs ≤ length out.old) }
-    ensures { Good job rows.new × (out.new ≡ splice out.old 0 (tables_at job asked.now 0)) }
-{
-    let batch = Batch {
-        base: 0,
-        first: 0,
-        count: 1,
-    };
-    put_batch(out, 0, rows, job, polynomials, asked, batch, shape);
-}
-
-// The tables of one circuit, at the start of the lent bytes: the good one's give way to those of a faulty one.
-fn put_table(out: &mut [u8], rows: &mut [u8], job: Job, circuit: usize, asked: &[u8], shape: Shape)
-    requires { Wide job shape 1 rows.old × (circuit ≤ job.fault_count) × Asked job asked.now × (length asked.now * table_bytes job.inputs ≤ length out.old) }
-    ensures { out.new ≡ splice out.old 0 (tables_at job asked.now circuit) }
-{
-    let polynomials = rows::polynomials_of(shape.mask);
-    put_good(out, rows, job, polynomials, asked, shape);
-    if circuit == 0 {
-        return;
+    // The good circuit by itself: its rows come first, and its tables at the start of the lent bytes.
+    fn put_good(&self, rows: &mut [u8], out: &mut [u8])
+        requires { RowsFor self.now.circuits.job.now 0 rows.old × (length self.now.asked.now * table_bytes self.now.circuits.job.now.inputs ≤ length out.old) }
+        ensures { Good self.now.circuits.job.now rows.new × (out.new ≡ splice out.old 0 (tables_at self.now.circuits.job.now self.now.asked.now 0)) }
+    {
+        self.put_batch(rows, Batch::GOOD, out, 0);
     }
-    let base = job.inputs as usize + job.gate_count as usize;
-    let batch = Batch {
-        base,
-        first: circuit,
-        count: 1,
-    };
-    put_batch(out, 0, rows, job, polynomials, asked, batch, shape);
-}
 
-// The tables of all circuits, from the start of the lent bytes on.
-fn put_tables(out: &mut [u8], rows: &mut [u8], job: Job, asked: &[u8], shape: Shape)
-    requires { Wide job shape (block_bytes / table_bytes job.inputs) rows.old × Asked job asked.now × ((job.fault_count + 1) * (length asked.now * table_bytes job.inputs) ≤ length out.old) }
-    ensures { out.new ≡ splice out.old 0 (tables_from job asked.now 0 (job.fault_count + 1)) }
-{
-    let polynomials = rows::polynomials_of(shape.mask);
-    put_good(out, rows, job, polynomials, asked, shape);
-    put_faults(out, rows, job, polynomials, asked, shape);
-}
+    // The tables of one circuit, at the start of the lent bytes: the good one's give way to those of a faulty one.
+    fn put_table(&self, rows: &mut [u8], circuit: usize, out: &mut [u8])
+        requires { RowsFor self.now.circuits.job.now 1 rows.old × (circuit ≤ self.now.circuits.job.now.fault_count) × (length self.now.asked.now * table_bytes self.now.circuits.job.now.inputs ≤ length out.old) }
+        ensures { out.new ≡ splice out.old 0 (tables_at self.now.circuits.job.now self.now.asked.now circuit) }
+    {
+        self.put_good(rows, out);
+        if circuit == 0 {
+            return;
+        }
+        self.put_batch(rows, self.circuits.faulty(circuit, 1), out, 0);
+    }
 
-// The tables of all faulty circuits behind the good circuit's, batch after batch.
-fn put_faults(
-    out: &mut [u8],
-    rows: &mut [u8],
-    job: Job,
-    polynomials: Polynomials,
-    asked: &[u8],
-    shape: Shape,
-)
-    requires { Wide job shape (block_bytes / table_bytes job.inputs) rows.old × Formed shape.mask polynomials × Good job rows.old × Asked job asked.now × ((job.fault_count + 1) * (length asked.now * table_bytes job.inputs) ≤ length out.old) }
-    ensures { out.new ≡ splice out.old (length asked.now * table_bytes job.inputs) (tables_from job asked.now 1 job.fault_count) }
-{
-    let faults = job.fault_count as usize;
-    let bytes = shape.bytes;
-    let step = asked.len() * bytes;
-    let most = BLOCK_BYTES / bytes;
-    let base = job.inputs as usize + job.gate_count as usize;
-    let mut done = 0;
-    while done < faults {
-        let count = bits::least(most, faults - done);
-        let first = done + 1;
-        let batch = Batch { base, first, count };
-        put_batch(
-            out,
-            first * step,
-            rows,
-            job,
-            polynomials,
-            asked,
-            batch,
-            shape,
-        );
-        done += count;
+    // The tables of all circuits, from the start of the lent bytes on.
+    fn put_tables(&self, rows: &mut [u8], out: &mut [u8])
+        requires { RowsFor self.now.circuits.job.now (block_bytes / table_bytes self.now.circuits.job.now.inputs) rows.old × ((self.now.circuits.job.now.fault_count + 1) * (length self.now.asked.now * table_bytes self.now.circuits.job.now.inputs) ≤ length out.old) }
+        ensures { out.new ≡ splice out.old 0 (tables_from self.now.circuits.job.now self.now.asked.now 0 (self.now.circuits.job.now.fault_count + 1)) }
+    {
+        self.put_good(rows, out);
+        self.put_faults(rows, out);
+    }
+
+    // The tables of all faulty circuits behind the good circuit's, batch after batch.
+    fn put_faults(&self, rows: &mut [u8], out: &mut [u8])
+        requires { RowsFor self.now.circuits.job.now (block_bytes / table_bytes self.now.circuits.job.now.inputs) rows.old × Good self.now.circuits.job.now rows.old × ((self.now.circuits.job.now.fault_count + 1) * (length self.now.asked.now * table_bytes self.now.circuits.job.now.inputs) ≤ length out.old) }
+        ensures { out.new ≡ splice out.old (length self.now.asked.now * table_bytes self.now.circuits.job.now.inputs) (tables_from self.now.circuits.job.now self.now.asked.now 1 self.now.circuits.job.now.fault_count) }
+    {
+        let faults = self.circuits.job.fault_count as usize;
+        let bytes = self.circuits.shape.bytes;
+        let step = self.asked.len() * bytes;
+        let most = BLOCK_BYTES / bytes;
+        let mut done = 0;
+        while done < faults {
+            let count = most.min(faults - done);
+            let first = done + 1;
+            let batch = self.circuits.faulty(first, count);
+            self.put_batch(rows, batch, out, first * step);
+            done += count;
+        }
     }
 }

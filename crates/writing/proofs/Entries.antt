@@ -1,19 +1,17 @@
 -- Laws of the bits of a job, entry by entry (specs/Writing.antt).
 --
---   from_gate_count, from_gates, from_output_count, from_outputs, from_fault_count   the bits of a job from a place on
 --   entry_same, fault_same   equal kinds and lines have equal bits, and so have those of a fault with its part
---   entries_ready   where all entries have room, the next one has
---   entries_none, entries_next, entries_done   no entry is put, one more is put, all are put
---   whole_ready, whole_done   the same of a list that is put whole: its room, and the end
+--   entries_room   where all entries have room, the next one has
+--   entries_none, entries_next   no entry is put, one more is put
 --   bytes_job_bits   the number of a job's bytes, as the code works it out
-use Prim.Native.Nat.{ℕ, suc, ◌+◌, ◌*◌, ◌-◌, ◌/◌, ◌≤◌, ◌<◌}
+use Prim.Native.Nat.{ℕ, suc, ◌+◌, ◌*◌, ◌/◌, ◌≤◌, ◌<◌}
 use mathlib.Core.Path.{◌≡◌, refl, sym, ap, ap₂, ◌∙◌, subst}
 use mathlib.Core.List.{List, [], ◌∷◌, ◌++◌, append_assoc, append-nil}
-use native.Mathlib.Nat.{suc-mul, add_comm, le_refl}
+use native.Mathlib.Nat.{suc-mul, add_comm}
 use native.Mathlib.Numerals.{add-one}
 use native.Mathlib.Omega.{arith}
 use lib.ListN.{length, get_or, take, drop, length-append, take-append-drop}
-use lib.Seq.{take-suc, take-take, take_all, length-take-le}
+use lib.Seq.{take-suc, length-take-le}
 use Rattle.bits.specs.Bits.{bits_of, bytes_of}
 use Rattle.bits.proofs.Bits.{length_bits_of}
 use Rattle.bits.proofs.Bytes.{length_bytes_of}
@@ -21,26 +19,10 @@ use Rattle.job.specs.Layout.{input_count_bits, gate_count_bits, gate_kind_bits, 
 use Rattle.job.specs.Record.{gate_kind, gate_a, gate_b}
 use Rattle.job.specs.declared.FaultEntry.{FaultEntry}
 use Rattle.job.specs.declared.Job.{Job}
-use Rattle.writing.specs.Pen.{Ready, Puts}
+use Rattle.writing.specs.Pen.{HasRoom, Puts}
 use Rattle.writing.specs.Writing.{entry_bits, gate_bits, fault_bits, all_bits, job_bits}
-use Rattle.writing.specs.declared.Pen.{Pen}
-use Rattle.writing.proofs.PutBits.{puts_none, puts_then, ready_front, ready_after}
-
--- the bits of a job from its gate count, its gates, its output count, its outputs, its fault count on
-abbrev pub from_fault_count : Job → List ℕ
-from_fault_count j = bits_of fault_count_bits j.fault_count ++ all_bits fault_bits (take j.fault_count j.faults)
-
-abbrev pub from_outputs : Job → List ℕ
-from_outputs j = all_bits (bits_of line_bits) (take j.output_count j.outputs) ++ from_fault_count j
-
-abbrev pub from_output_count : Job → List ℕ
-from_output_count j = bits_of output_count_bits (j.output_count - 1) ++ from_outputs j
-
-abbrev pub from_gates : Job → List ℕ
-from_gates j = all_bits gate_bits (take j.gate_count j.gates) ++ from_output_count j
-
-abbrev pub from_gate_count : Job → List ℕ
-from_gate_count j = bits_of gate_count_bits j.gate_count ++ from_gates j
+use Rattle.writing.specs.declared.pen.Pen.{Pen}
+use Rattle.writing.proofs.PutBits.{puts_none, puts_then, room_front, room_after}
 
 pub entry_same : (kind_bits : ℕ) {k l a x b y : ℕ} → k ≡ l → a ≡ x → b ≡ y → entry_bits kind_bits k a b ≡ entry_bits kind_bits l x y
 entry_same kind_bits p q r = simp (p, q, r)
@@ -72,42 +54,26 @@ module _ {A : Type 0} (bits : A → List ℕ) where
   length_used w h entries {count} room =
       length_all_bits w h (take count entries) ∙ ap (λ (n : ℕ). n * w) (length-take-le count entries room)
 
-  pub entries_none : (entries : List A) {out more : List ℕ} {p : Pen} → Ready out p more → Puts out p (all_bits bits (take 0 entries)) out p
-  unfolding all_bits
-  entries_none entries ready = puts_none ready
+  module _ (entries : List A) {p : Pen} where
+    pub entries_none : Puts p (all_bits bits (take 0 entries)) p
+    unfolding all_bits
+    entries_none = puts_none
 
-  pub entries_done : (entries : List A) {count i : ℕ} {out after : List ℕ} {p q : Pen} → i ≤ count → count ≤ i
-      → Puts out p (all_bits bits (take i entries)) after q → Puts out p (all_bits bits (take count entries)) after q
-  entries_done entries {count} {i} {out} {after} {p} {q} h k x =
-      let e : i ≡ count = omega arith in
-      subst (λ (n : ℕ). Puts out p (all_bits bits (take n entries)) after q) e x
+    module _ (d : A) {i : ℕ} {q : Pen} (put : Puts p (all_bits bits (take i entries)) q) {next : List ℕ} (same : next ≡ bits (get_or entries i d)) where
+      pub entries_room : i < length entries → HasRoom p (all_bits bits entries) → HasRoom q next
+      entries_room h room =
+          let split : all_bits bits entries ≡ (all_bits bits (take i entries) ++ next) ++ all_bits bits (drop (suc i) entries) =
+          ap (all_bits bits) (sym (take-append-drop (suc i) entries))
+          ∙ all_bits_append (take (suc i) entries) (drop (suc i) entries)
+          ∙ ap (λ (l : List ℕ). l ++ all_bits bits (drop (suc i) entries)) (all_bits_next d entries i h ∙ ap (λ (l : List ℕ). all_bits bits (take i entries) ++ l) (sym same))
+          in
+          room_after next (room_front (all_bits bits (take i entries) ++ next) (all_bits bits (drop (suc i) entries)) (subst (HasRoom p) split room)) put
 
-  pub whole_ready : (entries : List A) {out : List ℕ} {p : Pen} → Ready out p (all_bits bits entries) → Ready out p (all_bits bits (take (length entries) entries))
-  whole_ready entries {out} {p} ready =
-      subst (λ (l : List A). Ready out p (all_bits bits l)) (sym (take_all (length entries) entries (le_refl (length entries)))) ready
-
-  pub whole_done : (entries : List A) {i : ℕ} {out after : List ℕ} {p q : Pen} → length entries ≤ i → Puts out p (all_bits bits (take i entries)) after q
-      → Puts out p (all_bits bits entries) after q
-  whole_done entries {i} {out} {after} {p} {q} h x = subst (λ (l : List A). Puts out p (all_bits bits l) after q) (take_all i entries h) x
-
-  module _ (d : A) (entries : List A) (i : ℕ) {out mid : List ℕ} {p q : Pen} (put : Puts out p (all_bits bits (take i entries)) mid q)
-      {next : List ℕ} (same : next ≡ bits (get_or entries i d)) where
-    pub entries_ready : (count : ℕ) → i < count → count ≤ length entries → Ready out p (all_bits bits (take count entries)) → Ready mid q next
-    entries_ready count h k ready =
-        let more : suc i ≤ count = omega arith in
-        let rest = drop (suc i) (take count entries) in
-        let split : all_bits bits (take count entries) ≡ (all_bits bits (take i entries) ++ next) ++ all_bits bits rest =
-        ap (all_bits bits) (sym (take-append-drop (suc i) (take count entries)) ∙ ap (λ (l : List A). l ++ rest) (take-take (suc i) count entries more))
-        ∙ all_bits_append (take (suc i) entries) rest
-        ∙ ap (λ (l : List ℕ). l ++ all_bits bits rest) (all_bits_next d entries i (omega arith) ∙ ap (λ (l : List ℕ). all_bits bits (take i entries) ++ l) (sym same))
-        in
-        ready_after next (ready_front (all_bits bits (take i entries) ++ next) (all_bits bits rest) (subst (λ (l : List ℕ). Ready out p l) split ready)) put
-
-    pub entries_next : {after : List ℕ} {r : Pen} → i < length entries → Puts mid q next after r → Puts out p (all_bits bits (take (i + 1) entries)) after r
-    entries_next {after} {r} h x =
-        subst (λ (l : List ℕ). Puts out p l after r)
-        (ap (λ (l : List ℕ). all_bits bits (take i entries) ++ l) same ∙ sym (ap (λ (n : ℕ). all_bits bits (take n entries)) (add-one i) ∙ all_bits_next d entries i h))
-        (puts_then put x)
+      pub entries_next : {r : Pen} → i < length entries → Puts q next r → Puts p (all_bits bits (take (i + 1) entries)) r
+      entries_next {r} h x =
+          subst (λ (l : List ℕ). Puts p l r)
+          (ap (λ (l : List ℕ). all_bits bits (take i entries) ++ l) same ∙ sym (ap (λ (n : ℕ). all_bits bits (take n entries)) (add-one i) ∙ all_bits_next d entries i h))
+          (puts_then put x)
 
 length_entry_bits : (kind_bits kind a b : ℕ) → length (entry_bits kind_bits kind a b) ≡ kind_bits + 2 * line_bits
 unfolding entry_bits

@@ -1,2 +1,3 @@
+pub mod Checks
 pub mod Pen
 pub mod Writing

@@ -3,10 +3,9 @@
 --   gate_bits, fault_bits   the bits of one gate, of one fault
 --   job_bits                the string of bits of a job, without its spare bits
 --   written                 what writing answers and fills, given the length of the lent memory
---   written_told            what the operation's answer stands for
 use Rattle.std.specs.Prelude.{ℕ, ◌-◌, List, [], ◌∷◌, ◌++◌, leb, length, take}
-use Rattle.bits.specs.Answer.{Answer, Fills, number, unless, onward}
-use Rattle.bits.specs.Answer.Answer.{gives, refused}
+use Rattle.bits.specs.Answer.{Answer, Fills, unless, onward}
+use Rattle.bits.specs.Answer.Answer.{gives}
 use Rattle.bits.specs.Bits.{bits_of, bytes_of}
 use Rattle.job.specs.Check.{checked}
 use Rattle.job.specs.Layout.{input_count_bits, gate_count_bits, gate_kind_bits, line_bits, output_count_bits, fault_count_bits, fault_kind_bits, part_bits}
@@ -14,8 +13,6 @@ use Rattle.job.specs.Record.{gate_kind, gate_a, gate_b, fault_kind, fault_a, fau
 use Rattle.job.specs.declared.FaultEntry.{FaultEntry}
 use Rattle.job.specs.declared.GateEntry.{GateEntry}
 use Rattle.job.specs.declared.Job.{Job}
-use Rattle.writing.specs.declared.Written.{Written}
-use Rattle.writing.specs.declared.Written.TheVariants.{Bytes, Refused}
 
 -- "a kind .., line a (7), line b (7)"
 unfoldable pub entry_bits : ℕ → ℕ → ℕ → ℕ → List ℕ
@@ -50,7 +47,3 @@ written j room =
     onward (checked j) (λ _.
     unless (leb (length (bytes_of (job_bits j))) room) 10
     (gives (record { value = length (bytes_of (job_bits j)); filled = bytes_of (job_bits j) })))
-
-abbrev pub written_told : Written → Answer ℕ
-written_told (Bytes n) = gives n
-written_told (Refused e) = refused (number e)

@@ -14,19 +14,6 @@ returns-then-width-gt-MAX_WIDTH c =
     let a = c.args in
     sym (field_at_cut a.s.now a.c a.width (λ p q r. omega (arith, c.if-width-gt-MAX_WIDTH.true)))
 
-pub returns-then-early_bytes-at : goal.returns-then-early_bytes-at
-returns-then-early_bytes-at c = c.late_field.ensures
-
-pub overflow_add-next : goal.overflow_add-next
-overflow_add-next c =
-    let a = c.args in
-    omega (arith, place_early a.s.now a.c a.width c.early_bytes.ensures c.if-early_bytes-at.false, c.if-width-gt-MAX_WIDTH.false)
-
-pub two_bytes-requires : goal.two_bytes-requires
-two_bytes-requires c =
-    let a = c.args in
-    window_early a.s.now a.c a.width c.early_bytes.ensures c.if-early_bytes-at.false
-
 pub returns : goal.returns
 returns c =
     let a = c.args in

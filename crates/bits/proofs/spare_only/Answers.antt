@@ -1,8 +1,6 @@
 -- `bits::spare_only` meets its contract.
 use native.Mathlib.Omega.{arith}
-use Prim.Native.Nat.{◌-◌, ◌%◌}
-use lib.Pow.{pow_pos}
-use Rattle.bits.proofs.Fields.{shift_exact, spare_none, spare_more, spare_last}
+use Rattle.bits.proofs.Fields.{spare_none, spare_more, spare_last}
 use Rattle.bits.proofs.spare_only.Goals as goal
 
 pub returns-then-s-at : goal.returns-then-s-at
@@ -13,9 +11,6 @@ returns-then-used-eq0 c = spare_more c.args.s.now c.args.c (omega arith)
 
 pub returns-then-at-s : goal.returns-then-at-s
 returns-then-at-s c = spare_more c.args.s.now c.args.c (omega arith)
-
-pub nonzero_rem-result : goal.nonzero_rem-result
-nonzero_rem-result c = rw (shift_exact (8 - c.args.c.bit % 8) (omega arith)) (pow_pos (8 - c.args.c.bit % 8))
 
 pub returns : goal.returns
 returns c = spare_last c.args.s.now c.args.c c.byte_or_zero.ensures.0 c.if-s-at.false c.if-at-s.false c.if-used-eq0.false

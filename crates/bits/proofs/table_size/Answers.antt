@@ -2,9 +2,6 @@
 use Rattle.bits.proofs.TableSizes.{table_size_none, table_size_some}
 use Rattle.bits.proofs.table_size.Goals as goal
 
-pub overflow_shl-result : goal.overflow_shl-result
-overflow_shl-result c = c.if-n-ge-WORD_BITS.false
-
 pub returns-then-n-ge-WORD_BITS : goal.returns-then-n-ge-WORD_BITS
 returns-then-n-ge-WORD_BITS c = table_size_none c.if-n-ge-WORD_BITS.true
 

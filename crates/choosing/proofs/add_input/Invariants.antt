@@ -4,6 +4,3 @@ use Rattle.choosing.proofs.add_input.Given as goal
 
 abbrev pub invariant-loop-order : goal.invariant-loop-order
 invariant-loop-order l = Summing l.initial.firsts l.order l.firsts
-
-abbrev pub decreases-loop-order : goal.decreases-loop-order
-decreases-loop-order l = l.order

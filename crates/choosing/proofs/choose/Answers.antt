@@ -1,47 +1,38 @@
 -- `choosing::choose` meets its contract: the tables are delivered, or reading refuses.
 use Prim.Native.Nat.{ℕ}
-use mathlib.Core.Path.{refl, sym, ◌∙◌}
+use mathlib.Core.Path.{sym, ◌∙◌}
 use mathlib.Core.List.{List}
 use lib.ListN.{replicate, length-replicate}
 use lib.Seq.{length-take-le}
+use Rattle.std.proofs.lemmas.Result.{err_from_is_err_and}
 use Rattle.job.specs.Layout.{max_outputs, max_faults}
 use Rattle.tables.specs.Work.{max_table_bytes}
 use Rattle.tables.proofs.Families.{Delivers, tables_deliver, delivery_unread}
 use Rattle.choosing.proofs.Findings.{job_unread, job_chosen}
 use Rattle.choosing.proofs.choose.Goals as goal
-use Rattle.choosing.proofs.choose.Goals.{In-Done}
+use Rattle.choosing.proofs.choose.Goals.{In_ok-delivery}
 
 -- the memory that is lent for the tables
 abbrev zeros : List ℕ
 zeros = replicate 8192 0
 
-pub slice_bounds-tables-end : goal.slice_bounds-tables-end
-slice_bounds-tables-end c = refl
-
-pub enum_known-outcome : goal.enum_known-outcome
-enum_known-outcome c = c.in-Refused.in-Refused-own.keys1
-
-pub enum_told-1 : goal.enum_told-1
-enum_told-1 c = c.in-Done.in-Done-own.keys2
-
-delivery : (c : In-Done) → Delivers c.args.bytes.now c.tables-delivery.result c.tables-delivery.new.out
-delivery c = tables_deliver c.args.bytes.now zeros c.tables-delivery.new.out c.tables-delivery.result c.tables-delivery.ensures c.in-Done.is
-
-pub slice_bounds-packed-end : goal.slice_bounds-packed-end
-slice_bounds-packed-end c = (delivery (goal.at.slice_bounds-packed-end c).In-Done).inside
-
-pub slice_bounds-choose_tables-end : goal.slice_bounds-choose_tables-end
-slice_bounds-choose_tables-end c = sym (length-take-le c.tables-delivery.result.bytes c.tables-delivery.new.out (delivery (goal.at.slice_bounds-choose_tables-end c).In-Done).inside)
-
-pub returns-in-Refused : goal.returns-in-Refused
+pub returns-in_err-delivery : goal.returns-in_err-delivery
 unfolding max_faults max_outputs max_table_bytes
-returns-in-Refused c =
+returns-in_err-delivery c =
+    let p = err_from_is_err_and c.from_residual.result c.from_residual.ensures.1 in
     let a = c.args in
-    job_unread a.purpose a.bytes.now a.kind a.polarity a.work.now
-    (delivery_unread a.bytes.now zeros c.tables-delivery.new.out c.tables-delivery.result c.tables-delivery.ensures _ (length-replicate {A = ℕ} 8192 0) c.in-Refused.is)
-    c.unchosen.ensures
+    rw (p.1, p.2)
+    (job_unread a.purpose a.bytes.now a.kind a.polarity a.work.now
+    (delivery_unread a.bytes.now zeros c.tables.new.out c.in_err-delivery.ensures (length-replicate {A = ℕ} 8192 0)))
 
-pub returns-in-Done : goal.returns-in-Done
-returns-in-Done c =
+delivers : (c : In_ok-delivery) → Delivers c.args.bytes.now c.in_ok-delivery.delivery c.tables.new.out
+delivers c = tables_deliver c.args.bytes.now zeros c.tables.new.out c.in_ok-delivery.ensures
+
+pub slice_bounds-tables-end-2 : goal.slice_bounds-tables-end-2
+slice_bounds-tables-end-2 c =
+    sym (length-take-le c.in_ok-delivery.delivery.bytes c.tables.new.out (delivers (goal.at.slice_bounds-tables-end-2 c).In_ok-delivery).inside)
+
+pub returns : goal.returns
+returns c =
     let a = c.args in
-    c.choose_tables.ensures ∙ job_chosen a.purpose a.bytes.now a.kind a.polarity a.work.now (delivery (goal.at.returns-in-Done c).In-Done)
+    c.choose_tables.ensures ∙ job_chosen a.purpose a.bytes.now a.kind a.polarity a.work.now (delivers (goal.at.returns c).In_ok-delivery)

@@ -1,10 +1,6 @@
 -- `choosing::first_places` meets its contract.
-use Prim.Native.Nat.{◌-◌}
 use Rattle.choosing.proofs.Order.{Starting}
 use Rattle.choosing.proofs.first_places.Given as goal
 
-abbrev pub invariant-loop-m : goal.invariant-loop-m
-invariant-loop-m l = Starting l.n l.m l.of
-
-abbrev pub decreases-loop-m : goal.decreases-loop-m
-decreases-loop-m l = l.n - l.m
+abbrev pub invariant-loop : goal.invariant-loop
+invariant-loop l = Starting l.counter l.firsts

@@ -5,9 +5,6 @@ use Rattle.choosing.specs.Looking.{marks_of}
 use Rattle.choosing.specs.declared.Purpose.{Purpose}
 use Rattle.choosing.proofs.marks_of.Goals as goal
 
-pub returns-in-Isolating : goal.returns-in-Isolating
-returns-in-Isolating c = ap (λ (p : Purpose). marks_of p c.args.counts.parts) (sym c.in-Isolating.is)
-
 pub returns-in-Detecting : goal.returns-in-Detecting
 unfolding max_faults
 returns-in-Detecting c = ap (λ (p : Purpose). marks_of p c.args.counts.parts) (sym c.in-Detecting.is)

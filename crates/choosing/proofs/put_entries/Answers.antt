@@ -6,34 +6,22 @@ use mathlib.Core.Path.{sym, ap, subst, ◌∙◌}
 use lib.ListN.{length, get_or}
 use Rattle.bits.specs.Slices.{splice}
 use Rattle.bits.proofs.Bounds.{entry_below}
-use Rattle.tables.proofs.Blocks.{placed_none, placed_offset, placed_one, placed_more, placed_all}
+use Rattle.tables.proofs.Blocks.{placed_none, placed_one, placed_more, placed_all}
 use Rattle.choosing.proofs.EntryNumbers.{length_outputs, codes_at, codes_block}
 use Rattle.choosing.proofs.put_entries.Goals as goal
 
 pub loop-i-init : goal.loop-i-init
 loop-i-init c = let a = c.args in placed_none (omega (arith, c.requires.3)) (λ i _. length_outputs (get_or a.indices.now i 0) a.size a.outputs)
 
-pub overflow_mul-i : goal.overflow_mul-i
-overflow_mul-i c = placed_offset c.loop-i.invariant c.well_formed.0.0
-
-pub bounds-indices-i : goal.bounds-indices-i
-bounds-indices-i c = c.loop-i-test.true
-
-pub overflow_cast-indices : goal.overflow_cast-indices
-overflow_cast-indices c = omega (arith, c.type_inv.indices c.loop-i.i)
-
 pub put_outputs-requires : goal.put_outputs-requires
-put_outputs-requires c = (entry_below c.args.size c.args.indices.now c.loop-i.i c.requires.0 c.loop-i-test.true, c.requires.1, c.requires.2, subst (λ (k : ℕ). k + c.args.outputs ≤ length c.loop-i.of) (zero-add _) (placed_one c.loop-i.invariant c.loop-i-test.true))
-
-pub loop-i-smaller : goal.loop-i-smaller
-loop-i-smaller c = omega (arith, c.loop-i-test.true)
+put_outputs-requires c = (entry_below c.args.size c.args.indices.now c.loop-i.i c.requires.0 c.loop-i-test.true, c.requires.1, c.requires.2, subst (λ (k : ℕ). k + c.args.outputs ≤ length c.loop-i.codes) (zero-add _) (placed_one c.loop-i.invariant c.loop-i-test.true))
 
 pub loop-i-preserved : goal.loop-i-preserved
 loop-i-preserved c =
     let a = c.args in
     placed_more c.loop-i.invariant c.loop-i-test.true
     (c.put_outputs.ensures
-    ∙ ap (λ (k : ℕ). splice c.loop-i.of k (codes_at a.size a.outputs a.indices.now c.loop-i.i)) (sym (zero-add (c.loop-i.i * a.outputs))))
+    ∙ ap (λ (k : ℕ). splice c.loop-i.codes k (codes_at a.size a.outputs a.indices.now c.loop-i.i)) (sym (zero-add (c.loop-i.i * a.outputs))))
 
 pub returns : goal.returns
-returns c = let a = c.args in placed_all c.loop-i.invariant c.loop-i-test.false ∙ ap (splice a.of.now 0) (codes_block a.size a.outputs a.indices.now)
+returns c = let a = c.args in placed_all c.loop-i.invariant c.loop-i-test.false ∙ ap (splice a.codes.now 0) (codes_block a.size a.outputs a.indices.now)

@@ -1,10 +1,6 @@
 -- `choosing::put_indices` meets its contract.
-use Prim.Native.Nat.{◌-◌}
 use Rattle.choosing.proofs.Order.{Placing}
 use Rattle.choosing.proofs.put_indices.Given as goal
 
 abbrev pub invariant-loop-e : goal.invariant-loop-e
-invariant-loop-e l = Placing l.size l.e l.next l.of
-
-abbrev pub decreases-loop-e : goal.decreases-loop-e
-decreases-loop-e l = l.size - l.e
+invariant-loop-e l = Placing l.size l.e l.next l.indices

@@ -1,10 +1,7 @@
 -- `choosing::put_outputs` meets its contract: an entry a turn.
-use Prim.Native.Nat.{◌+◌, ◌-◌, ◌*◌}
+use Prim.Native.Nat.{◌+◌, ◌*◌}
 use Rattle.bits.proofs.Splice.{Written}
 use Rattle.choosing.proofs.put_outputs.Given as goal
 
 abbrev pub invariant-loop-o : goal.invariant-loop-o
-invariant-loop-o l = Written l.initial.of l.at l.outputs (λ p. p * l.size + l.index) l.of l.o
-
-abbrev pub decreases-loop-o : goal.decreases-loop-o
-decreases-loop-o l = l.outputs - l.o
+invariant-loop-o l = Written l.initial.codes l.at l.outputs (λ p. p * l.size + l.index) l.codes l.o

@@ -1,11 +1,7 @@
 -- `gates::alternate_bytes` meets its contract. The loop has written one byte for each turn.
-use Prim.Native.Nat.{◌-◌}
+use Rattle.std.proofs.Common.{◌≡◌, ℕ, ◌<◌, get_or}
 use Rattle.gates.specs.Polynomial.{alternating}
-use Rattle.bits.proofs.Splice.{Written}
 use Rattle.gates.proofs.alternate_bytes.Given as goal
 
 abbrev pub invariant-loop-i : goal.invariant-loop-i
-invariant-loop-i l = Written l.initial.rows l.to l.count (alternating l.bit) l.rows l.i
-
-abbrev pub decreases-loop-i : goal.decreases-loop-i
-decreases-loop-i l = l.count - l.i
+invariant-loop-i l = (k : ℕ) → k < l.i → get_or l.bytes k 0 ≡ alternating l.bit k

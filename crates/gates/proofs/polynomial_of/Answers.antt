@@ -9,22 +9,19 @@ use Rattle.gates.specs.Polynomial.{polynomial_of}
 use Rattle.gates.proofs.Answers.{answers_lt, kind_lt}
 use Rattle.gates.proofs.Polynomials.{Row, bit_first, bit_second, bit_both, copies_fit}
 use Rattle.gates.proofs.polynomial_of.Goals as goal
-use Rattle.gates.proofs.polynomial_of.Goals.{After-kind, After-row-1}
-
-below : (c : After-kind) → c.kind.result < 8
-below c = rw c.kind.ensures (kind_lt c.args.gate)
+use Rattle.gates.proofs.polynomial_of.Goals.{After-both-1}
 
 pub offset_bounds-kind : goal.offset_bounds-kind
-offset_bounds-kind c = omega (arith, below c)
+offset_bounds-kind c = rw c.kind.ensures (omega (arith, kind_lt c.args.gate))
 
-pub bounds-kind-kind : goal.bounds-kind-kind
-bounds-kind-kind c = below c
+pub bounds-none-kind : goal.bounds-none-kind
+bounds-none-kind c = rw c.kind.ensures (kind_lt c.args.gate)
 
-abbrev row : After-row-1 → List ℕ
+abbrev row : After-both-1 → List ℕ
 row c = get_or answers c.kind.result []
 
-bit : (c : After-row-1) → Row (row c)
-bit c = answers_lt c.kind.result (below c.before)
+bit : (c : After-both-1) → Row (row c)
+bit c = answers_lt c.kind.result (rw c.kind.ensures (kind_lt c.args.gate))
 
 pub overflow_mul-result : goal.overflow_mul-result
 unfolding answers

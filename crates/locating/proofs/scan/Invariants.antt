@@ -1,5 +1,5 @@
 -- `scan` meets its contract: what is kept of the agreeing rows passed.
-use Prim.Native.Nat.{◌-◌, ◌*◌}
+use Prim.Native.Nat.{◌*◌}
 use Rattle.tables.specs.Operations.{part_in}
 use Rattle.spectra.specs.Listed.{entries_at}
 use Rattle.spectra.specs.Operations.{same_numbers}
@@ -8,7 +8,4 @@ use Rattle.locating.proofs.Scans.{Scanned}
 use Rattle.locating.proofs.scan.Given as goal
 
 abbrev pub invariant-loop-c : goal.invariant-loop-c
-invariant-loop-c l = Scanned (part_in l.parts) (λ r. same_numbers (numbers_at l.work (r * l.width) l.size (entries_at l.indices l.outputs)) l.readings) l.circuits l.c l.seen
-
-abbrev pub decreases-loop-c : goal.decreases-loop-c
-decreases-loop-c l = l.circuits - l.c
+invariant-loop-c l = Scanned (part_in l.counts.parts) (λ r. same_numbers (numbers_at l.work (r * l.width) l.size (entries_at l.indices l.outputs)) l.readings) l.c l.seen

@@ -1,22 +1,19 @@
 -- `reading::read_fault_count` meets its contract.
 use native.Mathlib.Omega.{arith}
-use mathlib.Core.Path.{refl, sym, ◌∙◌}
-use Rattle.bits.proofs.Fields.{field_value, field_cut, field_lt, field_near}
+use mathlib.Core.Path.{sym, ◌∙◌}
 use Rattle.job.specs.Layout.{fault_count_bits, max_faults}
 use Rattle.reading.specs.Reading.{from_fault_count}
+use Rattle.reading.proofs.Steps.{passed_whole}
 use Rattle.reading.proofs.read_fault_count.Goals as goal
 
-pub returns-in_default : goal.returns-in_default
+pub returns-in_err-f : goal.returns-in_err-f
 unfolding from_fault_count fault_count_bits
-returns-in_default c = c.refused.ensures ∙ simp (field_cut c.args.s.now _ 6 refl (omega (arith, c.requires)) (sym c.read_field.ensures ∙ c.in_default.is))
-
-pub overflow_cast-job : goal.overflow_cast-job
-overflow_cast-job c = omega (arith, field_lt c.args.s.now _ 6 _ _ (sym c.read_field.ensures ∙ c.in-Value.is))
+returns-in_err-f c = passed_whole _ _ c.from_residual.ensures.1 (simp (sym c.in_err-f.ensures.told))
 
 pub read_faults-requires : goal.read_faults-requires
 unfolding max_faults
-read_faults-requires c = (omega (arith, field_lt c.args.s.now _ 6 _ _ (sym c.read_field.ensures ∙ c.in-Value.is)), omega (arith, c.requires, field_near c.args.s.now _ 6 _ _ (sym c.read_field.ensures ∙ c.in-Value.is)))
+read_faults-requires c = (omega (arith, c.in_ok-f.ensures.fits), omega (arith, c.requires, c.in_ok-f.ensures.fits))
 
 pub returns : goal.returns
 unfolding from_fault_count fault_count_bits
-returns c = c.read_faults.ensures ∙ simp (field_value c.args.s.now _ 6 _ _ (sym c.read_field.ensures ∙ c.in-Value.is))
+returns c = c.read_faults.ensures ∙ simp (sym c.in_ok-f.ensures.told)

@@ -1,25 +1,19 @@
 -- `reading::read_output` meets its contract.
-use native.Mathlib.Omega.{arith}
-use mathlib.Core.Path.{refl, sym, ◌∙◌}
 use borrow.Author.Tests.{lt-ltb, le-ltb}
-use Rattle.bits.proofs.Fields.{field_value, field_cut, field_lt, field_near}
+use mathlib.Core.Path.{sym}
 use Rattle.job.specs.Layout.{line_bits}
 use Rattle.reading.specs.Reading.{output_line}
+use Rattle.reading.proofs.Steps.{passed_at}
 use Rattle.reading.proofs.read_output.Goals as goal
 
-pub returns-in_default : goal.returns-in_default
+pub returns-in_err-line-clause-told : goal.returns-in_err-line-clause-told
 unfolding output_line line_bits
-returns-in_default c = (simp (field_cut c.args.s.now c.args.at 7 refl (omega (arith, c.requires)) (sym c.read_field.ensures ∙ c.in_default.is)), omega arith)
+returns-in_err-line-clause-told c = passed_at _ _ _ c.from_residual.ensures.1 (simp (sym c.in_err-line.ensures.told))
 
-pub returns-then-lines-line : goal.returns-then-lines-line
+pub returns-then-lines-line-clause-told : goal.returns-then-lines-line-clause-told
 unfolding output_line line_bits
-returns-then-lines-line c = (simp (field_value c.args.s.now c.args.at 7 _ _ (sym c.read_field.ensures ∙ c.in-Value.is), le-ltb _ _ c.if-lines-line.true), omega arith)
+returns-then-lines-line-clause-told c = simp (sym c.in_ok-line.ensures.told, le-ltb _ _ c.if-lines-line.true)
 
-pub overflow_cast-result : goal.overflow_cast-result
-overflow_cast-result c = omega (arith, field_lt c.args.s.now c.args.at 7 _ _ (sym c.read_field.ensures ∙ c.in-Value.is))
-
-pub returns : goal.returns
+pub returns-clause-told : goal.returns-clause-told
 unfolding output_line line_bits
-returns c =
-    let found = sym c.read_field.ensures ∙ c.in-Value.is in
-    (simp (field_value c.args.s.now c.args.at 7 _ _ found, lt-ltb _ _ c.if-lines-line.false), omega (arith, field_near c.args.s.now c.args.at 7 _ _ found))
+returns-clause-told c = simp (sym c.in_ok-line.ensures.told, lt-ltb _ _ c.if-lines-line.false)

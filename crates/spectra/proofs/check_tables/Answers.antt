@@ -1,26 +1,24 @@
 -- `spectra::check_tables` meets its contract.
-use native.Mathlib.Nat.{le_trans}
-use mathlib.Core.Path.{sym, ◌∙◌}
-use borrow.Author.Tests.{not-true, not-false}
-use lib.Dec.{lit≤}
+use Rattle.std.proofs.Common.{◌≡◌, sym, ◌∙◌, rules, tests}
+use Rattle.job.specs.Check.{inputs_ok}
 use Rattle.job.specs.Layout.{max_inputs}
-use Rattle.spectra.proofs.Refusals.{tables_low, tables_high, tables_wrong, tables_right}
+use Rattle.spectra.proofs.Refusals.{tables_unfit, tables_wrong, tables_right}
 use Rattle.spectra.proofs.check_tables.Goals as goal
+use Rattle.spectra.proofs.check_tables.Goals.{After-contains}
 
-pub returns-then-counts-lt1 : goal.returns-then-counts-lt1
-returns-then-counts-lt1 c = tables_low c.args.counts c.args.tables.now c.if-counts-lt1.true
-
-pub returns-then-counts-gt-MAX_INPUTS : goal.returns-then-counts-gt-MAX_INPUTS
+tested : (c : After-contains) → c.contains.result ≡ inputs_ok c.args.counts.inputs
 unfolding max_inputs
-returns-then-counts-gt-MAX_INPUTS c = tables_high c.args.counts c.args.tables.now c.if-counts-lt1.false c.if-counts-gt-MAX_INPUTS.true
+tested c = let h = c.contains.ensures.value in search (rules, tests)
 
-pub tables_ok-requires : goal.tables_ok-requires
-tables_ok-requires c = (c.if-counts-lt1.false, le_trans c.if-counts-gt-MAX_INPUTS.false (lit≤ tt))
+pub returns-then-not-contains : goal.returns-then-not-contains
+returns-then-not-contains c = tables_unfit c.args.counts c.args.tables.now (sym (tested (goal.at.returns-then-not-contains c).After-contains) ∙ c.if-not-contains.true)
 
 pub returns-then-not-tables_ok : goal.returns-then-not-tables_ok
-unfolding max_inputs
-returns-then-not-tables_ok c = tables_wrong c.args.counts c.args.tables.now c.if-counts-lt1.false c.if-counts-gt-MAX_INPUTS.false (sym c.tables_ok.ensures ∙ not-true c.tables_ok.result c.if-not-tables_ok.true-raw)
+returns-then-not-tables_ok c =
+    tables_wrong c.args.counts c.args.tables.now (sym (tested (goal.at.returns-then-not-tables_ok c).After-contains) ∙ c.if-not-contains.false)
+    (sym c.tables_ok.ensures ∙ c.if-not-tables_ok.true)
 
 pub returns : goal.returns
-unfolding max_inputs
-returns c = tables_right c.args.counts c.args.tables.now c.if-counts-lt1.false c.if-counts-gt-MAX_INPUTS.false (sym c.tables_ok.ensures ∙ not-false c.tables_ok.result c.if-not-tables_ok.false-raw)
+returns c =
+    tables_right c.args.counts c.args.tables.now (sym (tested (goal.at.returns c).After-contains) ∙ c.if-not-contains.false)
+    (sym c.tables_ok.ensures ∙ c.if-not-tables_ok.false)

@@ -1,5 +1,5 @@
 -- `spectra::fill` meets its contract: each way out is one law.
-use Prim.Native.Nat.{ℕ, ◌*◌, ◌<◌, ◌≤◌}
+use Prim.Native.Nat.{ℕ, ◌*◌, ◌^◌, ◌<◌, ◌≤◌}
 use native.Mathlib.Nat.{le_of_eq}
 use mathlib.Core.Path.{◌≡◌, sym, ap, subst, ◌∙◌}
 use lib.ListN.{length}
@@ -9,51 +9,60 @@ use Rattle.bits.proofs.TableSizes.{table_size_exact}
 use Rattle.job.proofs.Sizes.{inputs_few}
 use Rattle.spectra.specs.Operations.{rows_in, tables_checked}
 use Rattle.spectra.proofs.Families.{Fits, checked_fits}
-use Rattle.spectra.proofs.Refusals.{filled_unchecked, filled_polarity, filled_memory, filled_done, rows_room}
+use Rattle.spectra.proofs.Refusals.{filled_polarity, filled_memory, filled_done, rows_room}
 use Rattle.spectra.proofs.TableTests.{rows_fit, circuits_fit}
 use Rattle.spectra.proofs.fill.Goals as goal
-use Rattle.spectra.proofs.fill.Goals.{In_default}
-
-pub enum_known-checked : goal.enum_known-checked
-enum_known-checked c = c.in-Refused.in-Refused-own.keys1
-
-pub returns-in-Refused : goal.returns-in-Refused
-returns-in-Refused c = let a = c.args in filled_unchecked a.counts a.tables.now a.kind a.polarity a.work.now (sym c.check_tables-checked.ensures ∙ ap outcome c.in-Refused.is)
-
-pub enum_told-1 : goal.enum_told-1
-enum_told-1 c = c.in_default.in_default-own.keys2
+use Rattle.spectra.proofs.fill.Goals.{In_ok-check_tables, After-table_size-size}
 
 -- the checks are passed
-passed : (c : In_default) → let a = c.args in tables_checked a.counts a.tables.now ≡ gives tt
-passed c = sym c.check_tables-checked.ensures ∙ ap outcome c.in_default.is
+passed : (c : In_ok-check_tables) → let a = c.args in tables_checked a.counts a.tables.now ≡ gives tt
+passed c = sym c.check_tables.ensures ∙ ap outcome c.in_ok-check_tables.was
 
-fitting : (c : In_default) → let a = c.args in Fits a.counts a.tables.now
+fitting : (c : In_ok-check_tables) → let a = c.args in Fits a.counts a.tables.now
 fitting c = let a = c.args in checked_fits a.counts a.tables.now (passed c)
 
+sized : (c : After-table_size-size) → (f : Fits c.args.counts c.args.tables.now) → c.table_size-size.result ≡ 2 ^ c.args.counts.inputs
+sized c f = table_size_exact (inputs_few f.few) c.table_size-size.ensures
+
 pub overflow_add-rows : goal.overflow_add-rows
-overflow_add-rows c = record { fits = circuits_fit (fitting (goal.at.overflow_add-rows c).In_default).faults_few }
+overflow_add-rows c = let f = fitting (goal.at.overflow_add-rows c).In_ok-check_tables in record { fits = circuits_fit f.faults_few }
 
 pub overflow_mul-rows : goal.overflow_mul-rows
-overflow_mul-rows c = record { fits = rows_fit (fitting (goal.at.overflow_mul-rows c).In_default).faults_few (fitting (goal.at.overflow_mul-rows c).In_default).outputs_few }
+overflow_mul-rows c = let f = fitting (goal.at.overflow_mul-rows c).In_ok-check_tables in record { fits = rows_fit f.faults_few f.outputs_few }
 
 pub returns-then-size-polarity : goal.returns-then-size-polarity
-returns-then-size-polarity c = let a = c.args in filled_polarity a.counts a.tables.now a.kind a.polarity a.work.now (passed (goal.at.returns-then-size-polarity c).In_default) (table_size_exact (inputs_few (fitting (goal.at.returns-then-size-polarity c).In_default).few) c.table_size-size.ensures) c.if-size-polarity.true
+returns-then-size-polarity c =
+    let a = c.args in
+    let p = (goal.at.returns-then-size-polarity c).In_ok-check_tables in
+    filled_polarity a.counts a.tables.now a.kind a.polarity a.work.now (passed p)
+    (sized (goal.at.returns-then-size-polarity c).After-table_size-size (fitting p)) c.if-size-polarity.true
 
 pub overflow_mul-rows-2 : goal.overflow_mul-rows-2
-overflow_mul-rows-2 c = record { fits = rows_room (fitting (goal.at.overflow_mul-rows-2 c).In_default) (table_size_exact (inputs_few (fitting (goal.at.overflow_mul-rows-2 c).In_default).few) c.table_size-size.ensures) }
+overflow_mul-rows-2 c =
+    let f = fitting (goal.at.overflow_mul-rows-2 c).In_ok-check_tables in
+    record { fits = rows_room f (sized (goal.at.overflow_mul-rows-2 c).After-table_size-size f) }
 
 pub returns-then-work-rows : goal.returns-then-work-rows
-returns-then-work-rows c = let a = c.args in filled_memory a.counts a.tables.now a.kind a.polarity a.work.now (passed (goal.at.returns-then-work-rows c).In_default) (table_size_exact (inputs_few (fitting (goal.at.returns-then-work-rows c).In_default).few) c.table_size-size.ensures) c.if-size-polarity.false c.if-work-rows.true
+returns-then-work-rows c =
+    let a = c.args in
+    let p = (goal.at.returns-then-work-rows c).In_ok-check_tables in
+    filled_memory a.counts a.tables.now a.kind a.polarity a.work.now (passed p)
+    (sized (goal.at.returns-then-work-rows c).After-table_size-size (fitting p)) c.if-size-polarity.false c.if-work-rows.true
 
 pub fill_rows-requires : goal.fill_rows-requires
 fill_rows-requires c =
     let a = c.args in
-    let size = table_size_exact (inputs_few (fitting (goal.at.fill_rows-requires c).In_default).few) c.table_size-size.ensures in (
-      (fitting (goal.at.fill_rows-requires c).In_default).few,
+    let f = fitting (goal.at.fill_rows-requires c).In_ok-check_tables in
+    let size = sized (goal.at.fill_rows-requires c).After-table_size-size f in (
+      f.few,
       subst (λ (x : ℕ). a.polarity < x) size c.if-size-polarity.false,
       subst (λ (x : ℕ). rows_in a.counts * x ≤ length a.work.now) size c.if-work-rows.false,
-      le_of_eq (sym (fitting (goal.at.fill_rows-requires c).In_default).size),
+      le_of_eq (sym f.size),
     )
 
 pub returns : goal.returns
-returns c = let a = c.args in filled_done a.counts a.tables.now a.kind a.polarity a.work.now (passed (goal.at.returns c).In_default) (table_size_exact (inputs_few (fitting (goal.at.returns c).In_default).few) c.table_size-size.ensures) _ c.if-size-polarity.false c.if-work-rows.false c.fill_rows.ensures
+returns c =
+    let a = c.args in
+    let p = (goal.at.returns c).In_ok-check_tables in
+    filled_done a.counts a.tables.now a.kind a.polarity a.work.now (passed p)
+    (sized (goal.at.returns c).After-table_size-size (fitting p)) _ c.if-size-polarity.false c.if-work-rows.false c.fill_rows.ensures

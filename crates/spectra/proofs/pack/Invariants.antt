@@ -1,11 +1,6 @@
 -- `spectra::pack` meets its contract. The loop has written one byte for each turn.
-use Prim.Native.Nat.{◌-◌}
-use lib.ListN.{length}
 use Rattle.spectra.proofs.Parities.{Packing}
 use Rattle.spectra.proofs.pack.Given as goal
 
 abbrev pub invariant-loop-i : goal.invariant-loop-i
 invariant-loop-i l = Packing l.k l.numbers l.initial.table l.table l.i
-
-abbrev pub decreases-loop-i : goal.decreases-loop-i
-decreases-loop-i l = length l.initial.table - l.i

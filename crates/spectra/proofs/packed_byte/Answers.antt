@@ -1,7 +1,6 @@
 -- `spectra::packed_byte` meets its contract. The loop has put one parity for each turn into the byte.
 use Prim.Native.Nat.{◌+◌}
 use native.Mathlib.Omega.{arith}
-use borrow.Author.Count.{falls}
 use Rattle.spectra.proofs.Parities.{digits_none, digits_twice, digits_fits, digits_more, digits_all, parity_bit}
 use Rattle.spectra.proofs.packed_byte.Goals as goal
 
@@ -19,9 +18,6 @@ parity-requires c = c.requires.0
 
 pub overflow_add-byte : goal.overflow_add-byte
 overflow_add-byte c = digits_fits c.loop-m.invariant (let a = c.args in parity_bit a.numbers.now a.k (a.first + c.loop-m.m) c.parity.ensures) c.loop-m-test.true
-
-pub loop-m-smaller : goal.loop-m-smaller
-loop-m-smaller c = falls _ _ c.loop-m-test.true
 
 pub loop-m-preserved : goal.loop-m-preserved
 loop-m-preserved c = digits_more c.loop-m.invariant (let a = c.args in parity_bit a.numbers.now a.k (a.first + c.loop-m.m) c.parity.ensures) c.loop-m-test.true c.parity.ensures

@@ -1,6 +1,5 @@
 -- `rows_ok_lem` meets its contract: the rows passed are tables.
 use native.Mathlib.Omega.{arith}
-use borrow.Author.Count.{falls}
 use Rattle.bits.proofs.TableSizes.{table_bytes_exact, fifteen_few}
 use Rattle.spectra.proofs.TableTests.{rows_other, rows_small, testing_start, testing_place, testing_stop, testing_next, testing_end}
 use Rattle.spectra.proofs.rows_ok.Goals as goal
@@ -34,12 +33,6 @@ table_ok-requires c = (c.requires.0, c.requires.1)
 
 pub returns-then-not-table_ok : goal.returns-then-not-table_ok
 returns-then-not-table_ok c = testing_stop c.loop-r.invariant c.table_ok.result c.loop-r-test.true c.table_ok.ensures c.if-not-table_ok.true-raw
-
-pub overflow_add-r-in-loop-r : goal.overflow_add-r-in-loop-r
-overflow_add-r-in-loop-r c = omega (arith, c.loop-r-test.true)
-
-pub loop-r-smaller : goal.loop-r-smaller
-loop-r-smaller c = falls _ _ c.loop-r-test.true
 
 pub loop-r-preserved : goal.loop-r-preserved
 loop-r-preserved c = testing_next c.loop-r.invariant c.table_ok.result c.loop-r-test.true c.table_ok.ensures c.if-not-table_ok.false-raw

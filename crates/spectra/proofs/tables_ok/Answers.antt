@@ -1,33 +1,36 @@
 -- `tables_ok` meets its contract: the counts are tested, and then the rows.
-use mathlib.Core.Path.{◌∙◌}
+use Rattle.std.proofs.Common.{◌≡◌, ◌&&◌, Bool, leb, sym, ap, ◌∙◌, rules, tests}
+use borrow.Author.Tests.{le-leb, lt-leb}
 use Rattle.job.specs.Layout.{max_outputs, max_faults}
-use Rattle.spectra.proofs.TableTests.{faults_many, outputs_none, outputs_many, rows_few, rows_fit, circuits_fit, tables_counted}
+use Rattle.spectra.specs.Operations.{rows_in, all_rows_ok}
+use Rattle.spectra.proofs.TableTests.{counted, counted_faults, counted_outputs, rows_few, tables_counted}
 use Rattle.spectra.proofs.tables_ok.Goals as goal
+use Rattle.spectra.proofs.tables_ok.Goals.{Joined-counts-le-MAX_FAULTS, then-counts-le-MAX_FAULTS, else-counts-le-MAX_FAULTS}
 
-pub returns-then-counts-gt-MAX_FAULTS : goal.returns-then-counts-gt-MAX_FAULTS
-unfolding max_faults
-returns-then-counts-gt-MAX_FAULTS c = faults_many c.args.counts c.args.tables.now c.if-counts-gt-MAX_FAULTS.true
-
-pub returns-then-counts-lt1 : goal.returns-then-counts-lt1
-unfolding max_faults
-returns-then-counts-lt1 c = outputs_none c.args.counts c.args.tables.now c.if-counts-gt-MAX_FAULTS.false c.if-counts-lt1.true
-
-pub returns-then-counts-gt-MAX_OUTPUTS : goal.returns-then-counts-gt-MAX_OUTPUTS
+tested : (c : Joined-counts-le-MAX_FAULTS) → c.if-counts-le-MAX_FAULTS.value ≡ counted c.args.counts
 unfolding max_faults max_outputs
-returns-then-counts-gt-MAX_OUTPUTS c = outputs_many c.args.counts c.args.tables.now c.if-counts-gt-MAX_FAULTS.false c.if-counts-lt1.false c.if-counts-gt-MAX_OUTPUTS.true
-
-pub overflow_add-counts : goal.overflow_add-counts
-unfolding max_faults
-overflow_add-counts c = record { fits = circuits_fit c.if-counts-gt-MAX_FAULTS.false }
-
-pub overflow_mul-counts : goal.overflow_mul-counts
-unfolding max_faults max_outputs
-overflow_mul-counts c = record { fits = rows_fit c.if-counts-gt-MAX_FAULTS.false c.if-counts-gt-MAX_OUTPUTS.false }
+tested c =
+    let counts = c.args.counts in
+    elim c.if-counts-le-MAX_FAULTS.branch [
+      | then-counts-le-MAX_FAULTS w ↦
+          let few : w.contains.result ≡ (leb 1 counts.outputs && leb counts.outputs 4) = (let h = w.contains.ensures.value in search (rules, tests)) in
+          simp (le-leb counts.faults 63 w.if-counts-le-MAX_FAULTS.true) (w.value-is ∙ few)
+      | else-counts-le-MAX_FAULTS w ↦ simp (lt-leb counts.faults 63 w.if-counts-le-MAX_FAULTS.false) (w.value-is ∙ lt-leb counts.faults 63 w.if-counts-le-MAX_FAULTS.false)
+    ]
 
 pub rows_ok-requires : goal.rows_ok-requires
-unfolding max_faults max_outputs
-rows_ok-requires c = (c.requires.0, c.requires.1, rows_few c.if-counts-gt-MAX_FAULTS.false c.if-counts-gt-MAX_OUTPUTS.false)
+rows_ok-requires c =
+    let fits = sym (tested (goal.at.rows_ok-requires c).Joined-counts-le-MAX_FAULTS) ∙ c.if-contains.true in
+    (c.requires.0, c.requires.1, rows_few (counted_faults c.args.counts fits) (counted_outputs c.args.counts fits))
 
-pub returns : goal.returns
-unfolding max_faults max_outputs
-returns c = c.rows_ok.ensures ∙ tables_counted c.args.counts c.args.tables.now c.if-counts-gt-MAX_FAULTS.false c.if-counts-lt1.false c.if-counts-gt-MAX_OUTPUTS.false
+pub returns-then-contains : goal.returns-then-contains
+returns-then-contains c =
+    let a = c.args in
+    c.rows_ok.ensures ∙ ap (λ (t : Bool). t && all_rows_ok a.counts.inputs (rows_in a.counts) a.tables.now) (sym c.if-contains.true)
+    ∙ tables_counted a.counts a.tables.now (tested (goal.at.returns-then-contains c).Joined-counts-le-MAX_FAULTS)
+
+pub returns-else-contains : goal.returns-else-contains
+returns-else-contains c =
+    let a = c.args in
+    c.if-contains.false ∙ ap (λ (t : Bool). t && all_rows_ok a.counts.inputs (rows_in a.counts) a.tables.now) (sym c.if-contains.false)
+    ∙ tables_counted a.counts a.tables.now (tested (goal.at.returns-else-contains c).Joined-counts-le-MAX_FAULTS)

@@ -1,21 +1,27 @@
 -- `spectra::undo_in` meets its contract: each way out is one of undoing.
-use mathlib.Core.Path.{sym, ◌∙◌}
-use Rattle.spectra.proofs.Recovery.{compares, undo_none, undo_memory, undo_done}
-use Rattle.spectra.proofs.Parities.{copied_whole}
+use mathlib.Core.Bool.{true, false}
+use mathlib.Core.Path.{◌≡◌, sym, ◌∙◌}
+use borrow.Author.Tests.{not-true, not-false}
+use Rattle.spectra.specs.Operations.{is_spectrum}
+use Rattle.spectra.proofs.Recovery.{same_pointwise, inputs_lent, compares, undo_none, undo_memory, undo_done}
 use Rattle.spectra.proofs.undo_in.Goals as goal
+use Rattle.spectra.proofs.undo_in.Goals.{Then-ne, Else-ne}
 
-pub recover-requires : goal.recover-requires
-recover-requires c = c.requires
+differ : (c : Then-ne) → let a = c.args in false ≡ is_spectrum a.kind a.n a.k a.numbers.now
+differ c =
+    sym (not-true _ (sym c.ne.ensures ∙ c.if-ne.true)) ∙ same_pointwise _ _
+    ∙ compares c.requires c.args.kind c.recover.new.sums c.recover.ensures c.recover.auto.sums c.fill_rows.ensures
 
-pub returns-then-not-same : goal.returns-then-not-same
-returns-then-not-same c = let a = c.args in undo_none a.n a.numbers.now a.kind a.k a.out.now c.requires.some c.requires.few c.requires.polarity (sym c.if-not-same.true ∙ c.same.ensures ∙ compares c.requires a.kind c.recover.new.sums c.recover.ensures c.sums-1.given c.spectrum.ensures)
+same : (c : Else-ne) → let a = c.args in true ≡ is_spectrum a.kind a.n a.k a.numbers.now
+same c =
+    sym (not-false _ (sym c.ne.ensures ∙ c.if-ne.false)) ∙ same_pointwise _ _
+    ∙ compares c.requires c.args.kind c.recover.new.sums c.recover.ensures c.recover.auto.sums c.fill_rows.ensures
+
+pub returns-then-ne : goal.returns-then-ne
+returns-then-ne c = let a = c.args in undo_none a.n a.numbers.now a.kind a.k a.out.now (inputs_lent c.requires) c.requires.polarity (differ (goal.at.returns-then-ne c).Then-ne)
 
 pub returns-then-out-table : goal.returns-then-out-table
-returns-then-out-table c =
-    let c-args = c.args in
-    let a = c-args in undo_memory a.n a.numbers.now a.kind a.k a.out.now c.requires.some c.requires.few c.requires.polarity (sym c.if-not-same.false ∙ c.same.ensures ∙ compares c.requires a.kind c.recover.new.sums c.recover.ensures c.sums-1.given c.spectrum.ensures) c.recover.ensures c.if-out-table.true
+returns-then-out-table c = let a = c.args in undo_memory a.n a.numbers.now a.kind a.k a.out.now (inputs_lent c.requires) c.requires.polarity (same (goal.at.returns-then-out-table c).Else-ne) c.recover.ensures c.if-out-table.true
 
 pub returns : goal.returns
-returns c =
-    let c-args = c.args in
-    let a = c-args in undo_done a.n a.numbers.now a.kind a.k a.out.now c.requires.some c.requires.few c.requires.polarity (sym c.if-not-same.false ∙ c.same.ensures ∙ compares c.requires a.kind c.recover.new.sums c.recover.ensures c.sums-1.given c.spectrum.ensures) c.recover.ensures c.if-out-table.false (copied_whole a.out.now c.recover.new.table c.if-out-table.false c.copy.ensures)
+returns c = let a = c.args in undo_done a.n a.numbers.now a.kind a.k a.out.now (inputs_lent c.requires) c.requires.polarity (same (goal.at.returns c).Else-ne) c.recover.ensures c.if-out-table.false c.copy_from_slice.ensures.after

@@ -1,45 +1,22 @@
 -- `tables::counts_of` meets its contract.
 use Prim.Native.Nat.{ℕ}
 use native.Mathlib.Omega.{arith}
-use mathlib.Core.Path.{◌≡◌, ap}
+use mathlib.Core.Path.{ap}
 use mathlib.Core.List.{List}
-use borrow.Author.Count.{falls}
-use lib.ListN.{length}
 use Rattle.bits.proofs.Splice.{written_none, written_more}
+use Rattle.job.specs.Layout.{max_faults}
 use Rattle.tables.proofs.Parts.{part_entry, parts_written}
 use Rattle.tables.proofs.counts_of.Goals as goal
-use Rattle.tables.proofs.counts_of.Goals.{Start}
-
--- what owning a record tells of its array
-faults-long : (c : Start) → length c.args.job.faults ≡ 63
-faults-long c = c.well_formed.0.1.1.1.1.1.1.1.1.0.1.0.1
 
 pub loop-i-init : goal.loop-i-init
 loop-i-init c = written_none (omega arith)
 
-pub offset_bounds-job-i : goal.offset_bounds-job-i
-offset_bounds-job-i c = omega (arith, c.loop-i-test.true)
-
-pub bounds-job-i : goal.bounds-job-i
-bounds-job-i c = c.loop-i-test.true
-
-pub overflow_add-parts : goal.overflow_add-parts
-overflow_add-parts c = omega (arith, c.loop-i-test.true)
-
-pub bounds-parts-i : goal.bounds-parts-i
-bounds-parts-i c = omega (arith, c.loop-i-test.true)
-
-pub overflow_add-i : goal.overflow_add-i
-overflow_add-i c = omega (arith, c.loop-i-test.true)
-
-pub loop-i-smaller : goal.loop-i-smaller
-loop-i-smaller c = falls _ _ c.loop-i-test.true
-
 pub loop-i-preserved : goal.loop-i-preserved
-loop-i-preserved c = written_more c.loop-i.invariant _ c.loop-i-test.true (part_entry c.args.job.faults c.loop-i.i)
+loop-i-preserved c = written_more c.loop-i.invariant _ c.loop-i-test.true (part_entry c.args.job.now.faults c.loop-i.i)
 
 pub returns : goal.returns
+unfolding max_faults
 returns c =
     ap
-    (λ (l : List ℕ). record { inputs = c.args.job.inputs; gates = c.args.job.gate_count; outputs = c.args.job.output_count; faults = c.args.job.fault_count; parts = l })
-    (parts_written c.args.job.faults (faults-long c.before.before) c.loop-i.invariant c.loop-i-test.false)
+    (λ (l : List ℕ). record { inputs = c.args.job.now.inputs; gates = c.args.job.now.gate_count; outputs = c.args.job.now.output_count; faults = c.args.job.now.fault_count; parts = l })
+    (parts_written c.args.job.now.faults c.requires c.loop-i.invariant c.loop-i-test.false)

@@ -1,5 +1,4 @@
 -- `tables::counts_of` meets its contract.
-use Prim.Native.Nat.{◌-◌}
 use mathlib.Core.List.{map}
 use lib.ListN.{get_or}
 use Rattle.bits.proofs.Splice.{Written}
@@ -7,7 +6,4 @@ use Rattle.job.specs.declared.FaultEntry.{FaultEntry}
 use Rattle.tables.proofs.counts_of.Given as goal
 
 abbrev pub invariant-loop-i : goal.invariant-loop-i
-invariant-loop-i l = Written l.initial.parts 1 63 (λ k. get_or (map (λ (e : FaultEntry). e.part) l.job.faults) k 0) l.parts l.i
-
-abbrev pub decreases-loop-i : goal.decreases-loop-i
-decreases-loop-i l = 63 - l.i
+invariant-loop-i l = Written l.initial.parts 1 63 (λ k. get_or (map (λ (e : FaultEntry). e.part) l.entry-items) k 0) l.parts l.i

@@ -1,60 +1,61 @@
 -- `tables::table` meets its contract.
 use Prim.Native.Nat.{ℕ, ◌≤◌, ◌<◌}
 use native.Mathlib.Omega.{arith}
-use mathlib.Core.Path.{◌≡◌, refl, ap, subst, ◌∙◌}
+use mathlib.Core.Path.{◌≡◌, refl, sym, ap, subst, ◌∙◌}
 use lib.ListN.{length}
-use Rattle.reading.specs.Reading.{reading}
-use Rattle.reading.proofs.Consequences.{told_refused, told_done, told_valid}
+use Rattle.std.proofs.lemmas.Result.{err_from_is_err_and}
+use Rattle.reading.proofs.Validity.{reading_valid, reading_lengths}
+use Rattle.bits.specs.Sizes.{table_bytes}
 use Rattle.job.specs.Check.{Valid}
-use Rattle.job.specs.Layout.{max_inputs, max_gates, max_outputs}
-use Rattle.job.proofs.Sizes.{inputs_few}
-use Rattle.tables.specs.Sizes.{shape_of}
+use Rattle.job.specs.declared.Job.{Job}
+use Rattle.tables.proofs.Space.{shape_bytes}
+use Rattle.job.specs.Layout.{max_inputs, max_gates}
 use Rattle.tables.specs.Work.{max_table_bytes, row_bytes}
-use Rattle.tables.specs.declared.rows.Shape.{Shape}
 use Rattle.tables.proofs.Answers.{table_unread, table_number, table_output, table_memory, table_done}
-use Rattle.tables.proofs.WrittenTables.{wide_one, one_asked, one_room, one_put}
-use Rattle.tables.proofs.ShapedRows.{few_shape}
+use Rattle.tables.proofs.WrittenTables.{rows_one, one_asked, one_room, one_put}
 use Rattle.tables.proofs.table.Goals as goal
-use Rattle.tables.proofs.table.Goals.{After-shape_of-shape}
+use Rattle.tables.proofs.table.Goals.{In_ok-job, After-new-circuits}
 
-pub returns-in-Refused : goal.returns-in-Refused
-returns-in-Refused c = let a = c.args in table_unread a.bytes.now a.out.now a.circuit a.output (told_refused c.read-reading.result (reading a.bytes.now) c.read-reading.ensures _ c.in-Refused.is)
+pub returns-in_err-job : goal.returns-in_err-job
+returns-in_err-job c = let p = err_from_is_err_and c.from_residual.result c.from_residual.ensures.1 in rw (p.1, p.2) (table_unread _ _ _ _ (sym c.in_err-job.ensures))
 
 pub returns-then-job-circuit : goal.returns-then-job-circuit
-returns-then-job-circuit c = let a = c.args in table_number a.bytes.now a.out.now a.circuit a.output c.read-reading.result.job (told_done c.read-reading.result (reading a.bytes.now) c.read-reading.ensures c.in_default.is) c.if-job-circuit.true
+returns-then-job-circuit c = table_number _ _ _ _ _ (sym c.in_ok-job.ensures) c.if-job-circuit.true
 
 pub returns-then-job-output : goal.returns-then-job-output
-returns-then-job-output c = let a = c.args in table_output a.bytes.now a.out.now a.circuit a.output c.read-reading.result.job (told_done c.read-reading.result (reading a.bytes.now) c.read-reading.ensures c.in_default.is) c.if-job-circuit.false c.if-job-output.true
+returns-then-job-output c = table_output _ _ _ _ _ (sym c.in_ok-job.ensures) c.if-job-circuit.false c.if-job-output.true
 
-valid : (c : After-shape_of-shape) → Valid c.read-reading.result.job
-valid c = told_valid c.read-reading.result c.args.bytes.now c.read-reading.ensures c.in_default.is
+valid : (c : In_ok-job) → Valid c.in_ok-job.job
+valid c = reading_valid _ _ (sym c.in_ok-job.ensures)
 
-shaped : (c : After-shape_of-shape) → c.shape_of-shape.result ≡ shape_of c.read-reading.result.job.inputs
-shaped c = c.shape_of-shape.ensures ∙ few_shape (inputs_few (valid c).few)
+inside : (c : In_ok-job) → c.in_ok-job.job.output_count ≤ length c.in_ok-job.job.outputs
+inside c = omega (arith, (valid c).outputs_few, (reading_lengths _ _ (sym c.in_ok-job.ensures)).1)
 
-inside : (c : After-shape_of-shape) → c.read-reading.result.job.output_count ≤ length c.read-reading.result.job.outputs
-unfolding max_outputs
-inside c = omega (arith, (valid c).outputs_few, c.read-reading.type_inv.1.1.1.0.1.1.1.1.1.1.0.1.0.1)
+size : (c : After-new-circuits) → c.new-circuits.result.shape.bytes ≡ table_bytes c.in_ok-job.job.inputs
+size c = shape_bytes c.new-circuits.result.job.now c.new-circuits.result.shaped ∙ ap (λ (j : Job). table_bytes j.inputs) c.new-circuits.ensures
 
-pub returns-then-out-shape : goal.returns-then-out-shape
-returns-then-out-shape c = let a = c.args in table_memory a.bytes.now a.out.now a.circuit a.output c.read-reading.result.job (told_done c.read-reading.result (reading a.bytes.now) c.read-reading.ensures c.in_default.is) c.if-job-circuit.false c.if-job-output.false (subst (λ (k : ℕ). length a.out.now < k) (ap (λ (x : Shape). x.bytes) (shaped (goal.at.returns-then-out-shape c).After-shape_of-shape)) c.if-out-shape.true)
+pub new-circuits-requires : goal.new-circuits-requires
+new-circuits-requires c = valid (goal.at.new-circuits-requires c).In_ok-job
+
+pub returns-then-out-circuits : goal.returns-then-out-circuits
+returns-then-out-circuits c = table_memory _ _ _ _ _ (sym c.in_ok-job.ensures) c.if-job-circuit.false c.if-job-output.false (subst (λ (k : ℕ). length c.args.out.now < k) (size (goal.at.returns-then-out-circuits c).After-new-circuits) c.if-out-circuits.true)
 
 pub slice_bounds-asked-end : goal.slice_bounds-asked-end
-slice_bounds-asked-end c = omega (arith, inside (goal.at.slice_bounds-asked-end c).After-shape_of-shape, c.if-job-output.false)
+slice_bounds-asked-end c = omega (arith, inside (goal.at.slice_bounds-asked-end c).In_ok-job, c.if-job-output.false)
+
+pub invariant_of-listing : goal.invariant_of-listing
+invariant_of-listing c = let p = (goal.at.invariant_of-listing c).In_ok-job in rw c.new-circuits.ensures (record { lie = one_asked _ (valid p) (inside p) c.args.output c.if-job-output.false })
 
 pub put_table-requires : goal.put_table-requires
 unfolding row_bytes max_inputs max_gates max_table_bytes
 put_table-requires c =
-    let a = c.args in let v = valid (goal.at.put_table-requires c).After-shape_of-shape in let i = inside (goal.at.put_table-requires c).After-shape_of-shape in let s = shaped (goal.at.put_table-requires c).After-shape_of-shape in (
-      wide_one c.read-reading.result.job c.shape_of-shape.result _ v s refl,
-      c.if-job-circuit.false,
-      one_asked c.read-reading.result.job v i a.output c.if-job-output.false,
-      one_room c.read-reading.result.job v i a.output c.if-job-output.false (subst (λ (k : ℕ). k ≤ length a.out.now) (ap (λ (x : Shape). x.bytes) s) c.if-out-shape.false),
-    )
+    let p = (goal.at.put_table-requires c).In_ok-job in
+    let room = subst (λ (k : ℕ). k ≤ length c.args.out.now) (size (goal.at.put_table-requires c).After-new-circuits) c.if-out-circuits.false in
+    rw c.new-circuits.ensures (rows_one _ _ (valid p) refl, c.if-job-circuit.false, one_room _ (valid p) (inside p) c.args.output c.if-job-output.false room)
 
 pub returns : goal.returns
 returns c =
-    let a = c.args in let v = valid (goal.at.returns c).After-shape_of-shape in let i = inside (goal.at.returns c).After-shape_of-shape in let s = shaped (goal.at.returns c).After-shape_of-shape in
-    table_done a.bytes.now a.out.now a.circuit a.output c.read-reading.result.job (told_done c.read-reading.result (reading a.bytes.now) c.read-reading.ensures c.in_default.is) c.if-job-circuit.false c.if-job-output.false _
-    (subst (λ (k : ℕ). k ≤ length a.out.now) (ap (λ (x : Shape). x.bytes) s) c.if-out-shape.false)
-    (one_put c.read-reading.result.job v i a.output c.if-job-output.false a.circuit a.out.now c.put_table.ensures)
+    let p = (goal.at.returns c).In_ok-job in
+    table_done _ _ _ _ _ (sym c.in_ok-job.ensures) c.if-job-circuit.false c.if-job-output.false _
+    (subst (λ (k : ℕ). k ≤ length c.args.out.now) (size (goal.at.returns c).After-new-circuits) c.if-out-circuits.false)
+    (one_put _ (valid p) (inside p) c.args.output c.if-job-output.false c.args.circuit c.args.out.now (rw c.new-circuits.ensures at c.put_table.ensures))

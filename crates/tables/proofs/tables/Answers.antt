@@ -6,63 +6,67 @@ use lib.ListN.{length}
 use lib.Seq.{length-take-le}
 use mir.Syntax.{w64}
 use mir.Val.{Fits}
-use Rattle.reading.specs.Reading.{reading}
-use Rattle.reading.proofs.Consequences.{told_refused, told_done, told_valid}
+use Rattle.std.proofs.lemmas.Result.{err_from_is_err_and}
+use Rattle.reading.proofs.Validity.{reading_valid, reading_lengths}
+use Rattle.bits.specs.Sizes.{table_bytes}
 use Rattle.job.specs.Check.{Valid}
-use Rattle.job.specs.Layout.{max_inputs, max_gates, max_outputs}
-use Rattle.job.proofs.Sizes.{inputs_few}
+use Rattle.job.specs.declared.Job.{Job}
+use Rattle.tables.proofs.Space.{shape_bytes}
+use Rattle.job.specs.Layout.{max_inputs, max_gates}
 use Rattle.tables.specs.Operations.{tables_bytes}
-use Rattle.tables.specs.Sizes.{shape_of}
 use Rattle.tables.specs.Work.{max_table_bytes, block_bytes, all_row_bytes}
-use Rattle.tables.specs.declared.rows.Shape.{Shape}
 use Rattle.tables.proofs.Answers.{tables_unread, tables_memory, tables_done}
-use Rattle.tables.proofs.WrittenTables.{wide_block, table_count_fits, tables_fit, all_asked, all_room, all_put}
-use Rattle.tables.proofs.ShapedRows.{few_shape}
+use Rattle.tables.proofs.WrittenTables.{rows_block, table_count_fits, tables_fit, all_asked, all_room, all_put}
 use Rattle.tables.proofs.tables.Goals as goal
-use Rattle.tables.proofs.tables.Goals.{After-shape_of-shape}
+use Rattle.tables.proofs.tables.Goals.{In_ok-job, After-new-circuits}
 
-pub returns-in-Refused : goal.returns-in-Refused
-returns-in-Refused c = let a = c.args in tables_unread a.bytes.now a.out.now c.undelivered.ensures (told_refused c.read-reading.result (reading a.bytes.now) c.read-reading.ensures _ c.in-Refused.is)
+pub returns-in_err-job : goal.returns-in_err-job
+returns-in_err-job c = let p = err_from_is_err_and c.from_residual.result c.from_residual.ensures.1 in rw (p.1, p.2) (tables_unread _ _ (sym c.in_err-job.ensures))
 
-valid : (c : After-shape_of-shape) → Valid c.read-reading.result.job
-valid c = told_valid c.read-reading.result c.args.bytes.now c.read-reading.ensures c.in_default.is
+valid : (c : In_ok-job) → Valid c.in_ok-job.job
+valid c = reading_valid _ _ (sym c.in_ok-job.ensures)
 
-shaped : (c : After-shape_of-shape) → c.shape_of-shape.result ≡ shape_of c.read-reading.result.job.inputs
-shaped c = c.shape_of-shape.ensures ∙ few_shape (inputs_few (valid c).few)
+inside : (c : In_ok-job) → c.in_ok-job.job.output_count ≤ length c.in_ok-job.job.outputs
+inside c = omega (arith, (valid c).outputs_few, (reading_lengths _ _ (sym c.in_ok-job.ensures)).1)
 
-inside : (c : After-shape_of-shape) → c.read-reading.result.job.output_count ≤ length c.read-reading.result.job.outputs
-unfolding max_outputs
-inside c = omega (arith, (valid c).outputs_few, c.read-reading.type_inv.1.1.1.0.1.1.1.1.1.1.0.1.0.1)
+sized : (c : After-new-circuits) → (c.in_ok-job.job.fault_count + 1) * c.in_ok-job.job.output_count * c.new-circuits.result.shape.bytes ≡ tables_bytes c.in_ok-job.job
+sized c =
+    ap (λ (k : ℕ). (c.in_ok-job.job.fault_count + 1) * c.in_ok-job.job.output_count * k)
+    (shape_bytes c.new-circuits.result.job.now c.new-circuits.result.shaped ∙ ap (λ (j : Job). table_bytes j.inputs) c.new-circuits.ensures)
 
-sized : (c : After-shape_of-shape) → (c.read-reading.result.job.fault_count + 1) * c.read-reading.result.job.output_count * c.shape_of-shape.result.bytes ≡ tables_bytes c.read-reading.result.job
-sized c = ap (λ (x : Shape). (c.read-reading.result.job.fault_count + 1) * c.read-reading.result.job.output_count * x.bytes) (shaped c)
+pub new-circuits-requires : goal.new-circuits-requires
+new-circuits-requires c = valid (goal.at.new-circuits-requires c).In_ok-job
 
 pub overflow_mul-bytes : goal.overflow_mul-bytes
-overflow_mul-bytes c = tables_fit c.read-reading.result.job (valid (c))
+overflow_mul-bytes c = tables_fit _ (valid (goal.at.overflow_mul-bytes c).In_ok-job)
 
 pub overflow_mul-bytes-2 : goal.overflow_mul-bytes-2
-overflow_mul-bytes-2 c = subst (λ (k : ℕ). Fits w64 k) (sym (sized (goal.at.overflow_mul-bytes-2 c).After-shape_of-shape)) (table_count_fits c.read-reading.result.job (valid (goal.at.overflow_mul-bytes-2 c).After-shape_of-shape))
+overflow_mul-bytes-2 c = subst (λ (k : ℕ). Fits w64 k) (sym (sized c)) (table_count_fits _ (valid (goal.at.overflow_mul-bytes-2 c).In_ok-job))
 
 pub returns-then-out-bytes : goal.returns-then-out-bytes
-returns-then-out-bytes c = let a = c.args in tables_memory a.bytes.now a.out.now c.undelivered-then-out-bytes.ensures refl c.read-reading.result.job (told_done c.read-reading.result (reading a.bytes.now) c.read-reading.ensures c.in_default.is) (subst (λ (k : ℕ). length a.out.now < k) (sized (goal.at.returns-then-out-bytes c).After-shape_of-shape) c.if-out-bytes.true)
+returns-then-out-bytes c = tables_memory _ _ _ (sym c.in_ok-job.ensures) (subst (λ (k : ℕ). length c.args.out.now < k) (sized (goal.at.returns-then-out-bytes c).After-new-circuits) c.if-out-bytes.true)
 
 pub slice_bounds-lines-end : goal.slice_bounds-lines-end
-slice_bounds-lines-end c = inside (goal.at.slice_bounds-lines-end c).After-shape_of-shape
+slice_bounds-lines-end c = inside (goal.at.slice_bounds-lines-end c).In_ok-job
 
-pub slice_bounds-put_tables-end-2 : goal.slice_bounds-put_tables-end-2
-slice_bounds-put_tables-end-2 c = sym (length-take-le c.read-reading.result.job.output_count c.read-reading.result.job.outputs (inside (goal.at.slice_bounds-put_tables-end-2 c).After-shape_of-shape))
+pub slice_bounds-asked-end : goal.slice_bounds-asked-end
+slice_bounds-asked-end c = sym (length-take-le _ _ (inside (goal.at.slice_bounds-asked-end c).In_ok-job))
+
+pub invariant_of-listing : goal.invariant_of-listing
+invariant_of-listing c = let p = (goal.at.invariant_of-listing c).In_ok-job in rw c.new-circuits.ensures (record { lie = all_asked _ (valid p) (inside p) })
 
 pub put_tables-requires : goal.put_tables-requires
 unfolding all_row_bytes block_bytes max_inputs max_gates max_table_bytes
 put_tables-requires c =
-    let a = c.args in let v = valid (goal.at.put_tables-requires c).After-shape_of-shape in let i = inside (goal.at.put_tables-requires c).After-shape_of-shape in (
-      wide_block c.read-reading.result.job c.shape_of-shape.result _ v (shaped (goal.at.put_tables-requires c).After-shape_of-shape) refl,
-      all_asked c.read-reading.result.job v i,
-      all_room c.read-reading.result.job v i (subst (λ (k : ℕ). k ≤ length a.out.now) (sized (goal.at.put_tables-requires c).After-shape_of-shape) c.if-out-bytes.false),
-    )
+    let p = (goal.at.put_tables-requires c).In_ok-job in
+    let room = subst (λ (k : ℕ). k ≤ length c.args.out.now) (sized (goal.at.put_tables-requires c).After-new-circuits) c.if-out-bytes.false in
+    rw c.new-circuits.ensures (rows_block _ _ (valid p) refl, all_room _ (valid p) (inside p) room)
+
+pub counts_of-counts-requires : goal.counts_of-counts-requires
+counts_of-counts-requires c = (reading_lengths _ _ (sym c.in_ok-job.ensures)).2
 
 pub returns : goal.returns
 returns c =
-    let a = c.args in let v = valid (goal.at.returns c).After-shape_of-shape in let i = inside (goal.at.returns c).After-shape_of-shape in
-    tables_done a.bytes.now a.out.now c.read-reading.result.job (told_done c.read-reading.result (reading a.bytes.now) c.read-reading.ensures c.in_default.is) _ c.counts_of.ensures (sized (goal.at.returns c).After-shape_of-shape) c.if-out-bytes.false
-    (all_put c.read-reading.result.job v i (c.read-reading.result.job.fault_count + 1) a.out.now c.put_tables.ensures)
+    let p = (goal.at.returns c).In_ok-job in
+    tables_done c.args.bytes.now c.args.out.now c.in_ok-job.job (sym c.in_ok-job.ensures) _ c.counts_of-counts.ensures (sized (goal.at.returns c).After-new-circuits) c.if-out-bytes.false
+    (all_put _ (valid p) (inside p) (c.in_ok-job.job.fault_count + 1) c.args.out.now (rw c.new-circuits.ensures at c.put_tables.ensures))

@@ -1,32 +1,69 @@
 -- `writing::check` meets its contract.
-use mathlib.Core.Path.{sym, ap, ◌∙◌}
-use borrow.Author.Tests.{le-leb, lt-leb}
-use Rattle.bits.specs.Answer.{outcome}
-use Rattle.job.specs.Layout.{max_inputs, max_gates}
+use Rattle.std.proofs.Common.{◌≡◌, sym, ◌∙◌, arith, le-leb}
+use Rattle.std.proofs.lemmas.Bool.{lt-leb}
 use Rattle.job.specs.Check.{checked}
-use Rattle.writing.proofs.Checks.{checked_rest}
+use Rattle.job.specs.Layout.{max_inputs, max_gates, max_outputs, max_faults}
+use Rattle.reading.proofs.Steps.{passed_whole}
+use Rattle.writing.proofs.Checks.{gates_lent, outputs_lent, faults_lent, behind_gates, behind_outputs, past_gates, past_outputs}
 use Rattle.writing.proofs.check.Goals as goal
+use Rattle.writing.proofs.check.Goals.{In_ok-check_gates, In_ok-check_outputs, then-n-lt1-via-then-n-lt1, then-n-lt1-via-else-n-lt1+then-n-gt-MAX_INPUTS, then-count-lt1-via-then-count-lt1, then-count-lt1-via-else-count-lt1+then-count-gt-MAX_OUTPUTS}
 
 pub returns-then-n-lt1 : goal.returns-then-n-lt1
-unfolding checked
-returns-then-n-lt1 c = simp (lt-leb _ _ c.if-n-lt1.true)
-
-pub returns-then-n-gt-MAX_INPUTS : goal.returns-then-n-gt-MAX_INPUTS
 unfolding checked max_inputs
-returns-then-n-gt-MAX_INPUTS c = simp (le-leb _ _ c.if-n-lt1.false, lt-leb _ _ c.if-n-gt-MAX_INPUTS.true)
+returns-then-n-lt1 c =
+    elim c.then-n-lt1.branch [
+      | then-n-lt1-via-then-n-lt1 w ↦ simp (lt-leb _ _ w.if-n-lt1.true)
+      | then-n-lt1-via-else-n-lt1+then-n-gt-MAX_INPUTS w ↦ simp (le-leb _ _ w.if-n-lt1.false, lt-leb _ _ w.if-n-gt-MAX_INPUTS.true)
+    ]
 
 pub returns-then-g-gt-MAX_GATES : goal.returns-then-g-gt-MAX_GATES
 unfolding checked max_inputs max_gates
 returns-then-g-gt-MAX_GATES c = simp (le-leb _ _ c.if-n-lt1.false, le-leb _ _ c.if-n-gt-MAX_INPUTS.false, lt-leb _ _ c.if-g-gt-MAX_GATES.true)
 
-pub check_gates-requires : goal.check_gates-requires
-unfolding max_gates
-check_gates-requires c = c.if-g-gt-MAX_GATES.false
-
-pub returns-in-Refused : goal.returns-in-Refused
+pub returns-in_err-check_gates : goal.returns-in_err-check_gates
 unfolding checked max_inputs max_gates
-returns-in-Refused c = simp (le-leb _ _ c.if-n-lt1.false, le-leb _ _ c.if-n-gt-MAX_INPUTS.false, le-leb _ _ c.if-g-gt-MAX_GATES.false, sym c.check_gates.ensures ∙ ap outcome c.in-Refused.is)
+returns-in_err-check_gates c =
+    let found = c.in_err-check_gates.ensures ∙ gates_lent c.args.job (omega arith) in
+    passed_whole _ _ c.from_residual.ensures.1 (simp (le-leb _ _ c.if-n-lt1.false, le-leb _ _ c.if-n-gt-MAX_INPUTS.false, le-leb _ _ c.if-g-gt-MAX_GATES.false, sym found))
 
-pub returns-in-Done : goal.returns-in-Done
+-- what is left to check where the gates have passed, and where the outputs have
+gates-passed : (c : In_ok-check_gates) → checked c.args.job ≡ behind_gates c.args.job
 unfolding max_inputs max_gates
-returns-in-Done c = c.check_behind_gates.ensures ∙ sym (checked_rest c.args.job c.if-n-lt1.false c.if-n-gt-MAX_INPUTS.false c.if-g-gt-MAX_GATES.false (sym c.check_gates.ensures ∙ ap outcome c.in-Done.is))
+gates-passed c =
+    past_gates c.args.job c.if-n-lt1.false c.if-n-gt-MAX_INPUTS.false c.if-g-gt-MAX_GATES.false (c.in_ok-check_gates.ensures ∙ gates_lent c.args.job (omega arith))
+
+outputs-passed : (c : In_ok-check_outputs) → checked c.args.job ≡ behind_outputs c.args.job
+unfolding max_inputs max_gates max_outputs
+outputs-passed c =
+    let gates = past_gates c.args.job c.if-n-lt1.false c.if-n-gt-MAX_INPUTS.false c.if-g-gt-MAX_GATES.false (c.in_ok-check_gates.ensures ∙ gates_lent c.args.job (omega arith)) in
+    past_outputs c.args.job gates c.if-count-lt1.false c.if-count-gt-MAX_OUTPUTS.false (c.in_ok-check_outputs.ensures ∙ outputs_lent c.args.job (omega arith))
+
+pub returns-then-count-lt1 : goal.returns-then-count-lt1
+unfolding max_outputs
+returns-then-count-lt1 c =
+    let passed = gates-passed (goal.at.returns-then-count-lt1 c).In_ok-check_gates in
+    elim c.then-count-lt1.branch [
+      | then-count-lt1-via-then-count-lt1 w ↦ sym (passed ∙ simp (lt-leb _ _ w.if-count-lt1.true))
+      | then-count-lt1-via-else-count-lt1+then-count-gt-MAX_OUTPUTS w ↦ sym (passed ∙ simp (le-leb _ _ w.if-count-lt1.false, lt-leb _ _ w.if-count-gt-MAX_OUTPUTS.true))
+    ]
+
+pub returns-in_err-check_outputs : goal.returns-in_err-check_outputs
+unfolding max_outputs
+returns-in_err-check_outputs c =
+    let found = c.in_err-check_outputs.ensures ∙ outputs_lent c.args.job (omega arith) in
+    passed_whole _ _ c.from_residual-in_err-check_outputs.ensures.1
+    (sym (gates-passed (goal.at.returns-in_err-check_outputs c).In_ok-check_gates ∙ simp (le-leb _ _ c.if-count-lt1.false, le-leb _ _ c.if-count-gt-MAX_OUTPUTS.false, sym found)))
+
+pub returns-then-not-no_loose : goal.returns-then-not-no_loose
+returns-then-not-no_loose c = sym (outputs-passed (goal.at.returns-then-not-no_loose c).In_ok-check_outputs ∙ simp (sym c.if-not-no_loose.ensures))
+
+pub returns-then-job-gt-MAX_FAULTS : goal.returns-then-job-gt-MAX_FAULTS
+unfolding max_faults
+returns-then-job-gt-MAX_FAULTS c =
+    sym (outputs-passed (goal.at.returns-then-job-gt-MAX_FAULTS c).In_ok-check_outputs ∙ simp (sym c.if-not-no_loose.ensures, lt-leb _ _ c.if-job-gt-MAX_FAULTS.true))
+
+pub returns : goal.returns
+unfolding max_faults
+returns c =
+    c.check_faults.ensures ∙ faults_lent c.args.job (omega arith)
+    ∙ sym (outputs-passed (goal.at.returns c).In_ok-check_outputs ∙ simp (sym c.if-not-no_loose.ensures, le-leb _ _ c.if-job-gt-MAX_FAULTS.false))

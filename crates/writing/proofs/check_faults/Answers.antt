@@ -1,45 +1,29 @@
 -- `writing::check_faults` meets its contract.
-use Prim.Native.Nat.{ℕ}
-use mathlib.Core.Path.{sym, ap, ◌∙◌}
-use native.Mathlib.Omega.{arith}
-use native.Mathlib.Nat.{sub-zero}
-use Rattle.job.specs.Layout.{max_faults}
-use Rattle.job.specs.Check.{fault_judged, faults_checked}
-use Rattle.writing.proofs.Checks.{turn_end, turn_stop, turn_next, fault_line, fault_order, fault_part, fault_passed}
+use Rattle.std.proofs.Common.{sym, ◌∙◌}
+use Rattle.job.specs.Record.{unused_fault}
+use Rattle.writing.specs.Checks.{fault_judged}
+use Rattle.writing.proofs.Checks.{each_end, each_stop, each_next}
 use Rattle.writing.proofs.check_faults.Goals as goal
-
-pub loop-i-init : goal.loop-i-init
-loop-i-init c = (omega arith, ap (λ (k : ℕ). faults_checked c.args.job k 0) (sym (sub-zero c.args.job.fault_count)))
-
-pub offset_bounds-job-i : goal.offset_bounds-job-i
-unfolding max_faults
-offset_bounds-job-i c = omega arith
-
-pub bounds-job-i : goal.bounds-job-i
-unfolding max_faults
-bounds-job-i c = omega arith
 
 pub returns-then-not-fault_line_ok : goal.returns-then-not-fault_line_ok
 returns-then-not-fault_line_ok c =
-    sym (c.loop-i.invariant.1 ∙ turn_stop (fault_judged c.args.job) c.args.job.fault_count c.loop-i.i c.loop-i-test.true (fault_line c.args.job c.loop-i.i (sym c.fault_line_ok.ensures ∙ c.if-not-fault_line_ok.true)))
+    each_stop (λ _. fault_judged c.args.inputs c.args.lines) unused_fault c.args.faults.now c.loop-entry.invariant c.loop-entry-test.true
+    (simp (sym c.fault_line_ok.ensures ∙ c.if-not-fault_line_ok.true))
 
 pub returns-then-not-order_ok : goal.returns-then-not-order_ok
 returns-then-not-order_ok c =
-    sym (c.loop-i.invariant.1 ∙ turn_stop (fault_judged c.args.job) c.args.job.fault_count c.loop-i.i c.loop-i-test.true (fault_order c.args.job c.loop-i.i (sym c.fault_line_ok.ensures ∙ c.if-not-fault_line_ok.false) (sym c.order_ok.ensures ∙ c.if-not-order_ok.true)))
+    each_stop (λ _. fault_judged c.args.inputs c.args.lines) unused_fault c.args.faults.now c.loop-entry.invariant c.loop-entry-test.true
+    (simp (sym c.fault_line_ok.ensures ∙ c.if-not-fault_line_ok.false, sym c.order_ok.ensures ∙ c.if-not-order_ok.true))
 
 pub returns-then-not-part_ok : goal.returns-then-not-part_ok
 returns-then-not-part_ok c =
-    let line = sym c.fault_line_ok.ensures ∙ c.if-not-fault_line_ok.false in
-    let order = sym c.order_ok.ensures ∙ c.if-not-order_ok.false in
-    sym (c.loop-i.invariant.1 ∙ turn_stop (fault_judged c.args.job) c.args.job.fault_count c.loop-i.i c.loop-i-test.true (fault_part c.args.job c.loop-i.i line order (sym c.part_ok.ensures ∙ c.if-not-part_ok.true)))
+    each_stop (λ _. fault_judged c.args.inputs c.args.lines) unused_fault c.args.faults.now c.loop-entry.invariant c.loop-entry-test.true
+    (simp (sym c.fault_line_ok.ensures ∙ c.if-not-fault_line_ok.false, sym c.order_ok.ensures ∙ c.if-not-order_ok.false, sym c.part_ok.ensures ∙ c.if-not-part_ok.true))
 
-pub overflow_add-i : goal.overflow_add-i
-unfolding max_faults
-overflow_add-i c = omega arith
-
-pub loop-i-preserved : goal.loop-i-preserved
-loop-i-preserved c =
-    (omega arith, c.loop-i.invariant.1 ∙ turn_next (fault_judged c.args.job) c.args.job.fault_count c.loop-i.i c.loop-i-test.true (fault_passed c.args.job c.loop-i.i (sym c.fault_line_ok.ensures ∙ c.if-not-fault_line_ok.false) (sym c.order_ok.ensures ∙ c.if-not-order_ok.false) (sym c.part_ok.ensures ∙ c.if-not-part_ok.false)))
+pub loop-entry-preserved : goal.loop-entry-preserved
+loop-entry-preserved c =
+    each_next (λ _. fault_judged c.args.inputs c.args.lines) unused_fault c.args.faults.now c.loop-entry.invariant c.loop-entry-test.true
+    (simp (sym c.fault_line_ok.ensures ∙ c.if-not-fault_line_ok.false, sym c.order_ok.ensures ∙ c.if-not-order_ok.false, sym c.part_ok.ensures ∙ c.if-not-part_ok.false))
 
 pub returns : goal.returns
-returns c = sym (c.loop-i.invariant.1 ∙ turn_end _ c.args.job.fault_count c.loop-i.i c.loop-i-test.false)
+returns c = each_end (λ _. fault_judged c.args.inputs c.args.lines) unused_fault c.args.faults.now c.loop-entry.invariant c.loop-entry-test.false

@@ -1,11 +1,9 @@
 -- `writing::check_faults` meets its contract.
-use Prim.Native.Nat.{◌-◌, ◌≤◌}
-use mathlib.Core.Path.{◌≡◌}
-use Rattle.job.specs.Check.{faults_checked}
+use Rattle.std.proofs.Common.{◌≡◌}
+use Rattle.job.specs.Record.{unused_fault}
+use Rattle.writing.specs.Checks.{fault_judged, faults_judged}
+use Rattle.writing.proofs.Checks.{judged_from}
 use Rattle.writing.proofs.check_faults.Given as goal
 
-abbrev pub invariant-loop-i : goal.invariant-loop-i
-invariant-loop-i l = (l.i ≤ l.f) × (faults_checked l.job l.f 0 ≡ faults_checked l.job (l.f - l.i) l.i)
-
-abbrev pub decreases-loop-i : goal.decreases-loop-i
-decreases-loop-i l = l.f - l.i
+abbrev pub invariant-loop-entry : goal.invariant-loop-entry
+invariant-loop-entry l = faults_judged l.inputs l.lines l.faults ≡ judged_from (λ _. fault_judged l.inputs l.lines) unused_fault l.faults l.entry-index

@@ -1,11 +1,9 @@
 -- `writing::check_gates` meets its contract.
-use Prim.Native.Nat.{◌-◌, ◌≤◌}
-use mathlib.Core.Path.{◌≡◌}
-use Rattle.job.specs.Check.{gates_checked}
+use Rattle.std.proofs.Common.{◌≡◌}
+use Rattle.job.specs.Record.{unused_gate}
+use Rattle.writing.specs.Checks.{gate_judged, gates_judged}
+use Rattle.writing.proofs.Checks.{judged_from}
 use Rattle.writing.proofs.check_gates.Given as goal
 
 abbrev pub invariant-loop-q : goal.invariant-loop-q
-invariant-loop-q l = (l.q ≤ l.g) × (gates_checked l.job l.g 0 ≡ gates_checked l.job (l.g - l.q) l.q)
-
-abbrev pub decreases-loop-q : goal.decreases-loop-q
-decreases-loop-q l = l.g - l.q
+invariant-loop-q l = gates_judged l.inputs l.gates ≡ judged_from (gate_judged l.inputs) unused_gate l.gates l.q

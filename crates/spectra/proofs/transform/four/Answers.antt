@@ -1,52 +1,35 @@
 -- `spectra::transform::four` meets its contract: the spectra of two bytes, combined.
-use Prim.Native.Nat.{◌-◌, ◌/◌, ◌%◌}
-use native.Mathlib.Nat.{le_refl}
-use mathlib.Core.Path.{refl, sym}
+use Prim.Native.Nat.{◌+◌, ◌-◌, ◌*◌, ◌/◌, ◌%◌}
+use mathlib.Core.Path.{refl}
 use lib.Dec.{lit≤}
 use lib.ListN.{length}
-use Rattle.spectra.proofs.Recursion.{halved, top_le, other_le, half_fits, place_fits, inner_asked, front_inside, front_size, back_start, back_size, whole_halves, combine_asked, transformed}
+use Rattle.spectra.proofs.Recursion.{Halved, halved, top_le, other_le, inner_asked, back_size, combine_asked, transformed}
+use Rattle.spectra.specs.Recursion.{Asks}
 use Rattle.spectra.proofs.transform.four.Goals as goal
+use Rattle.spectra.proofs.transform.four.Goals.{After-split_at_mut-lower}
 
-pub slice_bounds-leaf-end : goal.slice_bounds-leaf-end
-slice_bounds-leaf-end c = let a = c.args in let p = halved a.out.now a.sums.now (length a.table.now) a.at 4 a.k c.requires (lit≤ tt) refl in front_inside p
+-- the table is halved, and so what is asked of each half
+halves : (c : After-split_at_mut-lower) → let a = c.args in Halved a.out.now a.sums.now (length a.table.now) a.at 4 a.k 8
+halves c = let a = c.args in halved a.out.now a.sums.now (length a.table.now) a.at 4 a.k c.requires (lit≤ tt) refl
 
-pub slice_bounds-leaf-end-2 : goal.slice_bounds-leaf-end-2
-slice_bounds-leaf-end-2 c = let a = c.args in let p = halved a.out.now a.sums.now (length a.table.now) a.at 4 a.k c.requires (lit≤ tt) refl in sym (front_size p)
+lower_asked : (c : After-split_at_mut-lower) → let a = c.args in Asks (length c.split_at_mut-lower.result.0.now) a.sums.now (length a.table.now) (a.at + a.k / 8 * 8) 3 (a.k % 8)
+lower_asked c = let p = halves c in inner_asked p (c.args.k / 8) (top_le p) c.split_at_mut-lower.ensures.front_len
 
-pub overflow_mul-top : goal.overflow_mul-top
-overflow_mul-top c = let a = c.args in let p = halved a.out.now a.sums.now (length a.table.now) a.at 4 a.k c.requires (lit≤ tt) refl in half_fits p (a.k / 8) (top_le p)
-
-pub overflow_add-at : goal.overflow_add-at
-overflow_add-at c = let a = c.args in let p = halved a.out.now a.sums.now (length a.table.now) a.at 4 a.k c.requires (lit≤ tt) refl in place_fits p (a.k / 8) (top_le p)
+upper_asked : (c : After-split_at_mut-lower) → let a = c.args in Asks (length c.split_at_mut-lower.result.1.now) a.sums.now (length a.table.now) (a.at + (1 - a.k / 8) * 8) 3 (a.k % 8)
+upper_asked c = let p = halves c in inner_asked p (1 - c.args.k / 8) (other_le p) (back_size p c.split_at_mut-lower.ensures.back_len)
 
 pub leaf-requires : goal.leaf-requires
-leaf-requires c = let a = c.args in let p = halved a.out.now a.sums.now (length a.table.now) a.at 4 a.k c.requires (lit≤ tt) refl in record { polarity = a.k % 8; asks = inner_asked p (a.k / 8) (top_le p) (front_size p) }
-
-pub slice_bounds-leaf-count : goal.slice_bounds-leaf-count
-slice_bounds-leaf-count c = let a = c.args in let p = halved a.out.now a.sums.now (length a.table.now) a.at 4 a.k c.requires (lit≤ tt) refl in back_start p c.leaf.new.out c.leaf.auto.out
-
-pub slice_bounds-leaf-start : goal.slice_bounds-leaf-start
-slice_bounds-leaf-start c = let a = c.args in let p = halved a.out.now a.sums.now (length a.table.now) a.at 4 a.k c.requires (lit≤ tt) refl in back_start p c.leaf.new.out c.leaf.auto.out
-
-pub slice_bounds-leaf-end-3 : goal.slice_bounds-leaf-end-3
-slice_bounds-leaf-end-3 c = le_refl _
-
-pub overflow_sub-top : goal.overflow_sub-top
-overflow_sub-top c = let a = c.args in let p = halved a.out.now a.sums.now (length a.table.now) a.at 4 a.k c.requires (lit≤ tt) refl in top_le p
-
-pub overflow_mul-top-2 : goal.overflow_mul-top-2
-overflow_mul-top-2 c = let a = c.args in let p = halved a.out.now a.sums.now (length a.table.now) a.at 4 a.k c.requires (lit≤ tt) refl in half_fits p (1 - a.k / 8) (other_le p)
-
-pub overflow_add-at-2 : goal.overflow_add-at-2
-overflow_add-at-2 c = let a = c.args in let p = halved a.out.now a.sums.now (length a.table.now) a.at 4 a.k c.requires (lit≤ tt) refl in place_fits p (1 - a.k / 8) (other_le p)
+leaf-requires c = record { polarity = c.args.k % 8; asks = lower_asked (goal.at.leaf-requires c).After-split_at_mut-lower }
 
 pub leaf-requires-2 : goal.leaf-requires-2
-leaf-requires-2 c = let a = c.args in let p = halved a.out.now a.sums.now (length a.table.now) a.at 4 a.k c.requires (lit≤ tt) refl in record { polarity = a.k % 8; asks = inner_asked p (1 - a.k / 8) (other_le p) (back_size p c.leaf.new.out c.leaf.auto.out) }
+leaf-requires-2 c = record { polarity = c.args.k % 8; asks = upper_asked (goal.at.leaf-requires-2 c).After-split_at_mut-lower }
 
 pub combine-requires : goal.combine-requires
-combine-requires c = let a = c.args in let p = halved a.out.now a.sums.now (length a.table.now) a.at 4 a.k c.requires (lit≤ tt) refl in let whole = whole_halves p c.leaf.new.out c.leaf.auto.out c.leaf-2.new.out c.leaf-2.auto.out in combine_asked a.table.now p _ c.leaf.new.out c.leaf-2.new.out whole (c.leaf.ensures (a.k % 8) (inner_asked p (a.k / 8) (top_le p) (front_size p))) (c.leaf-2.ensures (a.k % 8) (inner_asked p (1 - a.k / 8) (other_le p) (back_size p c.leaf.new.out c.leaf.auto.out)))
+combine-requires c =
+    let s = (goal.at.combine-requires c).After-split_at_mut-lower in
+    combine_asked c.args.table.now (halves s) _ _ (c.leaf.ensures _ (lower_asked s)) (c.leaf-2.ensures _ (upper_asked s))
 
 pub returns : goal.returns
 returns c =
-    let c-args = c.args in
-    let a = c-args in let p = halved a.out.now a.sums.now (length a.table.now) a.at 4 a.k (c.requires) (lit≤ tt) refl in let whole = whole_halves p c.leaf.new.out c.leaf.auto.out c.leaf-2.new.out c.leaf-2.auto.out in transformed a.table.now p _ c.leaf.new.out c.leaf-2.new.out whole (c.leaf.ensures (a.k % 8) (inner_asked p (a.k / 8) (top_le p) (front_size p))) (c.leaf-2.ensures (a.k % 8) (inner_asked p (1 - a.k / 8) (other_le p) (back_size p c.leaf.new.out c.leaf.auto.out))) _ c.combine.ensures
+    let s = (goal.at.returns c).After-split_at_mut-lower in
+    transformed c.args.table.now (halves s) _ _ (c.leaf.ensures _ (lower_asked s)) (c.leaf-2.ensures _ (upper_asked s)) _ c.combine.ensures

@@ -1,6 +1,5 @@
 -- `transform_rows` meets its contract: the spectra of the rows passed stand at the start of the memory.
 use native.Mathlib.Omega.{arith}
-use borrow.Author.Count.{falls}
 use Rattle.bits.proofs.TableSizes.{table_size_exact, table_bytes_exact}
 use Rattle.job.proofs.Sizes.{inputs_few}
 use Rattle.spectra.proofs.Rows.{row_place, filling_start, filling_place, filling_inside, filling_ends, filling_slice, filling_lent, filling_end, row_bytes_lem}
@@ -51,12 +50,6 @@ slice_bounds-transform_row-end-in-loop-r c = row_place c.loop-r.invariant.wide c
 
 pub transform_row-requires : goal.transform_row-requires
 transform_row-requires c = row_asked c.requires.0 (filling_slice c.loop-r.invariant c.loop-r-test.true) c.requires.1 (row_bytes_lem c.args.n c.args.tables.now c.loop-r.invariant.wide c.loop-r-test.true c.requires.3) c.requires.4
-
-pub overflow_add-r-in-loop-r-2 : goal.overflow_add-r-in-loop-r-2
-overflow_add-r-in-loop-r-2 c = omega (arith, c.loop-r-test.true)
-
-pub loop-r-smaller : goal.loop-r-smaller
-loop-r-smaller c = falls _ _ c.loop-r-test.true
 
 pub loop-r-preserved : goal.loop-r-preserved
 loop-r-preserved c =

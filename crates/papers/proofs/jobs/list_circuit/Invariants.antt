@@ -1,5 +1,0 @@
-use Rattle.std.proofs.Common.{◌-◌}
-use Rattle.papers.proofs.jobs.list_circuit.Given as goal
-
-abbrev pub decreases-loop-o : goal.decreases-loop-o
-decreases-loop-o g l = l.outputs - l.o
