@@ -1,34 +1,34 @@
--- The text of a verdict (specs/Text.antt, specs/Putting.antt).
+-- The text of what choosing answers (specs/Text.antt, specs/Putting.antt).
 --
 --   printed_done                 what is known where a signature is chosen
---   exit_text, verdict_printed   what a verdict prints, by what the call answers and leaves
+--   exit_text, choice_printed    what is printed, by what the call answers and leaves
+--   told_memory                  the work that it leaves
 --   refused_printed              the line of a refusal
 use Prim.Native.Nat.{ℕ, zero, suc, ◌≤◌}
 use native.Mathlib.Omega.{arith}
 use mathlib.Core.Path.{◌≡◌, refl, sym, subst}
 use mathlib.Core.List.{List}
-use lib.ListN.{length}
+use Rattle.std.proofs.Common.{Result, Ok, Err}
 use Rattle.bits.specs.Answer.{number}
 use Rattle.bits.specs.declared.Refusal.{Refusal}
 use Rattle.bits.specs.declared.Refusal.TheVariants as refusals
-use Rattle.tables.specs.declared.Counts.{Counts}
 use Rattle.spectra.specs.Listed.{Entry, entries_at}
 use Rattle.method.specs.Method.{Pair}
 use Rattle.method.specs.Method.Pair.{nobody, pair}
-use Rattle.choosing.specs.Choosing.{AtExit, verdict_number, verdict_pair}
+use Rattle.choosing.specs.Choosing.{AtExit, told}
+use Rattle.choosing.specs.declared.Chosen.{Chosen}
 use Rattle.choosing.specs.declared.Signature.{Signature}
-use Rattle.choosing.specs.declared.Verdict.{Verdict}
-use Rattle.choosing.specs.declared.Verdict.TheVariants.{Done, Alike, Refused}
-use Rattle.report_text.specs.Putting.{Printable, work_text, index_list, output_list, verdict_text}
+use Rattle.choosing.specs.declared.Unchosen.{Unchosen}
+use Rattle.choosing.specs.declared.Unchosen.TheVariants.{Alike, Refused}
+use Rattle.report_text.specs.Putting.{Printable, work_text, index_list, output_list, choice_text}
 use Rattle.report_text.specs.Text.{refused_line, alike_line}
 
 -- the entries that a signature lists
 abbrev listed : Signature → List Entry
 listed signature = entries_at (index_list signature) (output_list signature)
 
-pub printed_done : {v : Verdict} (counts : Counts) (signature : Signature) (work : List ℕ) → v ≡ Done
-    → Printable v counts signature (length work) → Printable Done counts signature (length work)
-printed_done counts signature work e h = subst (λ (x : Verdict). Printable x counts signature (length work)) e h
+pub printed_done : {r : Result Chosen Unchosen} {c : Chosen} (room : ℕ) → r ≡ Ok c → Printable r room → Printable (Ok c) room
+printed_done room e h = subst (λ (x : Result Chosen Unchosen). Printable x room) e h
 
 -- ---- by what the call answers and leaves
 
@@ -67,9 +67,13 @@ number_some refusals.LooseGate = omega arith
 number_some refusals.OutputNumber = omega arith
 number_some refusals.Part = omega arith
 
-pub verdict_printed : (v : Verdict) (counts : Counts) (signature : Signature) (memory : List ℕ)
-    → verdict_text v counts signature memory
-    ≡ exit_text (record { number = verdict_number v; pair = verdict_pair v; counts = counts; signature = signature; memory = memory })
-verdict_printed Done counts signature memory = refl
-verdict_printed (Alike a b) counts signature memory = refl
-verdict_printed (Refused e) counts signature memory = sym (refused_printed (number e) (work_text counts (listed signature) memory) (number_some e))
+pub choice_printed : (r : Result Chosen Unchosen) (memory : List ℕ) → choice_text r memory ≡ exit_text (told r memory)
+choice_printed (Ok c) memory = refl
+choice_printed (Err (Alike a b)) memory = refl
+choice_printed (Err (Refused e)) memory =
+    sym (refused_printed (number e) (exit_text (record (told (Err (Refused e)) memory) { number = 0 })) (number_some e))
+
+pub told_memory : (r : Result Chosen Unchosen) (memory : List ℕ) → (told r memory).memory ≡ memory
+told_memory (Ok c) memory = refl
+told_memory (Err (Alike a b)) memory = refl
+told_memory (Err (Refused e)) memory = refl
