@@ -10,11 +10,10 @@ ghost use Rattle.method.specs.Method.{first_pair};
 ghost use Rattle.chooser.specs.Matrix.{max_rows};
 ghost use Rattle.chooser.specs.Pairing.{numbers, pair_of, pair_or_nobody, max_marks, Counted, Marked, Paired, Listed, Within, There, Sound, Having, Narrowed, Leaves, meets, equal_at, clear};
 
-use std::marker::Model;
-
 use crate::MAX_ROWS;
 use crate::matrix::Matrix;
 use bits::sets;
+use std::marker::Model;
 
 // A mark is a byte.
 const MARKS: usize = 256;
