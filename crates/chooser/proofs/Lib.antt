@@ -1,5 +1,4 @@
 pub mod Alignment
-pub mod Cells
 pub mod Clearness
 pub mod CommonPairs
 pub mod Conclusion
