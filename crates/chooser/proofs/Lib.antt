@@ -2,7 +2,6 @@ pub mod Alignment
 pub mod Clearness
 pub mod CommonPairs
 pub mod Conclusion
-pub mod Fits
 pub mod KeptEntries
 pub mod Marks
 pub mod Recursion

@@ -90,6 +90,7 @@ fn choose_from(matrix: Matrix, scan: &[u16], pairs: &Pairs, rest: &mut Pairs, ke
 }
 
 // The answer of a matrix: the first pair that is left, or the entries kept.
+#[tactic(auto, using(crate::proofs::Marks::base_there), unfolding(crate::specs::Matrix::fits))]
 fn choose_fit(matrix: Matrix, rows: usize, marks: &[u8], scan: &[u16]) -> Result<Signature, Untold>
     requires { (rows ≤ length marks.now) × (fits matrix.work.now matrix.width rows scan.now ≡ true) }
     ensures { result ≡ choice matrix.entry.work.now matrix.entry.width rows marks.now scan.now }
