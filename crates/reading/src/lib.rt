@@ -54,7 +54,7 @@ pub fn read(s: &[u8]) -> Result<Job, Refusal>
     Ok(job)
 }
 
-// The bytes from the next bit's on, and the place of that bit in the first of them. Clauses see the bits that are left.
+// The bytes from the next bit's on, and that bit's place in the first of them. A clause sees the bits that are left.
 #[derive(Drop)]
 struct Reader<'a> {
     bytes: &'a [u8],
@@ -123,8 +123,9 @@ impl<'a> Reader<'a> {
         })
     }
 
-    // So many gates of a circuit of so many inputs. Three such loops are shorter than one with a trait or a closure for
-    // the entry that is read.
+    // So many gates of a circuit of so many inputs. Each list has its loop: of one loop for all, which takes a closure,
+    // the promise names the closure's parser as a ghost value, and no proof is made where that is picked. The list goes
+    // whole, with a count: nothing is known of an array in a record once a part of it was lent.
     #[tactic(auto, using(crate::proofs::Entries::entries_step, crate::proofs::Entries::entries_end), unfolding(job::specs::Layout::max_inputs))]
     fn gates(&mut self, gates: &mut [GateEntry], count: usize, inputs: usize) -> Result<(), Refusal>
         requires room { count ≤ length gates.old }
