@@ -3,7 +3,7 @@
 --   field_inside   behind a field is a place within the bytes
 --   field_missing  where no field is read, the parser refuses too
 --   from_byte      the string from a place on is that from its bit on, of the bytes from its byte on
---   handed_on      a refusal that a step meets is what it answers
+--   passed_whole   a refusal that an operation met and handed on is what it answers
 use Prim.Native.Nat.{ℕ, ◌+◌, ◌*◌, ◌-◌, ◌/◌, ◌%◌, ◌≤◌, ◌<◌}
 use native.Mathlib.Omega.{arith}
 use mathlib.Core.Path.{◌≡◌, refl, sym, ap, ◌∙◌}
@@ -17,7 +17,7 @@ use Rattle.std.specs.Option.{ok_or}
 use Rattle.std.specs.Prelude.{Option, Some, None, Result, Err}
 use Rattle.std.specs.Result.{IsErrAnd}
 use Rattle.std.proofs.lemmas.Result.{err_from_is_err_and}
-use Rattle.bits.specs.Answer.{number}
+use Rattle.bits.specs.Answer.{Answer, outcome, number}
 use Rattle.bits.specs.Answer.Answer.{refused}
 use Rattle.bits.specs.Bits.{string_of}
 use Rattle.bits.specs.Field.{from, field_at, is_width, max_width}
@@ -53,5 +53,5 @@ from_byte s c =
     ∙ drop-drop (c.bit % 8) (c.bit / 8 * 8) (string_of s)
     ∙ ap (λ (k : ℕ). drop k (string_of s)) e
 
-pub handed_on : {A : Type 0} (r : Result A Refusal) (e : Refusal) → IsErrAnd r (λ y. y ≡ e) → r ≡ Err e
-handed_on r e h = let p = err_from_is_err_and r h in rw (p.1, p.2)
+pub passed_whole : {A : Type 0} (r : Result A Refusal) (e : Refusal) {a : Answer A} → IsErrAnd r (λ y. y ≡ e) → refused (number e) ≡ a → outcome r ≡ a
+passed_whole r e h same = let p = err_from_is_err_and r h in rw (p.1, p.2) same

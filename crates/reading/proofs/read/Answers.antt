@@ -3,7 +3,7 @@ use mathlib.Core.Path.{◌≡◌, sym, ◌∙◌}
 use borrow.Author.Tests.{le-leb}
 use Rattle.job.specs.Layout.{input_count_bits, gate_count_bits, output_count_bits, fault_count_bits, max_inputs, max_gates}
 use Rattle.reading.specs.Reading.{reading, value_read, whole_job, with_counts, with_gates, from_gates, from_output_count, from_outputs, from_fault_count, from_faults, from_end, spare}
-use Rattle.reading.proofs.Steps.{handed_on}
+use Rattle.reading.proofs.Steps.{passed_whole}
 use Rattle.reading.proofs.read.Goals as goal
 use Rattle.reading.proofs.read.Goals.{In_ok-gates}
 
@@ -26,7 +26,7 @@ rest_of c =
 pub returns-in_err-output_count : goal.returns-in_err-output_count
 unfolding from_output_count output_count_bits
 returns-in_err-output_count c =
-    rw (handed_on _ _ c.from_residual-in_err-output_count.ensures.1) (simp (
+    passed_whole _ _ c.from_residual-in_err-output_count.ensures.1 (simp (
       rest_of (goal.at.returns-in_err-output_count c).In_ok-gates,
       sym c.in_err-output_count.ensures.told,
     ))
@@ -34,7 +34,7 @@ returns-in_err-output_count c =
 pub returns-in_err-outputs : goal.returns-in_err-outputs
 unfolding from_output_count output_count_bits from_outputs
 returns-in_err-outputs c =
-    rw (handed_on _ _ c.from_residual-in_err-outputs.ensures.1) (simp (
+    passed_whole _ _ c.from_residual-in_err-outputs.ensures.1 (simp (
       rest_of (goal.at.returns-in_err-outputs c).In_ok-gates,
       sym c.in_ok-output_count.ensures.told,
       sym c.in_err-outputs.ensures,
@@ -53,7 +53,7 @@ returns-then-not-no_loose c =
 pub returns-in_err-fault_count : goal.returns-in_err-fault_count
 unfolding from_output_count output_count_bits from_outputs from_fault_count fault_count_bits
 returns-in_err-fault_count c =
-    rw (handed_on _ _ c.from_residual-in_err-fault_count.ensures.1) (simp (
+    passed_whole _ _ c.from_residual-in_err-fault_count.ensures.1 (simp (
       rest_of (goal.at.returns-in_err-fault_count c).In_ok-gates,
       sym c.in_ok-output_count.ensures.told,
       sym c.in_ok-outputs.ensures,
@@ -64,7 +64,7 @@ returns-in_err-fault_count c =
 pub returns-in_err-faults : goal.returns-in_err-faults
 unfolding from_output_count output_count_bits from_outputs from_fault_count fault_count_bits from_faults
 returns-in_err-faults c =
-    rw (handed_on _ _ c.from_residual-in_err-faults.ensures.1) (simp (
+    passed_whole _ _ c.from_residual-in_err-faults.ensures.1 (simp (
       rest_of (goal.at.returns-in_err-faults c).In_ok-gates,
       sym c.in_ok-output_count.ensures.told,
       sym c.in_ok-outputs.ensures,

@@ -1,15 +1,17 @@
 -- `reading::Reader::field` meets its contract.
 use mathlib.Core.Path.{sym, ◌∙◌}
 use Prim.Native.Nat.{◌/◌}
+use Rattle.std.proofs.lemmas.Result.{err_from_is_err_and}
 use Rattle.std.proofs.lemmas.List.{take_rest}
 use Rattle.bits.proofs.Fields.{field_value, field_lt}
-use Rattle.reading.proofs.Steps.{field_inside, field_missing, from_byte, handed_on}
+use Rattle.reading.proofs.Steps.{field_inside, field_missing, from_byte}
 use Rattle.reading.proofs.Reader.field.Goals as goal
 
 pub returns-in_err-value-clause-told : goal.returns-in_err-value-clause-told
 returns-in_err-value-clause-told c =
     let r = c.self.inside in
-    rw (handed_on _ _ c.from_residual.ensures.1, ← c.self.view_is)
+    let p = err_from_is_err_and c.from_residual.result c.from_residual.ensures.1 in
+    rw (p.1, p.2, ← c.self.view_is)
     (field_missing r.bytes.now r.at c.args.width c.requires c.self.invariant c.read_field.ensures c.in_err-value.ensures.value)
 
 pub slice_bounds-self-count : goal.slice_bounds-self-count
