@@ -37,13 +37,8 @@ field_inside s at w v next wide e =
     let r : w ≤ length s * 8 - at.bit = rw length_from at f.room in
     omega arith
 
-pub field_missing : (s : List ℕ) (at : Cursor) (w : ℕ) {o : Option (ℕ × Cursor)} {e : Refusal} → is_width w ≡ true → at.bit < 8
-    → o ≡ field_at s at w → ◌≡◌ {A = Result (ℕ × Cursor) Refusal} (Err e) (ok_or o BytesEnd) → refused (number e) ≡ field w (from s at)
-field_missing s at w {o} {e} wide near read missing = go o refl
-  where
-    go : (x : Option (ℕ × Cursor)) → o ≡ x → refused (number e) ≡ field w (from s at)
-    go None p = let cause : e ≡ BytesEnd = cc in rw (cause, field_cut s at w wide (omega arith) (sym read ∙ p))
-    go (Some x) p = absurd (cc)
+pub field_missing : (s : List ℕ) (at : Cursor) (w : ℕ) → is_width w ≡ true → at.bit < 8 → field_at s at w ≡ None → field w (from s at) ≡ refused 1
+field_missing s at w wide near missing = field_cut s at w wide (omega arith) missing
 
 pub from_byte : (s : List ℕ) (c : Cursor) → from (drop (c.bit / 8) s) (record { bit = c.bit % 8 }) ≡ from s c
 unfolding from

@@ -90,7 +90,9 @@ impl<'a> Reader<'a> {
         ensures told { told result self.new ≡ field width self.old }
         ensures fits { IfOk result (λ v. v < 2 ^ width) }
     {
-        let (value, next) = bits::read_field(self.bytes, self.at, width).ok_or(Refusal::BytesEnd)?;
+        let Some((value, next)) = bits::read_field(self.bytes, self.at, width) else {
+            return Err(Refusal::BytesEnd);
+        };
         self.bytes = &self.bytes[next.bit / 8..];
         self.at = Cursor { bit: next.bit % 8 };
         Ok(value)
