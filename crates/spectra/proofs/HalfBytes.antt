@@ -3,13 +3,10 @@
 --   subset_plus      the subset sums of a sum of two tables are the sums of theirs
 --   byte_halves      those of a byte are those of its upper half and of its lower half, added
 --   byte_worked      the spectrum of a byte, sum by sum
---   half_fits        a byte of which one half is 0 fits a u8
---   leaf_within      the byte of a leaf lies within the table
---   leaf_places      the rows of its halves lie within the sums
 --   leaf_fits        their sums fit
 --   leaf_made        the two rows, added, are the spectrum of the leaf
 use Prim.Native.Nat.{ℕ, ◌+◌, ◌-◌, ◌*◌, ◌/◌, ◌%◌, ◌^◌, ◌≤◌, ◌<◌}
-use native.Mathlib.Nat.{zero-add, mod-eq_of_lt, mul-one, mul-le-mul_right}
+use native.Mathlib.Nat.{zero-add, mod-eq_of_lt, mul-one}
 use native.Mathlib.Omega.{arith}
 use mathlib.Core.Path.{◌≡◌, refl, sym, ap, ap₂, subst, ◌∙◌}
 use mathlib.Core.Bool.{Bool, true, false, cond}
@@ -17,7 +14,7 @@ use mathlib.Core.List.{List, [], ◌∷◌}
 use lib.Bits.{bit_xor, xor_zero_l}
 use lib.Dec.{lit≤}
 use lib.ListN.{length, get_or}
-use mir.Syntax.{w8, w16}
+use mir.Syntax.{w16}
 use mir.Val.{Fits}
 use Rattle.bits.specs.Packed.{entry, tabulate}
 use Rattle.bits.proofs.Below.{equal_below}
@@ -115,13 +112,6 @@ lower_byte i h =
     let w : 16 - 15 * ((16 + i) / 16) ≡ 1 = omega arith in
     ap₂ ◌*◌ m w ∙ mul-one i
 
-pub half_fits : (i : ℕ) → i < 32 → Fits w8 (half_byte i)
-half_fits i h =
-    let m : i % 16 ≤ 15 = omega arith in
-    let w : 16 - 15 * (i / 16) ≤ 16 = omega arith in
-    let l : half_byte i ≤ 15 * (16 - 15 * (i / 16)) = mul-le-mul_right (16 - 15 * (i / 16)) m in
-    record { fits = omega arith }
-
 module _ (k : ℕ) where
   length_sums : length (half_sums k) ≡ 32
   unfolding half_sums
@@ -158,9 +148,6 @@ byte_there s at k hk z =
 
 -- the rows of a byte's halves
 module _ (k byte : ℕ) {sums : List (List ℕ)} (hk : k < 8) (h : byte < 256) (e : sums ≡ half_sums k) where
-  sums_size : length sums ≡ 32
-  sums_size = ap length e ∙ length_sums k
-
   upper_row : {x : List ℕ} → x ≡ get_or sums (byte / 16) [] → x ≡ byte_sums k (byte / 16 * 16)
   upper_row p =
       let l : byte / 16 < 16 = omega arith in
@@ -186,17 +173,9 @@ leaf_sums : {places : ℕ} {sums : List (List ℕ)} {len at k : ℕ} → Asks pl
 leaf_sums asks = asks.summed (lit≤ tt) ∙ ap half_sums (mod-eq_of_lt asks.polarity)
 
 module _ {places : ℕ} {sums : List (List ℕ)} (s : List ℕ) {at : ℕ} (l : LeafAsks places sums (length s) at) where
-  pub leaf_within : at / 8 < length s
-  leaf_within = omega (arith, l.asks.within)
-
   module _ (h : get_or s (at / 8) 0 < 256) where
     abbrev byte : ℕ
     byte = get_or s (at / 8) 0
-
-    pub leaf_places : (byte / 16 < length sums) × (16 + byte % 16 < length sums)
-    leaf_places =
-        let e : length sums ≡ 32 = sums_size l.polarity byte l.asks.polarity h (leaf_sums l.asks) in
-        (omega arith, omega arith)
 
     module _ {x y : List ℕ} (p : x ≡ get_or sums (byte / 16) []) (q : y ≡ get_or sums (16 + byte % 16) []) where
       pub leaf_fits : (j : ℕ) → j < 8 → Fits w16 (sum_at x y j)

@@ -3,18 +3,14 @@
 --   parity_bit       what equals a parity is 0 or 1, also past the last number
 --   Digits           what a loop has done after m turns: a byte of the first m of eight digits
 --   digits_none      no digit yet
---   digits_twice     the byte doubled fits a u8
 --   digits_fits      and so does the byte with the next digit
 --   digits_more      one digit more
---   digits_all       all eight
 --   Packing          what a loop has done after i turns: the first i bytes are written
 --   packing_none     no byte yet
---   packing_first    the eight entries of the next byte have indices that fit a usize
 --   packing_more     one byte more
 --   packing_all      all bytes: the packed parities
 use Prim.Native.Nat.{ℕ, ◌+◌, ◌*◌, ◌^◌, ◌≤◌, ◌<◌}
 use native.Mathlib.Omega.{arith}
-use native.Mathlib.Nat.{le_antisymm}
 use native.Mathlib.Numerals.{add-one}
 use mathlib.Core.Path.{◌≡◌, refl, sym, ap, ◌∙◌}
 use mathlib.Core.List.{List, [], ◌∷◌, ◌++◌}
@@ -58,9 +54,6 @@ module _ {digit : ℕ → ℕ} where
     half_full : m < 8 → byte < 2 ^ 7
     half_full h = let p : 2 ^ m ≤ 2 ^ 7 = pow_mono {j = 7} (omega arith) in omega (arith, d.small)
 
-    pub digits_twice : m < 8 → Fits w8 (byte * 2)
-    digits_twice h = omega (arith, half_full h)
-
     module _ {b : ℕ} (bit : b < 2) where
       pub digits_fits : m < 8 → Fits w8 (byte * 2 + b)
       digits_fits h = omega (arith, half_full h)
@@ -74,9 +67,6 @@ module _ {digit : ℕ → ℕ} where
             so_far = rw (tabulate_more, value_snoc, ← d.so_far, e);
           }
 
-    pub digits_all : 8 ≤ m → byte ≡ value_from 0 (tabulate 8 digit)
-    digits_all h = d.so_far ∙ ap (λ (n : ℕ). value_from 0 (tabulate n digit)) (le_antisymm d.within h)
-
 -- ---- a table from its bytes
 
 abbrev pub Packing : ℕ → List ℕ → List ℕ → List ℕ → ℕ → Type 0
@@ -87,9 +77,6 @@ module _ {k : ℕ} {numbers start : List ℕ} (p : Packs k numbers start) where
   packing_none = written_none (omega arith)
 
   module _ {table : List ℕ} {i : ℕ} (w : Packing k numbers start table i) where
-    pub packing_first : i < length start → 8 * i + 8 < 2 ^ 64
-    packing_first h = omega (arith, p.room, p.few)
-
     pub packing_more : (v : ℕ) → i < length start → v ≡ value_from 0 (tabulate 8 (λ t. at (tabulate (length numbers) (parity_at numbers k)) (8 * i + t)))
         → Packing k numbers start (set table i v) (i + 1)
     packing_more v h e = filled_more w v h (e ∙ sym (packed_at (length numbers) (parity_at numbers k) i (omega (arith, p.room))))

@@ -8,7 +8,6 @@
 --   same_pointwise         `==` compares number by number
 --   same_lengths           lists that are not of one length are not the same
 --   few_entries            the entries of a table fit a usize, with room for spare bits
---   packs_numbers          a lent table has room for the parities of the numbers
 --   packs_sums             the table has room for the parities of the sums
 --   recovers               the parities transformed, and packed again, are the recovered table
 --   compares               the numbers are compared with the recovered table's spectrum
@@ -115,15 +114,6 @@ abbrev Transformed : Kind → ℕ → ℕ → List ℕ → List ℕ → List ℕ
 Transformed kind n k table sums sums₁ = sums₁ ≡ rows_filled kind n k table 1 sums
 
 module _ {n k : ℕ} {numbers table sums : List ℕ} (l : Lent n k numbers table sums) where
-  pub packs_numbers : Packs 0 numbers table
-  packs_numbers =
-      let p = few_entries n (inputs_most l.inputs) in
-      record {
-        closed = λ m h. rw xor_zero_r h;
-        few = omega (arith, l.count);
-        room = l.bytes ∙ ap (λ (x : ℕ). (x + 7) / 8) (sym l.count);
-      }
-
   -- the packed parities have the bytes of a table
   length_parities : length (packed (length numbers) (parity_at numbers 0)) ≡ table_bytes n
   length_parities = length_packed (length numbers) (parity_at numbers 0) ∙ ap (λ (x : ℕ). (x + 7) / 8) l.count

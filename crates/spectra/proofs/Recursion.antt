@@ -7,17 +7,13 @@
 --   top_le                the top bit of the polarity is 0 or 1
 --   other_le              and so is the other bit
 --   down                  the number of inputs falls
---   half_fits             half x of the table begins at a number that fits a usize
---   place_fits            and so does its place in the bytes
 --   inner_asked           what the transform asks of a half
 --   front_inside          the first half lies within the memory
 --   back_size             the size of the second half
 --   combine_asked         what combining asks: two halves of numbers that are at most 2 ^ 14
 --   transformed           the combined halves are the spectrum
 --   transformed_one       the spectrum of one entry
---   one_asked             what reading one entry asks
 --   row_asked             what the transform asks of a whole table
---   asked_at, transformed_at   what a function of three or four inputs asks and makes
 use Prim.Native.Nat.{ℕ, suc, ◌+◌, ◌-◌, ◌*◌, ◌/◌, ◌%◌, ◌^◌, ◌≤◌, ◌<◌, zero-le}
 use native.Mathlib.Nat.{div-lt_iff_lt-mul, div-add-mod', mod-lt, mul-le-mul_right, mul_assoc, add_assoc, add-zero, one-mul, le_trans}
 use native.Mathlib.Omega.{arith}
@@ -27,8 +23,6 @@ use mathlib.Core.Logic.{⊎_elim}
 use lib.ListN.{length, get_or, take, drop, set, length-append, get_or-append, get_or-eq_default}
 use lib.Seq.{get_or-append-add, take_at, drop_at}
 use lib.Pow.{pow_pos, pow_mono, pow-add, mod-mod-pow}
-use mir.Syntax.{w64}
-use mir.Val.{Fits}
 use Rattle.bits.specs.Packed.{entry}
 use Rattle.bits.proofs.Below.{lt_or_ge}
 use Rattle.bits.proofs.Fields.{shift_exact}
@@ -117,12 +111,6 @@ module _ {out : List ℕ} {sums : List (List ℕ)} {len at n k h : ℕ} (p : Hal
   other_le = omega arith
 
   module _ (x : ℕ) (l : x ≤ 1) where
-    pub half_fits : Fits w64 (x * h)
-    half_fits = let b = times_le x h l in record { fits = omega (arith, p.half_few) }
-
-    pub place_fits : Fits w64 (at + x * h)
-    place_fits = let b = times_le x h l in record { fits = omega (arith, p.fits) }
-
     pub inner_asked : {places : ℕ} → places ≡ h → Asks places sums len (at + x * h) (n - 1) (k % h)
     inner_asked e =
         let b = times_le x h l in
@@ -236,12 +224,6 @@ transformed_one s out at n k x z size below e =
     ∙ sym (spectrum_one Mrm (entries_from s at) (entry_lt s (at + 0)))
     ∙ ap₂ (λ (m y : ℕ). spectrum Mrm m y (entries_from s at)) (sym z) (sym none)
 
-module _ (out : List ℕ) (sums : List (List ℕ)) (len at n k : ℕ) (asks : Asks (length out) sums len at n k) where
-  pub one_asked : n ≡ 0 → (at < 8 * len) × (0 < length out)
-  one_asked z =
-      let p : 2 ^ n ≡ 1 = ap (λ (m : ℕ). 2 ^ m) z in
-      (omega (arith, asks.within), omega (arith, asks.room))
-
 -- the place of a whole table
 pub row_asked : {places len n k : ℕ} {sums : List (List ℕ)} → n ≤ max_inputs → places ≡ 2 ^ n → k < 2 ^ n → len ≡ table_bytes n → Summed n k sums
     → Asks places sums len 0 n k
@@ -249,11 +231,3 @@ row_asked {places} {len} {n} few room polarity bytes summed =
     let l : n ≤ 15 = le_trans few most_inputs in
     let most : 2 ^ n ≤ 2 ^ 15 = pow_mono l in
     record { few = l; room = room; polarity = polarity; within = omega arith; fits = omega arith; whole = λ _. refl; summed = summed }
-
--- a leaf, or four inputs, in the place of n
-pub asked_at : {places : ℕ} {sums : List (List ℕ)} {len at n k : ℕ} (m : ℕ) → n ≡ m → Asks places sums len at n k → Asks places sums len at m k
-asked_at {places} {sums} {len} {at} {n} {k} m e asks = subst (λ (x : ℕ). Asks places sums len at x k) e asks
-
-pub transformed_at : (s : List ℕ) {after : List ℕ} (at k : ℕ) {n m : ℕ} → n ≡ m → after ≡ spectrum Mrm m k (entries_from s at)
-    → after ≡ spectrum Mrm n k (entries_from s at)
-transformed_at s at k e p = p ∙ ap (λ (x : ℕ). spectrum Mrm x k (entries_from s at)) (sym e)

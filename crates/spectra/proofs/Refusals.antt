@@ -1,7 +1,7 @@
 -- What the operations on tables answer and leave, case by case (specs/Operations.antt, specs/Rows.antt).
 --
 --   tables_unfit, tables_wrong, tables_right   the checks of tables: 2, 12, none
---   filled_unchecked, filled_polarity, filled_memory, filled_done   the spectra of tables: 2 or 12, 13, 10, success
+--   filled_polarity, filled_memory, filled_done   the spectra of tables: 2 or 12, 13, 10, success
 --   rows_room               the places of tables that pass the checks are a number
 --   spectrum_left           the spectrum of a table is what is left of one row
 --   one_row                 of one table memory of its size holds it
@@ -31,7 +31,7 @@ use Rattle.spectra.specs.Operations.{zero_from, table_ok, table_row, rows_in, ro
 use Rattle.spectra.specs.Rows.{rows_filled, row_spectra, rows_of, one_table}
 use Rattle.spectra.specs.Spectrum.{spectrum}
 use Rattle.spectra.specs.declared.Kind.{Kind}
-use Rattle.spectra.proofs.Families.{Fits, unchecked, checked, rows_family}
+use Rattle.spectra.proofs.Families.{Fits, checked, rows_family}
 use Rattle.spectra.proofs.Rows.{length_row_spectra, row_whole}
 use Rattle.spectra.proofs.Sizes.{one_output}
 use Rattle.spectra.proofs.TableTests.{rows_few}
@@ -56,10 +56,6 @@ module _ (counts : Counts) (s : List ℕ) where
 module _ (counts : Counts) (s : List ℕ) (kind : Kind) (k : ℕ) (out : List ℕ) where
   abbrev F : Family
   F = table_family counts s
-
-  pub filled_unchecked : {i : ℕ} → tables_checked counts s ≡ refused i → record { answer = refused i; memory = out } ≡ leaves (rows_of counts s kind k (length out)) out
-  filled_unchecked {i} e =
-      kept (rows_of counts s kind k (length out)) i out (unchecked counts s (λ F. filled_from F kind k (length out)) e)
 
   module _ (ok : tables_checked counts s ≡ gives tt) {size : ℕ} (sized : size ≡ 2 ^ counts.inputs) where
     onto : rows_of counts s kind k (length out) ≡ filled_from F kind k (length out)

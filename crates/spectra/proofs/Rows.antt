@@ -9,15 +9,12 @@
 --   filling_start        nothing is put yet
 --   filling_length       the memory is as long as before
 --   filling_place        there is room for one spectrum more, in the size that the code has
---   filling_inside       the same of the memory as it is now
---   filling_ends         a slice that is lent begins before its end
 --   filling_slice        the slice of the memory that is lent has 2 ^ n places
 --   row_bytes_lem        the row that is lent has the bytes of a table
 --   filling_next         one spectrum more is put
 --   filling_lent         the same, as the memory and the row are lent
---   filling_end          all are put
 use Prim.Native.Nat.{ℕ, suc, ◌+◌, ◌-◌, ◌*◌, ◌^◌, ◌≤◌, ◌<◌}
-use native.Mathlib.Nat.{le_antisymm, le_of_eq, zero-mul, zero-add, suc-mul, mul-le-mul_right, le_trans}
+use native.Mathlib.Nat.{le_of_eq, zero-mul, zero-add, suc-mul, mul-le-mul_right, le_trans}
 use native.Mathlib.Numerals.{add-one}
 use native.Mathlib.Omega.{arith}
 use mathlib.Core.Path.{◌≡◌, sym, ap, ap₂, subst, ◌∙◌}
@@ -87,12 +84,6 @@ module _ {kind : Kind} {n k : ℕ} {s start : List ℕ} {rows size bytes : ℕ} 
   pub filling_place : r < rows → r * size + size ≤ length start
   filling_place h = row_place f.sized h f.room
 
-  pub filling_inside : r < rows → r * size + size ≤ length work
-  filling_inside h = subst (λ (x : ℕ). r * size + size ≤ x) (sym filling_length) (filling_place h)
-
-  pub filling_ends : (r * size ≤ r * size + size) × (r * bytes ≤ r * bytes + bytes)
-  filling_ends = (omega arith, omega arith)
-
   more : (new : List ℕ) → length new ≡ 2 ^ n
       → take (r * 2 ^ n) work ++ (new ++ drop (r * 2 ^ n + 2 ^ n) work) ≡ (row_spectra kind n k s r ++ new) ++ drop (suc r * 2 ^ n) start
   more new e =
@@ -136,6 +127,3 @@ module _ {kind : Kind} {n k : ℕ} {s start : List ℕ} {rows size bytes : ℕ} 
       (ap (λ (x : ℕ). take (r * size) work ++ (new ++ drop x (drop (r * size) work))) (cut (r * size) size)
       ∙ ap (λ (x : List ℕ). take (r * size) work ++ (new ++ x)) (drop-drop size (r * size) work)
       ∙ ap (λ (x : ℕ). take (r * x) work ++ (new ++ drop (r * x + x) work)) f.sized)
-
-  pub filling_end : rows ≤ r → work ≡ row_spectra kind n k s rows ++ drop (rows * 2 ^ n) start
-  filling_end h = f.done ∙ ap (λ (x : ℕ). row_spectra kind n k s x ++ drop (x * 2 ^ n) start) (le_antisymm f.within h)

@@ -1,16 +1,9 @@
 -- `spectra::parity` meets its contract.
-use native.Mathlib.Omega.{arith}
 use mathlib.Core.Path.{sym}
 use lib.ListN.{length}
 use Rattle.bits.proofs.Packed.{tabulate_at, tabulate_past}
 use Rattle.spectra.specs.Parities.{parity_at}
 use Rattle.spectra.proofs.parity.Goals as goal
-
-pub offset_bounds-numbers-m : goal.offset_bounds-numbers-m
-offset_bounds-numbers-m c = omega (arith, c.requires c.args.m c.if-m-numbers.true)
-
-pub bounds-numbers-m : goal.bounds-numbers-m
-bounds-numbers-m c = omega (arith, c.requires c.args.m c.if-m-numbers.true)
 
 pub returns-then-m-numbers : goal.returns-then-m-numbers
 returns-then-m-numbers c = let a = c.args in sym (tabulate_at (length a.numbers.now) (parity_at a.numbers.now a.k) a.m c.if-m-numbers.true)

@@ -1,7 +1,7 @@
 -- `transform_rows` meets its contract: the spectra of the rows passed stand at the start of the memory.
 use Rattle.bits.proofs.TableSizes.{table_size_exact, table_bytes_exact}
 use Rattle.job.proofs.Sizes.{inputs_few}
-use Rattle.spectra.proofs.Rows.{filling_start, filling_slice, filling_lent, filling_end, row_bytes_lem}
+use Rattle.spectra.proofs.Rows.{filling_start, filling_slice, filling_lent, row_bytes_lem}
 use Rattle.spectra.proofs.Recursion.{row_asked}
 use Rattle.spectra.proofs.transform.transform_rows.Goals as goal
 
@@ -14,6 +14,3 @@ transform_row-requires c = row_asked c.requires.0 (filling_slice c.loop-r.invari
 pub loop-r-preserved : goal.loop-r-preserved
 loop-r-preserved c =
     filling_lent c.loop-r.invariant c.transform_row.new.out c.loop-r-test.true c.requires.1 c.transform_row.ensures
-
-pub returns : goal.returns
-returns c = filling_end c.loop-r.invariant c.loop-r-test.false
