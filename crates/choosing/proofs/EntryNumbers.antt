@@ -5,6 +5,7 @@
 --   length_outputs  as many as there are outputs
 --   length_codes    those of indices are as many as indices times outputs
 --   codes_at, codes_block   and stand index after index
+--   codes_put, part_few   put in a part of an array, which has no more places
 --   size_shifted, size_some   the number of coefficients of an output fits two bytes, and is not 0
 --   decoded_map     numbers taken apart one by one
 --   codes_within    the numbers of entries within a circuit's
@@ -17,10 +18,12 @@ use native.Mathlib.Nat.{zero-mul, one-mul, suc-mul, mul_comm, mul-le-mul, mod-eq
 use native.Mathlib.Omega.{arith}
 use mathlib.Core.Bool.{true}
 use mathlib.Core.Path.{◌≡◌, refl, sym, ap, ap₂, subst, ◌∙◌}
-use mathlib.Core.List.{List, [], ◌∷◌, ◌++◌, map, map-append, Memᴰ}
+use mathlib.Core.List.{List, [], ◌∷◌, ◌++◌, map, map-append, append_assoc, Memᴰ}
+use Rattle.std.proofs.lemmas.List.{drop-drop}
+use borrow.Rule.Slice.PartMut.{mid_of, put_mid}
 use lib.Count.{ones-le}
 use lib.Pow.{pow_mono, pow_pos}
-use lib.ListN.{length, get_or, take, drop, length-map, length-append, get_or-map}
+use lib.ListN.{length, get_or, take, drop, length-map, length-append, length-take, length-drop, get_or-map}
 use lib.Seq.{take_at}
 use Rattle.bits.specs.Blocks.{block}
 use Rattle.bits.specs.Bounds.{all_below}
@@ -86,6 +89,23 @@ codes_block size outputs (x ∷ l) =
     ∙ ap (λ (m : List ℕ). codes_of size (outputs_at x outputs) ++ m)
     (block_ext (length l) (λ i. f (1 + i)) (codes_at size outputs l) (λ i _. let e : 1 + i ≡ suc i = omega arith in ap f e) ∙ codes_block size outputs l)
     ∙ sym (map-append (code_of size) (outputs_at x outputs) (entries_of outputs l))
+
+-- the numbers of an index's entries, put in a part of an array
+pub codes_put : (at outputs : ℕ) (l : List ℕ) (f : ℕ → List ℕ) {new : List ℕ} → at + outputs ≤ length l → length (f outputs) ≡ outputs
+    → new ≡ f (length (mid_of at (at + outputs - at) l)) → put_mid at (at + outputs - at) l new ≡ splice l at (f outputs)
+codes_put at outputs l f {new} room long e =
+    let P : ℕ → Type 0 = λ x. new ≡ f (length (mid_of at x l)) → put_mid at x l new ≡ splice l at (f outputs) in
+    let same : outputs ≡ at + outputs - at = omega arith in
+    let part : length (mid_of at outputs l) ≡ outputs = simp (length-take, length-drop) (omega arith) in
+    subst P same
+    (λ q.
+    ap (λ (m : List ℕ). take at l ++ (m ++ drop outputs (drop at l))) (q ∙ ap f part)
+    ∙ sym (append_assoc (take at l) (f outputs) (drop outputs (drop at l)))
+    ∙ ap (λ (m : List ℕ). take at l ++ f outputs ++ m) (drop-drop outputs at l ∙ ap (λ (n : ℕ). drop (at + n) l) (sym long)))
+    e
+
+pub part_few : (at outputs : ℕ) (l : List ℕ) → length (mid_of at (at + outputs - at) l) ≤ outputs
+part_few at outputs l = omega (arith, length-take (at + outputs - at) (drop at l))
 
 -- ---- numbers taken apart
 

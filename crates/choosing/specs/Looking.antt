@@ -17,7 +17,7 @@
 --   chosen_by    what the method's answer gives
 --   scan_codes   the entries in the order of looking, each as one number
 --   chosen_in    the answer over any coefficients of the counted circuits, by an entry's number
-use Rattle.std.specs.Prelude.{ℕ, zero, suc, ◌+◌, ◌*◌, ◌/◌, ◌%◌, ◌^◌, ◌≤◌, ◌<◌, ◌≡◌, Bool, ◌&&◌, List, [], ◌∷◌, map, eqb, length, take, get_or, replicate, Result, Ok, Err}
+use Rattle.std.specs.Prelude.{ℕ, zero, suc, ◌+◌, ◌*◌, ◌/◌, ◌%◌, ◌^◌, ◌≤◌, ◌<◌, ◌≡◌, Bool, ◌&&◌, List, ◌∷◌, map, eqb, length, take, get_or, replicate, Result, Ok, Err}
 use Rattle.std.specs.Int.Count.{ones}
 use Rattle.bits.specs.Passing.{passing}
 use Rattle.job.specs.Layout.{max_inputs, max_outputs, max_faults}

@@ -150,13 +150,13 @@ fn scan_order(n: usize) -> [u16; MAX_PLACES]
     put_indices(first_places(n), bits::table_size(n))
 }
 
-// Puts the entries of an index from a place on: one for each output.
-fn put_outputs(codes: &mut [u16], at: usize, index: usize, size: usize, outputs: usize)
-    requires { (index < size) × (size ≤ max_places) × (outputs ≤ max_outputs) × (at + outputs ≤ length codes.old) }
-    ensures { codes.new ≡ splice codes.old at (codes_of size (outputs_at index outputs)) }
+// The entries of an index, one for each output.
+fn put_outputs(codes: &mut [u16], index: usize, size: usize)
+    requires { (index < size) × (size ≤ max_places) × (length codes.old ≤ max_outputs) }
+    ensures { codes.new ≡ codes_of size (outputs_at index (length codes.old)) }
 {
-    for o in 0..outputs {
-        codes[at + o] = (o * size + index) as u16;
+    for (o, code) in codes.iter_mut().enumerate() {
+        *code = (o * size + index) as u16;
     }
 }
 
@@ -166,7 +166,8 @@ fn put_entries(codes: &mut [u16], indices: &[u16], size: usize, outputs: usize)
     ensures { codes.new ≡ splice codes.old 0 (codes_of size (entries_of outputs indices.now)) }
 {
     for (i, index) in indices.iter().enumerate() {
-        put_outputs(codes, i * outputs, *index as usize, size, outputs);
+        let at = i * outputs;
+        put_outputs(&mut codes[at..at + outputs], *index as usize, size);
     }
 }
 

@@ -2,24 +2,22 @@
 --
 --   passing_same       the numbers that pass depend on the test below the bound alone
 --   sought_refused     what the preparation refuses
---   sought_rows        past it, the rows of the circuits lie within the work
+--   sought_indexed     past it, there is a reading for each index
+--   sought_rows        and the rows of the circuits lie within the work
 --   numbers_readings   the numbers of a row of the filled work are the circuit's readings
 --   sought_done        success
 use Prim.Native.Nat.{ℕ, zero, suc, ◌+◌, ◌*◌, ◌^◌, ◌≤◌, ◌<◌}
 use native.Mathlib.Nat.{mul_assoc}
 use native.Mathlib.Omega.{arith}
 use mathlib.Core.Path.{◌≡◌, refl, sym, ap, ap₂, subst, ◌∙◌}
-use mathlib.Core.Bool.{Bool, cond}
+use mathlib.Core.Bool.{Bool, true, ◌&&◌, cond}
 use mathlib.Core.List.{List, [], ◌∷◌, ◌++◌, Memᴰ}
 use borrow.Author.Tests.{eqb-true}
 use lib.Dec.{eqb}
 use lib.ListN.{length, get_or, drop, length-append}
-use Rattle.bits.specs.Answer.{Answer, Fills, Leaves, leaves, number, outcome, onward}
+use Rattle.bits.specs.Answer.{Answer, Fills, Leaves, leaves, onward}
 use Rattle.bits.specs.Answer.Answer.{gives, refused}
 use Rattle.bits.specs.Passing.{passing}
-use Rattle.bits.specs.declared.Refusal.{Refusal}
-use Rattle.bits.specs.declared.Outcome.{Outcome}
-use Rattle.bits.specs.declared.Outcome.TheVariants.{Refused}
 use Rattle.bits.proofs.Answers.{never_gives, refused_same, onward_onward}
 use Rattle.bits.proofs.Tests.{and_l, and_r}
 use Rattle.tables.specs.Family.{Family}
@@ -73,11 +71,9 @@ module _ (counts : Counts) (s : List ℕ) (kind : Kind) (k : ℕ) (indices outpu
       ap₂ (λ (x : ℕ) (m : List ℕ). record { answer = refused x; memory = m })
       (refused_same {A = Unit {0}} (ap (λ (x : Leaves (Unit {0})). x.answer) p)) (ap (λ (x : Leaves (Unit {0})). x.memory) p)
 
-  pub sought_refused : {after : List ℕ} (r : Outcome) (cause : Refusal) → record { answer = outcome r; memory = after } ≡ leaves prepared work
-      → r ≡ Refused cause → record { answer = refused (number cause); memory = after } ≡ leaves sought work
-  sought_refused {after} r cause p e =
-      refusing prepared after (number cause) (ap (λ (x : Outcome). record { answer = outcome x; memory = after }) (sym e) ∙ p)
-      ∙ ap (λ (x : Answer (Fills Location)). leaves x work) after_prepared
+  pub sought_refused : {after : List ℕ} (i : ℕ) → record { answer = refused i; memory = after } ≡ leaves prepared work
+      → record { answer = refused i; memory = after } ≡ leaves sought work
+  sought_refused {after} i p = refusing prepared after i p ∙ ap (λ (x : Answer (Fills Location)). leaves x work) after_prepared
 
   module _ {after : List ℕ} (w : Prepared counts s kind k indices outputs paired work after) where
     room : (counts.faults + 1) * (counts.outputs * 2 ^ counts.inputs) ≤ length after
@@ -87,22 +83,28 @@ module _ (counts : Counts) (s : List ℕ) (kind : Kind) (k : ℕ) (indices outpu
         subst (λ (x : ℕ). x ≤ length after) (length_family_spectra kind k F ∙ mul_assoc (counts.faults + 1) counts.outputs (2 ^ counts.inputs))
         (omega (arith, long))
 
-    pub sought_rows : RowsIn counts indices outputs (length after) × (length indices ≡ length readings)
+    abbrev first : Bool
+    first = eqb (length indices) (length readings)
+
+    abbrev second : Bool
+    second = eqb (length outputs) (length readings)
+
+    both : first && second ≡ true
+    both = sym lengths ∙ w.pairs
+
+    pub sought_indexed : length indices ≡ length readings
+    sought_indexed = eqb-true (length indices) (length readings) (and_l first second both)
+
+    pub sought_rows : RowsIn counts indices outputs (length after)
     sought_rows =
-        let first = eqb (length indices) (length readings) in
-        let second = eqb (length outputs) (length readings) in
-        let both = sym lengths ∙ w.pairs in
-        let indexed = eqb-true (length indices) (length readings) (and_l first second both) in (
-          record {
-            inputs_few = w.fits.few;
-            faults_few = w.fits.faults_few;
-            enough = room;
-            paired = indexed ∙ sym (eqb-true (length outputs) (length readings) (and_r first second both));
-            indices_below = w.indices_below;
-            outputs_below = w.outputs_below;
-          },
-          indexed,
-        )
+        record {
+          inputs_few = w.fits.few;
+          faults_few = w.fits.faults_few;
+          enough = room;
+          paired = sought_indexed ∙ sym (eqb-true (length outputs) (length readings) (and_r first second both));
+          indices_below = w.indices_below;
+          outputs_below = w.outputs_below;
+        }
 
     -- a number of the work is a coefficient
     number_at : (c : ℕ) → c < counts.faults + 1 → (e : Entry) → Memᴰ e list
@@ -118,13 +120,13 @@ module _ (counts : Counts) (s : List ℕ) (kind : Kind) (k : ℕ) (indices outpu
         numbers_same list (λ e. get_or after (c * (counts.outputs * 2 ^ counts.inputs) + code_of (2 ^ counts.inputs) e) 0) (coef_of kind k F c)
         (number_at c h)
 
-    pub sought_done : (t : Answer Location) → t ≡ gives (location F.part (passing (work_agrees after counts list readings) (counts.faults + 1)))
-        → record { answer = t; memory = after } ≡ leaves sought work
+    pub sought_done : (l : Location) → l ≡ location F.part (passing (work_agrees after counts list readings) (counts.faults + 1))
+        → record { answer = gives l; memory = after } ≡ leaves sought work
     unfolding found
-    sought_done t h =
-        ap₂ (λ (x : Answer Location) (m : List ℕ). record { answer = x; memory = m })
+    sought_done l h =
+        ap₂ (λ (x : Location) (m : List ℕ). record { answer = gives x; memory = m })
         (h
-        ∙ ap (λ (l : List ℕ). gives (location F.part l))
+        ∙ ap (location F.part)
         (passing_same (work_agrees after counts list readings) (λ c. same_numbers (readings_of kind k F list c) readings) (counts.faults + 1)
         (λ c l. ap (λ (x : List ℕ). same_numbers x readings) (numbers_readings c l))))
         w.stands

@@ -11,6 +11,7 @@ use mathlib.Core.Bool.{true}
 use mathlib.Core.Logic.{⊎_elim}
 use mathlib.Core.List.Memᴰ
 use mathlib.Core.List.{List, [], ◌∷◌, map, Memᴰ}
+use Rattle.std.proofs.lemmas.List.{get_or-map}
 use borrow.Author.Tests.{ltb-true}
 use lib.Dec.{ltb}
 use lib.ListN.{length, get_or, length-map}
@@ -21,16 +22,11 @@ use Rattle.spectra.specs.Listed.{Entry, entries_at}
 use Rattle.spectra.proofs.Codes.{length_entries, entries_get}
 use Rattle.locating.specs.Scanning.{numbers_at}
 
-map_at : {A : Type 0} (f : A → ℕ) (l : List A) (i : ℕ) (d : A) → i < length l → get_or (map f l) i 0 ≡ f (get_or l i d)
-map_at f [] i d h = absurd (not-suc-le-zero h)
-map_at f (x ∷ l) zero d h = refl
-map_at f (x ∷ l) (suc i) d h = map_at f l i d (le_of_suc-le-suc h)
-
 module _ (work : List ℕ) (start size : ℕ) (indices outputs : List ℕ) (paired : length indices ≡ length outputs) where
   pub numbers_at_lem : (i : ℕ) → i < length indices
       → get_or (numbers_at work start size (entries_at indices outputs)) i 0 ≡ get_or work (start + (get_or outputs i 0 * size + get_or indices i 0)) 0
   numbers_at_lem i h =
-      map_at (λ e. get_or work (start + code_of size e) 0) (entries_at indices outputs) i (record { index = 0; output = 0 })
+      get_or-map (λ e. get_or work (start + code_of size e) 0) (entries_at indices outputs) i (record { index = 0; output = 0 }) 0
       (subst (λ (k : ℕ). i < k) (sym (length_entries indices outputs paired)) h)
       ∙ ap (λ (e : Entry). get_or work (start + code_of size e) 0) (entries_get indices outputs i h paired (record { index = 0; output = 0 }))
 

@@ -13,11 +13,9 @@ use mathlib.Core.List.{List, ◌++◌}
 use borrow.Author.Tests.{lt-ltb, le-ltb, eq-eqb, ne_eqb}
 use lib.Dec.{leb, eqb}
 use lib.ListN.{length, drop}
-use Rattle.bits.specs.Answer.{Answer, Fills, Leaves, leaves, outcome}
+use Rattle.bits.specs.Answer.{Answer, Fills, Leaves, leaves}
 use Rattle.bits.specs.Answer.Answer.{gives, refused}
 use Rattle.bits.specs.Bounds.{all_below}
-use Rattle.bits.specs.declared.Outcome.{Outcome}
-use Rattle.bits.specs.declared.Outcome.TheVariants.{Done}
 use Rattle.bits.proofs.Answers.{gives_same, never_gives, unless_gives, onward_gives}
 use Rattle.tables.specs.Family.{Family}
 use Rattle.tables.specs.declared.Counts.{Counts}
@@ -132,5 +130,5 @@ module _ (counts : Counts) (s : List ℕ) (kind : Kind) (k : ℕ) (indices outpu
             ∙ ap (λ (x : Fills (Unit {0})). x.filled ++ drop (length x.filled) work) (sym same);
       }
 
-  pub prepared_done : {after : List ℕ} (r : Outcome) → record { answer = outcome r; memory = after } ≡ leaves prepared work → r ≡ Done → Prepared after
-  prepared_done {after} r p e = done prepared refl after (ap (λ (x : Outcome). record { answer = outcome x; memory = after }) (sym e) ∙ p)
+  pub prepared_done : {after : List ℕ} → record { answer = gives tt; memory = after } ≡ leaves prepared work → Prepared after
+  prepared_done {after} p = done prepared refl after p

@@ -23,7 +23,6 @@ use lib.ListN.{length, length-append}
 use Rattle.bits.specs.Passing.{passing}
 use Rattle.bits.proofs.Bounds.{entry_below}
 use Rattle.bits.proofs.Tests.{by_test}
-use Rattle.bits.specs.Answer.Answer.{gives}
 use Rattle.tables.specs.declared.Counts.{Counts}
 use Rattle.spectra.specs.Listed.{entries_at}
 use Rattle.spectra.specs.Operations.{same_numbers}
@@ -115,10 +114,10 @@ module _ {part : ℕ → ℕ} {p : ℕ → Bool} {c : ℕ} {seen : Option Agreei
   pub scanned_passed : {next : Option Agreeing} → p c ≡ false → next ≡ seen → Scanned part p (c + 1) next
   scanned_passed f e = record { agreeing = e ∙ w.agreeing ∙ ap (seen_of part) (sym (passing_no p c f)) }
 
-  pub scanned_all : {rows : ℕ} → c ≤ rows → rows ≤ c → gives (location_by seen) ≡ gives (location part (passing p rows))
+  pub scanned_all : {rows : ℕ} → c ≤ rows → rows ≤ c → location_by seen ≡ location part (passing p rows)
   scanned_all {rows} h k =
       let e : c ≡ rows = omega arith in
-      ap gives (ap location_by w.agreeing ∙ location_seen part (passing p c) ∙ ap (λ (x : ℕ). location part (passing p x)) e)
+      ap location_by w.agreeing ∙ location_seen part (passing p c) ∙ ap (λ (x : ℕ). location part (passing p x)) e
 
 -- ---- the rows of the work
 
@@ -151,10 +150,10 @@ module _ {counts : Counts} {indices outputs : List ℕ} {room : ℕ} (w : RowsIn
     row_within {c} h = subst (λ (x : ℕ). Within (c * (counts.outputs * x)) x indices outputs room) (sym e) (within h)
 
     pub rows_agree : (part : ℕ → ℕ) (work readings : List ℕ) (rows : ℕ)
-        → gives (location part (passing (λ r. same_numbers (numbers_at work (r * (counts.outputs * size)) size (entries_at indices outputs)) readings) rows))
-        ≡ gives (location part (passing (work_agrees work counts (entries_at indices outputs) readings) rows))
+        → location part (passing (λ r. same_numbers (numbers_at work (r * (counts.outputs * size)) size (entries_at indices outputs)) readings) rows)
+        ≡ location part (passing (work_agrees work counts (entries_at indices outputs) readings) rows)
     rows_agree part work readings rows =
         ap
         (λ (x : ℕ).
-        gives (location part (passing (λ r. same_numbers (numbers_at work (r * (counts.outputs * x)) x (entries_at indices outputs)) readings) rows)))
+        location part (passing (λ r. same_numbers (numbers_at work (r * (counts.outputs * x)) x (entries_at indices outputs)) readings) rows))
         e

@@ -9,19 +9,21 @@
 --   prepared_by      the checks by a test of 17, and the work filled: operations that take what locating takes go on from there
 --   located_from     what locating answers and fills for listed circuits, given the length of the lent work
 --   located_of       the same for a job
---   located_told     what the operation's answer stands for
-use Rattle.std.specs.Prelude.{ℕ, ◌^◌, Bool, true, cond, ◌&&◌, List, [], ◌∷◌, leb, eqb, length}
+--   location_of      the result that is answered
+--   located_told     what the operation's result stands for
+use Rattle.std.specs.Prelude.{ℕ, ◌^◌, Bool, true, cond, ◌&&◌, List, [], ◌∷◌, Result, Ok, Err, leb, eqb, length}
 use Rattle.bits.specs.Answer.{Answer, Fills, number, unless, onward}
 use Rattle.bits.specs.Answer.Answer.{gives, refused}
 use Rattle.bits.specs.Bounds.{all_below}
 use Rattle.bits.specs.Passing.{passing}
+use Rattle.bits.specs.declared.Refusal.{Refusal}
 use Rattle.reading.specs.Reading.{reading}
 use Rattle.tables.specs.Family.{Family, family_of}
 use Rattle.spectra.specs.Listed.{Entry, readings_of, family_spectra, places, entries_at}
 use Rattle.spectra.specs.Operations.{polarity_ok, same_numbers}
 use Rattle.spectra.specs.declared.Kind.{Kind}
 use Rattle.locating.specs.declared.Located.{Located}
-use Rattle.locating.specs.declared.Located.TheVariants.{Part, Several, Nowhere, Refused}
+use Rattle.locating.specs.declared.Located.TheVariants.{Part, Several, Nowhere}
 
 pub data Location : Type 0 where
   parted : ℕ → ℕ → Location
@@ -65,8 +67,11 @@ located_from F kind k indices outputs readings room =
 abbrev pub located_of : List ℕ → Kind → ℕ → List ℕ → List ℕ → List ℕ → ℕ → Answer (Fills Location)
 located_of s kind k indices outputs readings room = onward (reading s) (λ j. located_from (family_of j) kind k indices outputs readings room)
 
-abbrev pub located_told : Located → Answer Location
-located_told (Part p c) = gives (parted p c)
-located_told (Several c count) = gives (several c count)
-located_told Nowhere = gives nowhere
-located_told (Refused e) = refused (number e)
+abbrev pub location_of : Located → Location
+location_of (Part p c) = parted p c
+location_of (Several c count) = several c count
+location_of Nowhere = nowhere
+
+abbrev pub located_told : Result Located Refusal → Answer Location
+located_told (Ok l) = gives (location_of l)
+located_told (Err e) = refused (number e)

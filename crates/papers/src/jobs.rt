@@ -1,7 +1,6 @@
 // The tasks of a job: its circuits' tables, its signatures, a unit located, and what a fault changes.
 use crate::{MAX_ENTRIES, MAX_ROWS, MAX_TABLE_BYTES, listing, words};
-use bits::Outcome;
-use choosing::{Chosen, Purpose, Signature, Verdict};
+use choosing::{Chosen, Purpose, Unchosen};
 use job::{MAX_FAULTS, MAX_OUTPUTS};
 use locating::Located;
 use tables::Counts;
@@ -25,14 +24,9 @@ pub fn answer(rt: &impl Print, line: &[u8], job: &[u8]) {
 
 fn list_tables(rt: &impl Print, job: &[u8]) {
     let mut packed = [0u8; ALL_TABLES_BYTES];
-    let delivery = tables::tables(job, &mut packed);
-    let outcome = delivery.outcome;
-    match outcome {
-        Outcome::Done => {
-            let end = delivery.bytes;
-            list_circuits(rt, &packed[..end], delivery.counts)
-        }
-        Outcome::Refused(cause) => listing::refusal(rt, cause),
+    match tables::tables(job, &mut packed) {
+        Ok(delivery) => list_circuits(rt, &packed[..delivery.bytes], delivery.counts),
+        Err(cause) => listing::refusal(rt, cause),
     }
 }
 
@@ -49,24 +43,17 @@ fn list_circuits(rt: &impl Print, packed: &[u8], counts: Counts) {
 fn list_choice(rt: &impl Print, line: &[u8], job: &[u8], purpose: Purpose) {
     let polarity = words::decimal(line, 2);
     let mut work = [0u16; WORK_PLACES];
-    let chosen = choosing::choose(job, purpose, words::kind(line), polarity, &mut work);
-    list_chosen(rt, chosen);
-}
-
-fn list_chosen(rt: &impl Print, chosen: Chosen) {
-    let verdict = chosen.verdict;
-    let signature = chosen.signature;
-    match verdict {
-        Verdict::Done => list_signature(rt, signature),
-        Verdict::Alike(a, b) => listing::pair(rt, b"refused 15", a, b),
-        Verdict::Refused(cause) => listing::refusal(rt, cause),
+    match choosing::choose(job, purpose, words::kind(line), polarity, &mut work) {
+        Ok(Chosen { signature, .. }) => listing::entries(
+            rt,
+            b"signature",
+            &signature.indices,
+            &signature.outputs,
+            signature.count,
+        ),
+        Err(Unchosen::Alike(a, b)) => listing::pair(rt, b"refused 15", a, b),
+        Err(Unchosen::Refused(cause)) => listing::refusal(rt, cause),
     }
-}
-
-fn list_signature(rt: &impl Print, signature: Signature) {
-    let indices = signature.indices;
-    let outputs = signature.outputs;
-    listing::entries(rt, b"signature", &indices, &outputs, signature.count);
 }
 
 // Entries, a slash and readings follow the polarity: an index is a word's start, an output stands behind a colon.
@@ -98,7 +85,7 @@ fn list_located(
 ) {
     let polarity = words::decimal(line, 2);
     let mut work = [0u16; WORK_PLACES];
-    let located = locating::locate(
+    match locating::locate(
         job,
         words::kind(line),
         polarity,
@@ -106,36 +93,29 @@ fn list_located(
         outputs,
         readings,
         &mut work,
-    );
-    match located {
-        Located::Part(part, c) => listing::pair(rt, b"part", part, c),
-        Located::Several(c, count) => listing::pair(rt, b"several", c, count),
-        Located::Nowhere => listing::name(rt, b"none"),
-        Located::Refused(cause) => listing::refusal(rt, cause),
+    ) {
+        Ok(Located::Part(part, c)) => listing::pair(rt, b"part", part, c),
+        Ok(Located::Several(c, count)) => listing::pair(rt, b"several", c, count),
+        Ok(Located::Nowhere) => listing::name(rt, b"none"),
+        Err(cause) => listing::refusal(rt, cause),
     }
 }
 
 // The entries at which a circuit is not as the good one.
 fn list_fault(rt: &impl Print, line: &[u8], job: &[u8]) {
     let mut packed = [0u8; ALL_TABLES_BYTES];
-    let delivery = tables::tables(job, &mut packed);
-    let outcome = delivery.outcome;
-    match outcome {
-        Outcome::Done => {
-            let end = delivery.bytes;
-            list_filled(rt, line, delivery.counts, &packed[..end])
-        }
-        Outcome::Refused(cause) => listing::refusal(rt, cause),
+    match tables::tables(job, &mut packed) {
+        Ok(delivery) => list_filled(rt, line, delivery.counts, &packed[..delivery.bytes]),
+        Err(cause) => listing::refusal(rt, cause),
     }
 }
 
 fn list_filled(rt: &impl Print, line: &[u8], counts: Counts, packed: &[u8]) {
     let polarity = words::decimal(line, 2);
     let mut work = [0u16; WORK_PLACES];
-    let outcome = spectra::fill(counts, packed, words::kind(line), polarity, &mut work);
-    match outcome {
-        Outcome::Done => list_unlike(rt, &work, counts, words::decimal(line, 3)),
-        Outcome::Refused(cause) => listing::refusal(rt, cause),
+    match spectra::fill(counts, packed, words::kind(line), polarity, &mut work) {
+        Ok(()) => list_unlike(rt, &work, counts, words::decimal(line, 3)),
+        Err(cause) => listing::refusal(rt, cause),
     }
 }
 

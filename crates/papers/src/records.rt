@@ -1,7 +1,6 @@
 // The records of jobs, among them such as no bytes give: each refusal of writing in turn, then the number of bytes.
 use crate::{listing, words};
 use job::{FaultEntry, GateEntry, Job};
-use writing::Written;
 
 // Enough for every record here.
 const ROOM: usize = 16;
@@ -42,7 +41,7 @@ fn write(rt: &impl Print, job: Job, room: u8) {
     let mut out = [0u8; ROOM];
     let end = ROOM.min(room as usize);
     match writing::write(job, &mut out[..end]) {
-        Written::Bytes(count) => listing::number(rt, b"bytes", count),
-        Written::Refused(cause) => listing::refusal(rt, cause),
+        Ok(count) => listing::number(rt, b"bytes", count),
+        Err(cause) => listing::refusal(rt, cause),
     }
 }

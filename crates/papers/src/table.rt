@@ -1,6 +1,5 @@
 // The tasks of a table by itself: its spectra, and the table that a spectrum gives back.
 use crate::{MAX_ENTRIES, MAX_TABLE_BYTES, listing, words};
-use bits::Outcome;
 use spectra::Kind;
 
 // The RM and the MRM spectrum of the table that the line gives.
@@ -15,10 +14,9 @@ fn list_spectrum(rt: &impl Print, word: &[u8], line: &[u8], table: &[u8], kind: 
     let inputs = words::decimal(line, 1);
     let polarity = words::decimal(line, 2);
     let mut numbers = [0u16; MAX_ENTRIES];
-    let outcome = spectra::spectrum(inputs, table, kind, polarity, &mut numbers);
-    match outcome {
-        Outcome::Done => listing::numbers(rt, word, &numbers, bits::table_size(inputs)),
-        Outcome::Refused(cause) => listing::refusal(rt, cause),
+    match spectra::spectrum(inputs, table, kind, polarity, &mut numbers) {
+        Ok(()) => listing::numbers(rt, word, &numbers, bits::table_size(inputs)),
+        Err(cause) => listing::refusal(rt, cause),
     }
 }
 
@@ -33,9 +31,8 @@ fn list_table(rt: &impl Print, line: &[u8], numbers: &[u16]) {
     let inputs = words::decimal(line, 2);
     let polarity = words::decimal(line, 3);
     let mut table = [0u8; MAX_TABLE_BYTES];
-    let outcome = spectra::undo(inputs, numbers, words::kind(line), polarity, &mut table);
-    match outcome {
-        Outcome::Done => listing::bytes(rt, b"table", &table, bits::table_bytes(inputs)),
-        Outcome::Refused(cause) => listing::refusal(rt, cause),
+    match spectra::undo(inputs, numbers, words::kind(line), polarity, &mut table) {
+        Ok(()) => listing::bytes(rt, b"table", &table, bits::table_bytes(inputs)),
+        Err(cause) => listing::refusal(rt, cause),
     }
 }

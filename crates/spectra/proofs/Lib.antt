@@ -12,6 +12,7 @@ pub mod Recovery
 pub mod Recursion
 pub mod Reduction
 pub mod Refusals
+pub mod RowTests
 pub mod Rows
 pub mod Sizes
 pub mod Subnumbers
@@ -19,3 +20,4 @@ pub mod Sums
 pub mod TableTests
 pub mod Undoing
 pub mod Uniqueness
+pub mod ValidInputs

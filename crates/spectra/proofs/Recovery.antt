@@ -14,7 +14,6 @@
 --   compares               the numbers are compared with the recovered table's spectrum
 --   entries_most           no table has more entries than that of the most inputs
 --   lent_of                memory of the right sizes is lent
---   inputs_some, inputs_most, inputs_lent   a valid number of inputs, by its test
 --   undo_unfit, undo_polarity, undo_count, undo_none, undo_memory, undo_done   undoing's ways out: 2, 13, 14 twice, 10, success
 use Prim.Native.Nat.{ℕ, suc, ◌+◌, ◌/◌, ◌%◌, ◌^◌, ◌≤◌, ◌<◌}
 use native.Mathlib.Omega.{arith}
@@ -23,8 +22,8 @@ use native.Mathlib.Numerals.{add-one}
 use mathlib.Core.Path.{◌≡◌, refl, sym, ap, ◌∙◌}
 use mathlib.Core.Bool.{Bool, true, false, ◌&&◌}
 use mathlib.Core.List.{List, [], ◌∷◌, ◌++◌}
-use borrow.Author.Tests.{eq-eqb, ne_eqb, leb-true, le-leb, lt-leb, lt-ltb, le-ltb}
-use lib.Dec.{leb, eqb, lit<}
+use borrow.Author.Tests.{eq-eqb, ne_eqb, le-leb, lt-leb, lt-ltb, le-ltb}
+use lib.Dec.{eqb, lit<}
 use lib.Pointwise.{pointwise}
 use lib.Bits.{bit_xor, xor_lt, xor_zero_r}
 use lib.ListN.{length, drop, drop_of_length-le}
@@ -34,9 +33,8 @@ use Rattle.bits.specs.Answer.{leaves}
 use Rattle.bits.specs.Answer.Answer.{gives, refused}
 use Rattle.bits.specs.Packed.{packed, entry}
 use Rattle.bits.proofs.Packed.{entry_packed, packed_ext, length_packed}
-use Rattle.bits.proofs.Tests.{and_l, and_r, and_i}
 use Rattle.job.specs.Check.{inputs_ok}
-use Rattle.job.proofs.Sizes.{most_inputs, inputs_few}
+use Rattle.job.proofs.Sizes.{most_inputs}
 use Rattle.job.specs.Layout.{max_inputs}
 use Rattle.bits.specs.Sizes.{table_bytes, table_size_of}
 use Rattle.bits.specs.Slices.{splice}
@@ -53,6 +51,7 @@ use Rattle.spectra.proofs.Bounds.{length_spectrum, spectrum_at, coefficient_ext,
 use Rattle.spectra.proofs.Inverse.{coefficient_mod}
 use Rattle.spectra.proofs.Refusals.{one_row}
 use Rattle.spectra.proofs.Acceptance.{recovered_bits}
+use Rattle.spectra.proofs.ValidInputs.{inputs_most, inputs_word}
 
 -- ---- comparing
 
@@ -118,7 +117,7 @@ Transformed kind n k table sums sums₁ = sums₁ ≡ rows_filled kind n k table
 module _ {n k : ℕ} {numbers table sums : List ℕ} (l : Lent n k numbers table sums) where
   pub packs_numbers : Packs 0 numbers table
   packs_numbers =
-      let p = few_entries n l.few in
+      let p = few_entries n (inputs_most l.inputs) in
       record {
         closed = λ m h. rw xor_zero_r h;
         few = omega (arith, l.count);
@@ -136,7 +135,7 @@ module _ {n k : ℕ} {numbers table sums : List ℕ} (l : Lent n k numbers table
   pub packs_sums : {table₁ sums₁ : List ℕ} → table₁ ≡ packed (length numbers) (parity_at numbers 0) → Transformed Rm n 0 table₁ sums sums₁
       → Packs k sums₁ table₁
   packs_sums {table₁} {sums₁} et es =
-      let p = few_entries n l.few in
+      let p = few_entries n (inputs_most l.inputs) in
       let e : length sums₁ ≡ 2 ^ n = ap length (parity_spectrum et es) ∙ length_spectrum Rm n 0 (entry table₁) in
       record {
         closed = λ m h. rw e (xor_lt n m k (rw e at h) l.polarity);
@@ -176,28 +175,19 @@ module _ {n k : ℕ} {numbers table sums : List ℕ} (l : Lent n k numbers table
 
 -- ---- the ways out
 
-pub inputs_some : {n : ℕ} → inputs_ok n ≡ true → 1 ≤ n
-inputs_some {n} h = leb-true 1 n (and_l (leb 1 n) (leb n max_inputs) h)
-
-pub inputs_most : {n : ℕ} → inputs_ok n ≡ true → n ≤ max_inputs
-inputs_most {n} h = leb-true n max_inputs (and_r (leb 1 n) (leb n max_inputs) h)
-
-pub inputs_lent : {n k : ℕ} {numbers table sums : List ℕ} → Lent n k numbers table sums → inputs_ok n ≡ true
-inputs_lent {n} l = and_i (le-leb 1 n l.some) (le-leb n max_inputs l.few)
-
 no_spectrum : (kind : Kind) (n k : ℕ) (numbers : List ℕ) → (length numbers ≡ 2 ^ n → ⊥) → false ≡ is_spectrum kind n k numbers
 unfolding is_spectrum
 no_spectrum kind n k numbers d =
     same_lengths numbers (spectrum kind n k (recovered n k (at numbers))) (λ e. d (e ∙ length_spectrum kind n k (recovered n k (at numbers))))
 
-pub entries_most : {n size : ℕ} → size ≡ table_size_of n → n ≤ max_inputs → size ≤ 2 ^ max_inputs
-entries_most told h = rw (table_size_exact (inputs_few h) told) (pow_mono h)
+pub entries_most : (n : ℕ) {size : ℕ} → size ≡ table_size_of n → inputs_ok n ≡ true → size ≤ 2 ^ max_inputs
+entries_most n told valid = rw (table_size_exact (inputs_word valid) told) (pow_mono (inputs_most valid))
 
-pub lent_of : {n k size : ℕ} {numbers table sums : List ℕ} → size ≡ table_size_of n → 1 ≤ n → n ≤ max_inputs → k < size → length numbers ≡ size
+pub lent_of : {n k size : ℕ} {numbers table sums : List ℕ} → size ≡ table_size_of n → inputs_ok n ≡ true → k < size → length numbers ≡ size
     → length table ≡ (size + 7) / 8 → length sums ≡ size → Lent n k numbers table sums
-lent_of told some few polarity count bytes places =
-    let e = table_size_exact (inputs_few few) told in
-    record { some = some; few = few; polarity = rw e at polarity; count = count ∙ e; bytes = bytes ∙ ap (λ (x : ℕ). (x + 7) / 8) e; places = places ∙ e }
+lent_of told valid polarity count bytes places =
+    let e = table_size_exact (inputs_word valid) told in
+    record { inputs = valid; polarity = rw e at polarity; count = count ∙ e; bytes = bytes ∙ ap (λ (x : ℕ). (x + 7) / 8) e; places = places ∙ e }
 
 module _ (n : ℕ) (numbers : List ℕ) (kind : Kind) (k : ℕ) (out : List ℕ) where
   -- undoing refuses with a number, and leaves the memory as it was
@@ -209,19 +199,16 @@ module _ (n : ℕ) (numbers : List ℕ) (kind : Kind) (k : ℕ) (out : List ℕ)
   undo_unfit h = kept (undone_of n numbers kind k (length out)) 2 out (simp h)
 
   module _ (inputs : inputs_ok n ≡ true) where
-    high : n ≤ max_inputs
-    high = inputs_most inputs
-
     pub undo_polarity : {size : ℕ} → size ≡ table_size_of n → size ≤ k → Refuses 13
     unfolding undone_of
-    undo_polarity told h = kept (undone_of n numbers kind k (length out)) 13 out (simp (inputs, le-ltb k (2 ^ n) (rw (table_size_exact (inputs_few high) told) at h)))
+    undo_polarity told h = kept (undone_of n numbers kind k (length out)) 13 out (simp (inputs, le-ltb k (2 ^ n) (rw (table_size_exact (inputs_word inputs) told) at h)))
 
     pub undo_none : k < 2 ^ n → false ≡ is_spectrum kind n k numbers → Refuses 14
     unfolding undone_of
     undo_none h e = kept (undone_of n numbers kind k (length out)) 14 out (simp (inputs, lt-ltb k (2 ^ n) h, sym e))
 
     pub undo_count : {size : ℕ} → size ≡ table_size_of n → k < size → (length numbers ≡ size → ⊥) → Refuses 14
-    undo_count told h d = let e = table_size_exact (inputs_few high) told in undo_none (rw e at h) (no_spectrum kind n k numbers (λ q. d (q ∙ sym e)))
+    undo_count told h d = let e = table_size_exact (inputs_word inputs) told in undo_none (rw e at h) (no_spectrum kind n k numbers (λ q. d (q ∙ sym e)))
 
     module _ (h : k < 2 ^ n) (e : true ≡ is_spectrum kind n k numbers) {table : List ℕ} (t : table ≡ packed (2 ^ n) (recovered n k (at numbers))) where
       length_undone : length table ≡ table_bytes n

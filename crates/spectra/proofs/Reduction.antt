@@ -5,8 +5,7 @@
 --   reducing_more      one number more
 --   reducing_all       all numbers
 --   spectrum_reduced   the sums of a table, reduced, are its spectrum
---   row_sums           for MRM they are so as they stand
---   row_parities       for RM their parities are
+--   row_parities       for RM their parities are it
 use Prim.Native.Nat.{ℕ, ◌+◌, ◌^◌, ◌<◌, ◌≤◌}
 use native.Mathlib.Nat.{zero-add, le_of_eq}
 use mathlib.Core.Path.{◌≡◌, refl, sym, ap, ◌∙◌}
@@ -45,8 +44,5 @@ spectrum_reduced kind n k e =
     (λ j h. ap (reduce kind) (spectrum_at Mrm n k e j h))
 
 module _ {kind : Kind} (n k : ℕ) (e : ℕ → ℕ) {sums : List ℕ} (s : sums ≡ spectrum Mrm n k e) where
-  pub row_sums : kind ≡ Mrm → sums ≡ spectrum kind n k e
-  row_sums m = s ∙ ap (λ (x : Kind). spectrum x n k e) (sym m)
-
   pub row_parities : {out : List ℕ} → kind ≡ Rm → out ≡ all_reduced Rm sums → out ≡ spectrum kind n k e
   row_parities m r = r ∙ ap (all_reduced Rm) s ∙ spectrum_reduced Rm n k e ∙ ap (λ (x : Kind). spectrum x n k e) (sym m)

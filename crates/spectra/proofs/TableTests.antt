@@ -1,4 +1,4 @@
--- The tests of refusal 12 (the functions `table_ok`, `rows_ok_lem` and `tables_ok`).
+-- The tests of refusal 12 (the functions `table_ok`, `rows_ok` and `tables_ok`).
 --
 --   spare_bits       the lowest w bits of a table's only byte are 0
 --   table_length     bytes of another length are no table
@@ -7,41 +7,30 @@
 --   bytes_some       a table has at least one byte
 --   rows_other       as many rows have other bytes
 --   rows_small       these are a number
---   Testing          the bytes are as many as the rows have, and the rows below r are tables
---   testing_start    no row is tested yet
---   testing_room     the rows lie within the bytes
---   testing_place    and row r does
---   testing_next     one row more is a table
---   testing_stop     a row is none
---   testing_end      all are
 --   counted          the counts are no more than a job may have, and there is an output
 --   counted_faults, counted_outputs   so the faults and the outputs are few
 --   rows_few         no more rows than there may be
 --   rows_fit, circuits_fit   the rows and the circuits are numbers
 --   tables_counted   the tests of the counts and of the rows are that of the tables
 use Prim.Native.Nat.{ℕ, zero, suc, ◌+◌, ◌-◌, ◌*◌, ◌/◌, ◌%◌, ◌^◌, ◌≤◌, ◌<◌}
-use native.Mathlib.Nat.{mul-one, zero-mul, zero-add, suc-mul, le_antisymm, le_of_eq, mul-le-mul, lt_of_le_of_lt}
-use native.Mathlib.Numerals.{add-one}
+use native.Mathlib.Nat.{mul-one, zero-mul, zero-add, suc-mul, mul-le-mul, lt_of_le_of_lt}
 use native.Mathlib.Omega.{arith}
 use mathlib.Core.Path.{◌≡◌, refl, sym, ap, ap₂, subst, ◌∙◌}
-use mathlib.Core.Bool.{Bool, true, false, not, ◌&&◌}
+use mathlib.Core.Bool.{Bool, true, false, ◌&&◌}
 use mathlib.Core.List.{List}
-use mathlib.Core.Logic.{⊎_elim}
-use borrow.Author.Tests.{eq-eqb, ne_eqb, leb-true, not-true, not-false}
+use borrow.Author.Tests.{eq-eqb, ne_eqb, leb-true}
 use lib.Dec.{leb, eqb}
-use lib.ListN.{length, get_or, take, drop}
+use lib.ListN.{length, get_or}
 use lib.Pow.{pow_pos, pow_mono, pow-add, mod-pow-add}
 use Rattle.bits.specs.Packed.{entry}
-use Rattle.bits.proofs.Below.{lt_or_ge}
 use Rattle.bits.proofs.Packed.{entry_digit}
-use Rattle.bits.proofs.Tests.{and_l, and_r, and_i}
+use Rattle.bits.proofs.Tests.{and_l, and_r}
 use Rattle.bits.specs.Sizes.{table_bytes}
 use Rattle.job.specs.Layout.{max_outputs, max_faults}
 use Rattle.tables.specs.declared.Counts.{Counts}
-use Rattle.spectra.specs.Operations.{zero_from, table_ok, table_row, rows_in, rows_ok, all_rows_ok, tables_ok}
+use Rattle.spectra.specs.Operations.{zero_from, table_ok, rows_in, rows_ok, all_rows_ok, tables_ok}
 use Rattle.spectra.specs.Rows.{max_rows}
 use Rattle.spectra.proofs.Sizes.{all_rows_fit, one_output}
-use Rattle.spectra.proofs.Rows.{row_place, row_slice}
 
 -- ---- one table
 
@@ -103,59 +92,6 @@ rows_small n {bytes} {rows} h e l =
     let p : 2 ^ n ≤ 2 ^ 15 = pow_mono {i = n} {j = 15} h in
     let b : bytes ≤ 4096 = omega (arith, e) in
     lt_of_le_of_lt (mul-le-mul l b) all_rows_fit
-
-pub record Testing (n : ℕ) (s : List ℕ) (rows bytes r : ℕ) : Type 0 where
-  pub wide : bytes ≡ table_bytes n
-  pub size : length s ≡ rows * table_bytes n
-  pub within : r ≤ rows
-  pub ok : rows_ok n s r ≡ true
-
-pub testing_start : {n bytes rows : ℕ} (s : List ℕ) → bytes ≡ table_bytes n → length s ≡ rows * bytes → Testing n s rows bytes 0
-unfolding rows_ok
-testing_start {n} {bytes} {rows} s e p = record { wide = e; size = p ∙ ap (λ (x : ℕ). rows * x) e; within = omega arith; ok = refl }
-
-fails : (n : ℕ) (s : List ℕ) (r rows : ℕ) → r < rows → table_ok n (table_row n s r) ≡ false → rows_ok n s rows ≡ false
-unfolding rows_ok
-fails n s r zero h e = absurd (omega arith)
-fails n s r (suc rows) h e =
-    ⊎_elim
-    (λ l. ap (λ (t : Bool). t && table_ok n (table_row n s rows)) (fails n s r rows l e))
-    (λ l. let same : r ≡ rows = omega arith in last (rows_ok n s rows) (subst (λ (x : ℕ). table_ok n (table_row n s x) ≡ false) same e))
-    (lt_or_ge r rows)
-  where
-    last : (t : Bool) → table_ok n (table_row n s rows) ≡ false → t && table_ok n (table_row n s rows) ≡ false
-    last true p = p
-    last false p = refl
-
-module _ {n : ℕ} {s : List ℕ} {rows bytes r : ℕ} (g : Testing n s rows bytes r) where
-  pub testing_room : rows * table_bytes n ≤ length s
-  testing_room = le_of_eq (sym g.size)
-
-  pub testing_place : r < rows → r * bytes + bytes ≤ length s
-  testing_place h = row_place g.wide h testing_room
-
-  pub testing_stop : (t : Bool) → r < rows
-      → t ≡ table_ok n (take (r * bytes + bytes - r * bytes) (drop (r * bytes) s)) → not t ≡ true → false ≡ all_rows_ok n rows s
-  testing_stop t h p q =
-      sym (ap₂ ◌&&◌ (eq-eqb (length s) (rows * table_bytes n) g.size)
-      (fails n s r rows h (sym (ap (table_ok n) (row_slice n s r g.wide)) ∙ sym p ∙ not-true t q)))
-
-  pub testing_next : (t : Bool) → r < rows
-      → t ≡ table_ok n (take (r * bytes + bytes - r * bytes) (drop (r * bytes) s)) → not t ≡ false → Testing n s rows bytes (r + 1)
-  unfolding rows_ok
-  testing_next t h p q =
-      record {
-        wide = g.wide;
-        size = g.size;
-        within = omega arith;
-        ok =
-            ap (rows_ok n s) (add-one r)
-            ∙ and_i g.ok (sym (ap (table_ok n) (row_slice n s r g.wide)) ∙ sym p ∙ not-false t q);
-      }
-
-  pub testing_end : rows ≤ r → true ≡ all_rows_ok n rows s
-  testing_end h =
-      sym (and_i (eq-eqb (length s) (rows * table_bytes n) g.size) (ap (rows_ok n s) (le_antisymm h g.within) ∙ g.ok))
 
 -- ---- the tables of counted circuits
 

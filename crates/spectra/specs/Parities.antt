@@ -4,9 +4,9 @@
 --   Closed       an index below a size stays below it, xor k
 --   Packs        a table that has room for the parities of the numbers
 --   Lent         what undoing in lent memory asks of it, of the numbers and of the polarity
-use Rattle.std.specs.Prelude.{ℕ, ◌+◌, ◌/◌, ◌%◌, ◌^◌, ◌≤◌, ◌<◌, ◌≡◌, List, length}
+use Rattle.std.specs.Prelude.{ℕ, ◌+◌, ◌/◌, ◌%◌, ◌^◌, ◌<◌, ◌≡◌, true, List, length}
 use Rattle.std.specs.Int.Bits.{bit_xor}
-use Rattle.job.specs.Layout.{max_inputs}
+use Rattle.job.specs.Check.{inputs_ok}
 use Rattle.bits.specs.Sizes.{table_bytes}
 use Rattle.spectra.specs.Operations.{at}
 
@@ -22,8 +22,7 @@ pub record Packs (k : ℕ) (numbers table : List ℕ) : Type 0 where
   pub room : length table ≡ (length numbers + 7) / 8
 
 pub record Lent (n k : ℕ) (numbers table sums : List ℕ) : Type 0 where
-  pub some : 1 ≤ n
-  pub few : n ≤ max_inputs
+  pub inputs : inputs_ok n ≡ true
   pub polarity : k < 2 ^ n
   pub count : length numbers ≡ 2 ^ n
   pub bytes : length table ≡ table_bytes n

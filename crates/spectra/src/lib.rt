@@ -8,10 +8,11 @@
 // transformed anew, and 14 is given unless the result is the numbers given. No number falls below zero on the way.
 #![tactic(auto)]
 
-ghost use Rattle.std.specs.Prelude.{◌+◌, ◌^◌, ◌≤◌, ◌<◌, length, ◌≡◌};
+ghost use Rattle.std.specs.Prelude.{◌+◌, ◌^◌, ◌≤◌, ◌<◌, true, length, ◌≡◌};
 ghost use Rattle.bits.specs.Answer.{outcome, leaves};
 ghost use Rattle.bits.specs.Bits.{value_from};
 ghost use Rattle.bits.specs.Packed.{packed, tabulate};
+ghost use Rattle.job.specs.Check.{inputs_ok};
 ghost use Rattle.spectra.specs.Operations.{table_ok, all_rows_ok, tables_ok, tables_checked, from_tables, filled_from, at, spectrum_of, undone_of, same_numbers};
 ghost use Rattle.spectra.specs.Parities.{parity_at, Closed, Packs, Lent};
 ghost use Rattle.spectra.specs.Rows.{max_rows, one_table};
@@ -32,7 +33,7 @@ pub enum Kind {
 
 // Whether the bytes are a packed table of n inputs: as many as it has, and spare bits 0. Only n 1 and 2 have spare bits.
 fn table_ok(table: &[u8], n: usize) -> bool
-    requires { (1 ≤ n) × (n ≤ 15) }
+    requires { inputs_ok n ≡ true }
     ensures { result ≡ table_ok n table.now }
 {
     if table.len() != bits::table_bytes(n) {
@@ -47,24 +48,16 @@ fn table_ok(table: &[u8], n: usize) -> bool
 
 // Whether the bytes are so many packed tables of n inputs, row after row.
 fn rows_ok(tables: &[u8], n: usize, rows: usize) -> bool
-    requires { (1 ≤ n) × (n ≤ 15) × (rows ≤ max_rows) }
+    requires { (inputs_ok n ≡ true) × (rows ≤ max_rows) }
     ensures { result ≡ all_rows_ok n rows tables.now }
 {
     let bytes = bits::table_bytes(n);
-    if tables.len() != rows * bytes {
-        return false;
-    }
-    for r in 0..rows {
-        if !table_ok(&tables[r * bytes..r * bytes + bytes], n) {
-            return false;
-        }
-    }
-    true
+    tables.len() == rows * bytes && tables.chunks_exact(bytes).all(|table| table_ok(table, n))
 }
 
 // Whether the bytes are a packed table for each counted circuit and each output, one after the other.
 fn tables_ok(counts: Counts, tables: &[u8]) -> bool
-    requires { (1 ≤ counts.inputs) × (counts.inputs ≤ 15) }
+    requires { inputs_ok counts.inputs ≡ true }
     ensures { result ≡ tables_ok counts tables.now }
 {
     counts.faults <= MAX_FAULTS

@@ -1,25 +1,25 @@
 -- Laws of checking a list entry by entry (specs/Checks.antt; job's specs/Check.antt).
 --
 --   judged_from                        the checks of a list from an entry on
---   each_start, each_end               from the first, and where none is left
---   each_stop, each_next               where the next is refused, and where it passes
+--   each_end, each_stop, each_next     where none is left, where the next is refused, and where it passes
 --   gate_first, gate_second, gate_passed   a gate whose first line is not below its own, whose second is not, and one that passes
 --   gates_lent, outputs_lent, faults_lent   the checks of the entries in use are those of the list of them
 --   behind_gates, behind_outputs       what is left to check once the gates have passed, and the outputs
 --   past_gates, past_outputs           so a record whose gates, and whose outputs, have passed is refused or not by these
-use Rattle.std.proofs.Common.{◌≡◌, ℕ, zero, suc, ◌+◌, ◌-◌, ◌≤◌, ◌<◌, List, length, get_or, take, refl, sym, ap, ◌∙◌, add-one, arith, lt-ltb, le-ltb, le-leb}
-use Rattle.std.proofs.Math.Nat.{sub-zero}
+use Rattle.std.proofs.Common.{◌≡◌, ℕ, zero, suc, ◌+◌, ◌-◌, ◌≤◌, ◌<◌, Bool, true, false, ◌&&◌, List, length, get_or, take, drop, drop-cons, refl, sym, ap, ◌∙◌, add-one, arith, lt-ltb, le-ltb, le-leb}
 use mathlib.Core.Path.{ap₂}
 use lib.Seq.{length-take-le, get_or-take}
+use Rattle.std.proofs.lemmas.List.{drop_all}
+use Rattle.std.specs.List.{list_all}
 use Rattle.bits.specs.Answer.{Answer, unless, onward}
 use Rattle.bits.specs.Answer.Answer.{gives, refused}
-use Rattle.job.specs.Check.{in_turn, output_count_ok, fault_count_ok, gates_checked, outputs_checked, faults_checked, checked}
+use Rattle.job.specs.Check.{in_turn, output_ok, output_count_ok, fault_count_ok, gates_checked, outputs_checked, faults_checked, checked}
 use Rattle.job.specs.Dependence.{no_loose}
 use Rattle.job.specs.Layout.{max_inputs, max_gates, max_outputs}
 use Rattle.job.specs.Record.{gate_a, gate_b, unused_gate, unused_fault, lines}
 use Rattle.job.specs.declared.GateEntry.{GateEntry}
 use Rattle.job.specs.declared.Job.{Job}
-use Rattle.writing.specs.Checks.{each_judged, gate_judged, line_judged, fault_judged, gates_judged, outputs_judged, faults_judged}
+use Rattle.writing.specs.Checks.{each_judged, gate_judged, entry_judged, gates_judged, faults_judged}
 
 abbrev pub judged_from : {A : Type 0} → (ℕ → A → Answer (Unit {0})) → A → List A → ℕ → Answer (Unit {0})
 judged_from judged d entries i = in_turn (λ k. judged k (get_or entries k d)) (length entries - i) i
@@ -27,9 +27,6 @@ judged_from judged d entries i = in_turn (λ k. judged k (get_or entries k d)) (
 module _ {A : Type 0} (judged : ℕ → A → Answer (Unit {0})) (d : A) (entries : List A) where
   abbrev at : ℕ → Answer (Unit {0})
   at i = judged i (get_or entries i d)
-
-  pub each_start : each_judged judged d entries ≡ judged_from judged d entries 0
-  each_start = ap (λ (n : ℕ). in_turn at n 0) (sym (sub-zero (length entries)))
 
   module _ {i : ℕ} (so_far : each_judged judged d entries ≡ judged_from judged d entries i) where
     pub each_end : length entries ≤ i → gives tt ≡ each_judged judged d entries
@@ -75,15 +72,38 @@ lent judged d count entries room =
     ∙ turn_same (λ i. judged i (get_or (take count entries) i d)) (λ i. judged i (get_or entries i d)) count 0
     (λ k h. ap (judged k) (get_or-take count entries k d (omega arith)))
 
+abbrev passed : Answer (Unit {0})
+passed = gives tt
+
+both : (number : ℕ) (t u : Bool) → onward (unless t number passed) (λ _. unless u number passed) ≡ unless (t && u) number passed
+both number true u = refl
+both number false u = refl
+
+-- a test of each entry alone
+module _ {A : Type 0} (p : A → Bool) (number : ℕ) (d : A) (entries : List A) where
+  turns_from : (left i : ℕ) → i + left ≡ length entries
+      → in_turn (λ k. unless (p (get_or entries k d)) number passed) left i ≡ unless (list_all p (drop i entries)) number passed
+  unfolding in_turn
+  turns_from zero i e = rw (drop_all i entries (omega arith)) refl
+  turns_from (suc left) i e =
+      rw (drop-cons entries i d (omega arith), turns_from left (suc i) (omega arith))
+      (both number (p (get_or entries i d)) (list_all p (drop (suc i) entries)))
+
+  all_turns : each_judged (λ _ e. unless (p e) number passed) d entries ≡ unless (list_all p entries) number passed
+  all_turns = turns_from (length entries) 0 (omega arith)
+
 module _ (j : Job) where
   pub gates_lent : j.gate_count ≤ length j.gates → gates_judged j.inputs (take j.gate_count j.gates) ≡ gates_checked j j.gate_count 0
   gates_lent = lent (gate_judged j.inputs) unused_gate j.gate_count j.gates
 
-  pub outputs_lent : j.output_count ≤ length j.outputs → outputs_judged (lines j) (take j.output_count j.outputs) ≡ outputs_checked j j.output_count 0
-  outputs_lent = lent (λ _. line_judged (lines j)) 0 j.output_count j.outputs
+  pub outputs_lent : j.output_count ≤ length j.outputs
+      → unless (list_all (output_ok (lines j)) (take j.output_count j.outputs)) 6 (gives tt) ≡ outputs_checked j j.output_count 0
+  outputs_lent room =
+      sym (all_turns (output_ok (lines j)) 6 0 (take j.output_count j.outputs))
+      ∙ lent (λ _ line. unless (output_ok (lines j) line) 6 (gives tt)) 0 j.output_count j.outputs room
 
   pub faults_lent : j.fault_count ≤ length j.faults → faults_judged j.inputs (lines j) (take j.fault_count j.faults) ≡ faults_checked j j.fault_count 0
-  faults_lent = lent (λ _. fault_judged j.inputs (lines j)) unused_fault j.fault_count j.faults
+  faults_lent = lent (λ _. entry_judged j.inputs (lines j)) unused_fault j.fault_count j.faults
 
 -- what is left to check once the outputs have passed, and the gates
 abbrev pub behind_outputs : Job → Answer (Unit {0})

@@ -5,13 +5,16 @@
 --   entries_none, entries_next   no entry is put, one more is put
 --   bytes_job_bits   the number of a job's bytes, as the code works it out
 use Prim.Native.Nat.{ℕ, suc, ◌+◌, ◌*◌, ◌/◌, ◌≤◌, ◌<◌}
-use mathlib.Core.Path.{◌≡◌, refl, sym, ap, ap₂, ◌∙◌, subst}
-use mathlib.Core.List.{List, [], ◌∷◌, ◌++◌, append_assoc, append-nil}
+use mathlib.Core.Path.{◌≡◌, sym, ap, ap₂, ◌∙◌, subst}
+use mathlib.Core.List.{List, [], ◌∷◌, ◌++◌}
 use native.Mathlib.Nat.{suc-mul, add_comm}
 use native.Mathlib.Numerals.{add-one}
 use native.Mathlib.Omega.{arith}
 use lib.ListN.{length, get_or, take, drop, length-append, take-append-drop}
 use lib.Seq.{take-suc, length-take-le}
+use Rattle.std.specs.Int.{div_ceil}
+use Rattle.std.proofs.lemmas.List.{flat_map_more}
+use Rattle.std.proofs.lemmas.Grind.{flat_map-append}
 use Rattle.bits.specs.Bits.{bits_of, bytes_of}
 use Rattle.bits.proofs.Bits.{length_bits_of}
 use Rattle.bits.proofs.Bytes.{length_bytes_of}
@@ -32,20 +35,10 @@ pub fault_same : (part : ℕ) {k l a x b y : ℕ} → k ≡ l → a ≡ x → b 
 fault_same part p q r = ap (λ (l : List ℕ). l ++ bits_of part_bits part) (entry_same fault_kind_bits p q r)
 
 module _ {A : Type 0} (bits : A → List ℕ) where
-  all_bits_append : (xs ys : List A) → all_bits bits (xs ++ ys) ≡ all_bits bits xs ++ all_bits bits ys
-  unfolding all_bits
-  all_bits_append [] ys = refl
-  all_bits_append (x ∷ xs) ys = ap (λ (l : List ℕ). bits x ++ l) (all_bits_append xs ys) ∙ sym (append_assoc (bits x) (all_bits bits xs) (all_bits bits ys))
-
   all_bits_next : (d : A) (entries : List A) (i : ℕ) → i < length entries → all_bits bits (take (suc i) entries) ≡ all_bits bits (take i entries) ++ bits (get_or entries i d)
-  unfolding all_bits
-  all_bits_next d entries i h =
-      ap (all_bits bits) (take-suc entries i d h)
-      ∙ all_bits_append (take i entries) (get_or entries i d ∷ [])
-      ∙ ap (λ (l : List ℕ). all_bits bits (take i entries) ++ l) (append-nil (bits (get_or entries i d)))
+  all_bits_next d entries i h = ap (all_bits bits) (take-suc entries i d h) ∙ sym (flat_map_more bits [] (take i entries) (get_or entries i d))
 
   length_all_bits : (w : ℕ) → ((e : A) → length (bits e) ≡ w) → (entries : List A) → length (all_bits bits entries) ≡ length entries * w
-  unfolding all_bits
   length_all_bits w h [] = sym (omega arith)
   length_all_bits w h (e ∷ entries) = length-append (bits e) (all_bits bits entries) ∙ ap₂ ◌+◌ (h e) (length_all_bits w h entries) ∙ sym (suc-mul (length entries) w ∙ add_comm (length entries * w) w)
 
@@ -56,7 +49,6 @@ module _ {A : Type 0} (bits : A → List ℕ) where
 
   module _ (entries : List A) {p : Pen} where
     pub entries_none : Puts p (all_bits bits (take 0 entries)) p
-    unfolding all_bits
     entries_none = puts_none
 
     module _ (d : A) {i : ℕ} {q : Pen} (put : Puts p (all_bits bits (take i entries)) q) {next : List ℕ} (same : next ≡ bits (get_or entries i d)) where
@@ -64,7 +56,7 @@ module _ {A : Type 0} (bits : A → List ℕ) where
       entries_room h room =
           let split : all_bits bits entries ≡ (all_bits bits (take i entries) ++ next) ++ all_bits bits (drop (suc i) entries) =
           ap (all_bits bits) (sym (take-append-drop (suc i) entries))
-          ∙ all_bits_append (take (suc i) entries) (drop (suc i) entries)
+          ∙ flat_map-append bits (take (suc i) entries) (drop (suc i) entries)
           ∙ ap (λ (l : List ℕ). l ++ all_bits bits (drop (suc i) entries)) (all_bits_next d entries i h ∙ ap (λ (l : List ℕ). all_bits bits (take i entries) ++ l) (sym same))
           in
           room_after next (room_front (all_bits bits (take i entries) ++ next) (all_bits bits (drop (suc i) entries)) (subst (HasRoom p) split room)) put
@@ -83,10 +75,10 @@ length_fault_bits : (e : FaultEntry) → length (fault_bits e) ≡ fault_kind_bi
 length_fault_bits e = simp (length-append, length_entry_bits, length_bits_of)
 
 pub bytes_job_bits : (j : Job) → j.gate_count ≤ length j.gates → j.output_count ≤ length j.outputs → j.fault_count ≤ length j.faults
-    → (input_count_bits + gate_count_bits + j.gate_count * (gate_kind_bits + 2 * line_bits) + output_count_bits + j.output_count * line_bits + fault_count_bits
-    + j.fault_count * (fault_kind_bits + 2 * line_bits + part_bits)
-    + 7)
-    / 8
+    → div_ceil
+    (input_count_bits + gate_count_bits + j.gate_count * (gate_kind_bits + 2 * line_bits) + output_count_bits + j.output_count * line_bits + fault_count_bits
+    + j.fault_count * (fault_kind_bits + 2 * line_bits + part_bits))
+    8
     ≡ length (bytes_of (job_bits j))
 unfolding job_bits
 bytes_job_bits j g o f =
@@ -101,10 +93,14 @@ bytes_job_bits j g o f =
     in
     sym
     (length_bytes_of (job_bits j)
-    ∙ ap (λ (n : ℕ). (n + 7) / 8)
+    ∙ rounded_up (length (job_bits j))
+    ∙ ap (λ (n : ℕ). div_ceil n 8)
     (simp (length-append, length_bits_of, gates, outputs, faults)
     (regroup input_count_bits gate_count_bits (j.gate_count * (gate_kind_bits + 2 * line_bits)) output_count_bits (j.output_count * line_bits) fault_count_bits
     (j.fault_count * (fault_kind_bits + 2 * line_bits + part_bits)))))
   where
     regroup : (a b c d e f g : ℕ) → a + (b + (c + (d + (e + (f + g))))) ≡ a + b + c + d + e + f + g
     regroup a b c d e f g = omega arith
+
+    rounded_up : (n : ℕ) → (n + 7) / 8 ≡ div_ceil n 8
+    rounded_up n = omega arith

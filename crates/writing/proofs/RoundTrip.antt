@@ -78,7 +78,6 @@ bits_fault_bits e =
     (bits_entry_bits fault_kind_bits (fault_kind e.fault) (fault_a e.fault) (fault_b e.fault)) (bits_bits_of part_bits _)
 
 bits_all_bits : {A : Type 0} (print : A → List ℕ) → ((e : A) → AllBits (print e)) → (es : List A) → AllBits (all_bits print es)
-unfolding all_bits
 bits_all_bits print h [] = tt
 bits_all_bits print h (e ∷ es) = bits_append (print e) (all_bits print es) (h e) (bits_all_bits print h es)
 
@@ -99,7 +98,6 @@ bits_job_bits j =
 chain_text : {A : Type 0} (R : ℕ → List ℕ → A → List ℕ → Type 0) (print : A → List ℕ)
     → ((i : ℕ) (bits : List ℕ) (e : A) (rest : List ℕ) → R i bits e rest → bits ≡ print e ++ rest)
     → (es : List A) (i : ℕ) (bits rest : List ℕ) → Chain R i bits es rest → bits ≡ all_bits print es ++ rest
-unfolding all_bits
 chain_text R print text [] i bits rest c = c
 chain_text R print text (e ∷ es) i bits rest c =
     text i bits e c.0 c.1
@@ -232,7 +230,7 @@ module _ {A : Type 0} (p : ℕ → Parser A) (print : A → List ℕ) (Good : �
     (step : (i : ℕ) (e : A) (rest : List ℕ) → Good i e → p i (print e ++ rest) ≡ parsed e rest) where
   entries_takes : (es : List A) (i : ℕ) (entries : List A) (rest : List ℕ) → ((k : ℕ) → k < length es → Good (i + k) (get_or es k d))
       → entries_from p (length es) i entries (all_bits print es ++ rest) ≡ parsed (sets entries i es) rest
-  unfolding entries_from all_bits
+  unfolding entries_from
   entries_takes [] i entries rest h = refl
   entries_takes (e ∷ es) i entries rest h =
       ap (λ (x : List ℕ). and_then (p i x) (λ a. entries_from p (length es) (suc i) (set entries i a))) (append_assoc (print e) (all_bits print es) rest)

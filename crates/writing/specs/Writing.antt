@@ -3,7 +3,8 @@
 --   gate_bits, fault_bits   the bits of one gate, of one fault
 --   job_bits                the string of bits of a job, without its spare bits
 --   written                 what writing answers and fills, given the length of the lent memory
-use Rattle.std.specs.Prelude.{ℕ, ◌-◌, List, [], ◌∷◌, ◌++◌, leb, length, take}
+use Rattle.std.specs.Prelude.{ℕ, ◌-◌, List, ◌++◌, leb, length, take}
+use Rattle.std.specs.List.{flat_map}
 use Rattle.bits.specs.Answer.{Answer, Fills, unless, onward}
 use Rattle.bits.specs.Answer.Answer.{gives}
 use Rattle.bits.specs.Bits.{bits_of, bytes_of}
@@ -25,9 +26,8 @@ gate_bits e = entry_bits gate_kind_bits (gate_kind e.gate) (gate_a e.gate) (gate
 abbrev pub fault_bits : FaultEntry → List ℕ
 fault_bits e = entry_bits fault_kind_bits (fault_kind e.fault) (fault_a e.fault) (fault_b e.fault) ++ bits_of part_bits e.part
 
-unfoldable pub all_bits : {A : Type 0} → (A → List ℕ) → List A → List ℕ
-all_bits bits [] = []
-all_bits bits (e ∷ entries) = bits e ++ all_bits bits entries
+abbrev pub all_bits : {A : Type 0} → (A → List ℕ) → List A → List ℕ
+all_bits bits entries = flat_map bits entries
 
 -- "In order: input count n (4 bits); gate count g (7); per gate .."; "After the gates comes a field of 2 bits, the number of outputs less 1, then each
 -- output line in 7 bits"; "fault count f (6); per fault ..". Unused entries are not written.

@@ -1,5 +1,5 @@
-// A pen that puts bits one after the other into lent bytes. Bits that do not fill a byte yet wait in a number; each byte is
-// put once, from the start on.
+// A pen that puts bits one after the other into lent bytes. Bits that do not fill a byte yet wait in a number; each byte
+// is put once, from the start on.
 ghost use Rattle.std.specs.Prelude.{◌≡◌, [], ◌≤◌, ◌<◌, ◌^◌, All};
 ghost use Rattle.bits.specs.Bits.{bits_of};
 ghost use Rattle.job.specs.Layout.{line_bits};
@@ -67,6 +67,8 @@ impl<'a> Pen<'a> {
         self.field(LINE_BITS, b);
     }
 
+    // Puts the gates. Gates, outputs and faults have a loop each: one loop for all would take what puts an entry as a
+    // closure, and be no plainer.
     pub fn gates(&mut self, gates: &[GateEntry])
         requires room { HasRoom self.old (all_bits gate_bits gates.now) }
         requires gates_fit { All GateFits gates.now }
@@ -78,16 +80,18 @@ impl<'a> Pen<'a> {
         }
     }
 
+    // Puts the output lines.
     pub fn outputs(&mut self, outputs: &[u8])
         requires room { HasRoom self.old (all_bits (bits_of line_bits) outputs.now) }
         requires lines_fit { All LineFits outputs.now }
         ensures { Puts self.old (all_bits (bits_of line_bits) outputs.now) self.new }
     {
-        for line in outputs {
-            self.field(LINE_BITS, *line as usize);
+        for &line in outputs {
+            self.field(LINE_BITS, line as usize);
         }
     }
 
+    // Puts the faults, each with its part.
     pub fn faults(&mut self, faults: &[FaultEntry])
         requires room { HasRoom self.old (all_bits fault_bits faults.now) }
         requires faults_fit { All FaultFits faults.now }

@@ -1,24 +1,40 @@
 -- `locate_tables` meets its contract: the work is prepared, and its rows are scanned.
+use Rattle.std.proofs.lemmas.Result.{err_from_is_err_and}
 use Rattle.locating.proofs.Preparation.{Prepared, prepared_done}
-use Rattle.locating.proofs.Answers.{sought_refused, sought_rows, sought_done}
+use Rattle.locating.proofs.Answers.{sought_refused, sought_indexed, sought_rows, sought_done}
 use Rattle.locating.proofs.locate_tables.Goals as goal
-use Rattle.locating.proofs.locate_tables.Goals.{In-Done}
+use Rattle.locating.proofs.locate_tables.Goals.{In_ok-prepare}
 
-pub enum_known-outcome : goal.enum_known-outcome
-enum_known-outcome c = c.in-Refused.in-Refused-own.keys1
-
-pub enum_told-1 : goal.enum_told-1
-enum_told-1 c = c.in-Done.in-Done-own.keys2
+pub returns-in_err-prepare : goal.returns-in_err-prepare
+returns-in_err-prepare c =
+    let p = err_from_is_err_and c.from_residual.result c.from_residual.ensures.1 in
+    let a = c.args in
+    rw (p.1, p.2)
+    (sought_refused a.counts a.tables.now a.kind a.polarity a.indices.now a.outputs.now a.readings.now a.work.now c.lengths_ok-paired.ensures _ c.in_err-prepare.ensures)
 
 -- the work is prepared
-ready : (c : In-Done) → let a = c.args in Prepared a.counts a.tables.now a.kind a.polarity a.indices.now a.outputs.now c.lengths_ok-paired.result a.work.now c.prepare-outcome.new.work
-ready c = let a = c.args in prepared_done a.counts a.tables.now a.kind a.polarity a.indices.now a.outputs.now c.lengths_ok-paired.result a.work.now c.prepare-outcome.result c.prepare-outcome.ensures c.in-Done.is
+ready : (c : In_ok-prepare) → let a = c.args in Prepared a.counts a.tables.now a.kind a.polarity a.indices.now a.outputs.now c.lengths_ok-paired.result a.work.now c.prepare.new.work
+ready c =
+    let a = c.args in
+    prepared_done a.counts a.tables.now a.kind a.polarity a.indices.now a.outputs.now c.lengths_ok-paired.result a.work.now c.in_ok-prepare.ensures
+
+pub invariant_of-observed : goal.invariant_of-observed
+invariant_of-observed c =
+    let a = c.args in
+    record {
+      indexed =
+          sought_indexed a.counts a.tables.now a.kind a.polarity a.indices.now a.outputs.now a.readings.now a.work.now c.lengths_ok-paired.ensures
+          (ready (goal.at.invariant_of-observed c).In_ok-prepare);
+    }
 
 pub scan-requires : goal.scan-requires
-scan-requires c = let a = c.args in sought_rows a.counts a.tables.now a.kind a.polarity a.indices.now a.outputs.now a.readings.now a.work.now c.lengths_ok-paired.ensures (ready (goal.at.scan-requires c).In-Done)
+scan-requires c =
+    let a = c.args in
+    sought_rows a.counts a.tables.now a.kind a.polarity a.indices.now a.outputs.now a.readings.now a.work.now c.lengths_ok-paired.ensures
+    (ready (goal.at.scan-requires c).In_ok-prepare)
 
-pub returns-in-Refused : goal.returns-in-Refused
-returns-in-Refused c = let a = c.args in sought_refused a.counts a.tables.now a.kind a.polarity a.indices.now a.outputs.now a.readings.now a.work.now c.lengths_ok-paired.ensures c.prepare-outcome.result _ c.prepare-outcome.ensures c.in-Refused.is
-
-pub returns-in-Done : goal.returns-in-Done
-returns-in-Done c = let a = c.args in sought_done a.counts a.tables.now a.kind a.polarity a.indices.now a.outputs.now a.readings.now a.work.now c.lengths_ok-paired.ensures (ready (goal.at.returns-in-Done c).In-Done) _ c.scan.ensures
+pub returns : goal.returns
+returns c =
+    let a = c.args in
+    sought_done a.counts a.tables.now a.kind a.polarity a.indices.now a.outputs.now a.readings.now a.work.now c.lengths_ok-paired.ensures
+    (ready (goal.at.returns c).In_ok-prepare) _ c.scan.ensures

@@ -1,9 +1,8 @@
 -- `prepare` meets its contract: each way out is one law.
 use Prim.Native.Nat.{◌^◌}
 use mathlib.Core.Bool.{true}
-use mathlib.Core.Path.{◌≡◌, sym, ap, ◌∙◌}
-use borrow.Author.Tests.{not-true, not-false}
-use Rattle.bits.specs.Answer.{outcome}
+use mathlib.Core.Path.{◌≡◌, sym, ◌∙◌}
+use Rattle.std.proofs.lemmas.Result.{err_from_is_err_and}
 use Rattle.bits.specs.Bounds.{all_below}
 use Rattle.bits.specs.Answer.Answer.{gives}
 use Rattle.bits.proofs.TableSizes.{table_size_exact}
@@ -14,18 +13,15 @@ use Rattle.locating.proofs.Preparation.{prepared_unchecked, prepared_polarity, p
 use Rattle.locating.proofs.prepare.Goals as goal
 use Rattle.locating.proofs.prepare.Goals.{After-table_size-size, Else-not-all_below, Else-not-all_below-2}
 
-pub enum_known-checked : goal.enum_known-checked
-enum_known-checked c = c.in-Refused.in-Refused-own.keys1
-
-pub returns-in-Refused : goal.returns-in-Refused
-returns-in-Refused c = let a = c.args in prepared_unchecked a.counts a.tables.now a.kind a.polarity a.indices.now a.outputs.now a.paired a.work.now (sym c.check_tables-checked.ensures ∙ ap outcome c.in-Refused.is)
-
-pub enum_told-1 : goal.enum_told-1
-enum_told-1 c = c.in_default.in_default-own.keys2
+pub returns-in_err-check_tables : goal.returns-in_err-check_tables
+returns-in_err-check_tables c =
+    let p = err_from_is_err_and c.from_residual.result c.from_residual.ensures.1 in
+    let a = c.args in
+    rw (p.1, p.2) (prepared_unchecked a.counts a.tables.now a.kind a.polarity a.indices.now a.outputs.now a.paired a.work.now (sym c.in_err-check_tables.ensures))
 
 -- the checks of the tables are passed
 passed : (c : After-table_size-size) → let a = c.args in tables_checked a.counts a.tables.now ≡ gives tt
-passed c = sym c.check_tables-checked.ensures ∙ ap outcome c.in_default.is
+passed c = sym c.in_ok-check_tables.ensures
 
 -- the size is the number of coefficients
 sized : (c : After-table_size-size) → c.table_size-size.result ≡ 2 ^ c.args.counts.inputs
@@ -35,21 +31,21 @@ pub returns-then-size-polarity : goal.returns-then-size-polarity
 returns-then-size-polarity c = let a = c.args in prepared_polarity a.counts a.tables.now a.kind a.polarity a.indices.now a.outputs.now a.paired a.work.now (passed (goal.at.returns-then-size-polarity c).After-table_size-size) (sized (goal.at.returns-then-size-polarity c).After-table_size-size) c.if-size-polarity.true
 
 pub returns-then-not-all_below : goal.returns-then-not-all_below
-returns-then-not-all_below c = let a = c.args in prepared_index a.counts a.tables.now a.kind a.polarity a.indices.now a.outputs.now a.paired a.work.now (passed (goal.at.returns-then-not-all_below c).After-table_size-size) (sized (goal.at.returns-then-not-all_below c).After-table_size-size) c.if-size-polarity.false (sym c.all_below.ensures ∙ not-true c.all_below.result c.if-not-all_below.true-raw)
+returns-then-not-all_below c = let a = c.args in prepared_index a.counts a.tables.now a.kind a.polarity a.indices.now a.outputs.now a.paired a.work.now (passed (goal.at.returns-then-not-all_below c).After-table_size-size) (sized (goal.at.returns-then-not-all_below c).After-table_size-size) c.if-size-polarity.false (sym c.all_below.ensures ∙ c.if-not-all_below.true)
 
 -- the indices are below the number of coefficients
 indices_below : (c : Else-not-all_below) → all_below c.table_size-size.result c.args.indices.now ≡ true
-indices_below c = sym c.all_below.ensures ∙ not-false c.all_below.result c.if-not-all_below.false-raw
+indices_below c = sym c.all_below.ensures ∙ c.if-not-all_below.false
 
 pub returns-then-not-all_below-2 : goal.returns-then-not-all_below-2
-returns-then-not-all_below-2 c = let a = c.args in prepared_output a.counts a.tables.now a.kind a.polarity a.indices.now a.outputs.now a.paired a.work.now (passed (goal.at.returns-then-not-all_below-2 c).After-table_size-size) (sized (goal.at.returns-then-not-all_below-2 c).After-table_size-size) c.if-size-polarity.false (indices_below (goal.at.returns-then-not-all_below-2 c).Else-not-all_below) (sym c.all_below-2.ensures ∙ not-true c.all_below-2.result c.if-not-all_below-2.true-raw)
+returns-then-not-all_below-2 c = let a = c.args in prepared_output a.counts a.tables.now a.kind a.polarity a.indices.now a.outputs.now a.paired a.work.now (passed (goal.at.returns-then-not-all_below-2 c).After-table_size-size) (sized (goal.at.returns-then-not-all_below-2 c).After-table_size-size) c.if-size-polarity.false (indices_below (goal.at.returns-then-not-all_below-2 c).Else-not-all_below) (sym c.all_below-2.ensures ∙ c.if-not-all_below-2.true)
 
 -- the outputs are below their number
 outputs_below : (c : Else-not-all_below-2) → all_below c.args.counts.outputs c.args.outputs.now ≡ true
-outputs_below c = sym c.all_below-2.ensures ∙ not-false c.all_below-2.result c.if-not-all_below-2.false-raw
+outputs_below c = sym c.all_below-2.ensures ∙ c.if-not-all_below-2.false
 
 pub returns-then-not-paired : goal.returns-then-not-paired
-returns-then-not-paired c = let a = c.args in prepared_readings a.counts a.tables.now a.kind a.polarity a.indices.now a.outputs.now a.paired a.work.now (passed (goal.at.returns-then-not-paired c).After-table_size-size) (sized (goal.at.returns-then-not-paired c).After-table_size-size) c.if-size-polarity.false (indices_below (goal.at.returns-then-not-paired c).Else-not-all_below) (outputs_below (goal.at.returns-then-not-paired c).Else-not-all_below-2) (not-true a.paired c.if-not-paired.true-raw)
+returns-then-not-paired c = let a = c.args in prepared_readings a.counts a.tables.now a.kind a.polarity a.indices.now a.outputs.now a.paired a.work.now (passed (goal.at.returns-then-not-paired c).After-table_size-size) (sized (goal.at.returns-then-not-paired c).After-table_size-size) c.if-size-polarity.false (indices_below (goal.at.returns-then-not-paired c).Else-not-all_below) (outputs_below (goal.at.returns-then-not-paired c).Else-not-all_below-2) c.if-not-paired.true
 
 pub returns : goal.returns
-returns c = let a = c.args in prepared_filled a.counts a.tables.now a.kind a.polarity a.indices.now a.outputs.now a.paired a.work.now (passed (goal.at.returns c).After-table_size-size) (sized (goal.at.returns c).After-table_size-size) c.if-size-polarity.false (indices_below (goal.at.returns c).Else-not-all_below) (outputs_below (goal.at.returns c).Else-not-all_below-2) (not-false a.paired c.if-not-paired.false-raw) c.fill.ensures
+returns c = let a = c.args in prepared_filled a.counts a.tables.now a.kind a.polarity a.indices.now a.outputs.now a.paired a.work.now (passed (goal.at.returns c).After-table_size-size) (sized (goal.at.returns c).After-table_size-size) c.if-size-polarity.false (indices_below (goal.at.returns c).Else-not-all_below) (outputs_below (goal.at.returns c).Else-not-all_below-2) c.if-not-paired.false c.fill.ensures

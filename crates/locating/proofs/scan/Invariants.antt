@@ -8,4 +8,4 @@ use Rattle.locating.proofs.Scans.{Scanned}
 use Rattle.locating.proofs.scan.Given as goal
 
 abbrev pub invariant-loop-c : goal.invariant-loop-c
-invariant-loop-c l = Scanned (part_in l.counts.parts) (λ r. same_numbers (numbers_at l.work (r * l.width) l.size (entries_at l.indices l.outputs)) l.readings) l.c l.seen
+invariant-loop-c l = Scanned (part_in l.counts.parts) (λ r. same_numbers (numbers_at l.work (r * l.width) l.size (entries_at l.observed.indices.now l.observed.outputs.now)) l.observed.readings.now) l.c l.seen

@@ -13,6 +13,9 @@ tested c = let h = c.contains.ensures.value in search (rules, tests)
 pub returns-then-not-contains : goal.returns-then-not-contains
 returns-then-not-contains c = tables_unfit c.args.counts c.args.tables.now (sym (tested (goal.at.returns-then-not-contains c).After-contains) ∙ c.if-not-contains.true)
 
+pub tables_ok-requires : goal.tables_ok-requires
+tables_ok-requires c = sym (tested (goal.at.tables_ok-requires c).After-contains) ∙ c.if-not-contains.false
+
 pub returns-then-not-tables_ok : goal.returns-then-not-tables_ok
 returns-then-not-tables_ok c =
     tables_wrong c.args.counts c.args.tables.now (sym (tested (goal.at.returns-then-not-tables_ok c).After-contains) ∙ c.if-not-contains.false)

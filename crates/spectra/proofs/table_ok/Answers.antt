@@ -2,13 +2,14 @@
 use native.Mathlib.Omega.{arith}
 use mathlib.Core.Path.{◌≡◌}
 use Rattle.bits.specs.Sizes.{table_bytes}
-use Rattle.bits.proofs.TableSizes.{table_bytes_exact, fifteen_few}
+use Rattle.bits.proofs.TableSizes.{table_bytes_exact}
+use Rattle.spectra.proofs.ValidInputs.{inputs_some, inputs_word}
 use Rattle.spectra.proofs.TableTests.{bytes_some, table_length, table_one, table_two, table_full}
 use Rattle.spectra.proofs.table_ok.Goals as goal
 use Rattle.spectra.proofs.table_ok.Goals.{After-table_bytes}
 
 sized : (c : After-table_bytes) → c.table_bytes.result ≡ table_bytes c.args.n
-sized c = table_bytes_exact (fifteen_few c.requires.1) c.table_bytes.ensures
+sized c = table_bytes_exact (inputs_word c.requires) c.table_bytes.ensures
 
 pub returns-then-table-table_bytes : goal.returns-then-table-table_bytes
 returns-then-table-table_bytes c = table_length c.args.n c.args.table.now (sized (goal.at.returns-then-table-table_bytes c).After-table_bytes) c.if-table-table_bytes.true
@@ -26,4 +27,4 @@ pub returns-in-2 : goal.returns-in-2
 returns-in-2 c = table_two c.args.n c.args.table.now (sized (goal.at.returns-in-2 c).After-table_bytes) c.if-table-table_bytes.false c.in-2.is
 
 pub returns-in_default : goal.returns-in_default
-returns-in_default c = table_full c.args.n c.args.table.now (sized (goal.at.returns-in_default c).After-table_bytes) c.if-table-table_bytes.false (omega arith)
+returns-in_default c = table_full c.args.n c.args.table.now (sized (goal.at.returns-in_default c).After-table_bytes) c.if-table-table_bytes.false (omega (arith, inputs_some c.requires))

@@ -21,7 +21,7 @@ tested c =
 pub rows_ok-requires : goal.rows_ok-requires
 rows_ok-requires c =
     let fits = sym (tested (goal.at.rows_ok-requires c).Joined-counts-le-MAX_FAULTS) ∙ c.if-contains.true in
-    (c.requires.0, c.requires.1, rows_few (counted_faults c.args.counts fits) (counted_outputs c.args.counts fits))
+    (c.requires, rows_few (counted_faults c.args.counts fits) (counted_outputs c.args.counts fits))
 
 pub returns-then-contains : goal.returns-then-contains
 returns-then-contains c =

@@ -3,7 +3,7 @@ use Rattle.std.proofs.Common.{◌≡◌, ◌≤◌, true, sym, ◌∙◌, arith,
 use lib.ListN.{length-take}
 use Rattle.job.specs.Check.{inputs_ok}
 use Rattle.job.specs.Layout.{max_inputs}
-use Rattle.spectra.proofs.Recovery.{inputs_some, inputs_most, entries_most, lent_of, undo_unfit, undo_polarity, undo_count}
+use Rattle.spectra.proofs.Recovery.{entries_most, lent_of, undo_unfit, undo_polarity, undo_count}
 use Rattle.spectra.proofs.undo.Goals as goal
 use Rattle.spectra.proofs.undo.Goals.{After-contains, After-table_size-size}
 
@@ -17,7 +17,7 @@ valid c = (let h = c.contains.ensures.value in search (rules, tests))
 
 few : (c : After-table_size-size) → c.table_size-size.result ≤ 256
 unfolding max_inputs
-few c = entries_most c.table_size-size.ensures (inputs_most (valid c))
+few c = entries_most c.args.n c.table_size-size.ensures (valid c)
 
 pub returns-then-not-contains : goal.returns-then-not-contains
 returns-then-not-contains c = let a = c.args in undo_unfit a.n a.numbers.now a.kind a.polarity a.out.now (sym (tested (goal.at.returns-then-not-contains c).After-contains) ∙ c.if-not-contains.true)
@@ -44,4 +44,4 @@ pub undo_in-requires : goal.undo_in-requires
 undo_in-requires c =
     let v = valid (goal.at.undo_in-requires c).After-table_size-size in
     let m = few (goal.at.undo_in-requires c).After-table_size-size in
-    lent_of c.table_size-size.ensures (inputs_some v) (inputs_most v) c.if-size-polarity.false c.if-numbers-size.false (simp length-take (omega arith)) (simp length-take (omega arith))
+    lent_of c.table_size-size.ensures v c.if-size-polarity.false c.if-numbers-size.false (simp length-take (omega arith)) (simp length-take (omega arith))

@@ -3,7 +3,7 @@ use mathlib.Core.Bool.{true, false}
 use mathlib.Core.Path.{◌≡◌, sym, ◌∙◌}
 use borrow.Author.Tests.{not-true, not-false}
 use Rattle.spectra.specs.Operations.{is_spectrum}
-use Rattle.spectra.proofs.Recovery.{same_pointwise, inputs_lent, compares, undo_none, undo_memory, undo_done}
+use Rattle.spectra.proofs.Recovery.{same_pointwise, compares, undo_none, undo_memory, undo_done}
 use Rattle.spectra.proofs.undo_in.Goals as goal
 use Rattle.spectra.proofs.undo_in.Goals.{Then-ne, Else-ne}
 
@@ -18,10 +18,10 @@ same c =
     ∙ compares c.requires c.args.kind c.recover.new.sums c.recover.ensures c.recover.auto.sums c.fill_rows.ensures
 
 pub returns-then-ne : goal.returns-then-ne
-returns-then-ne c = let a = c.args in undo_none a.n a.numbers.now a.kind a.k a.out.now (inputs_lent c.requires) c.requires.polarity (differ (goal.at.returns-then-ne c).Then-ne)
+returns-then-ne c = let a = c.args in undo_none a.n a.numbers.now a.kind a.k a.out.now c.requires.inputs c.requires.polarity (differ (goal.at.returns-then-ne c).Then-ne)
 
 pub returns-then-out-table : goal.returns-then-out-table
-returns-then-out-table c = let a = c.args in undo_memory a.n a.numbers.now a.kind a.k a.out.now (inputs_lent c.requires) c.requires.polarity (same (goal.at.returns-then-out-table c).Else-ne) c.recover.ensures c.if-out-table.true
+returns-then-out-table c = let a = c.args in undo_memory a.n a.numbers.now a.kind a.k a.out.now c.requires.inputs c.requires.polarity (same (goal.at.returns-then-out-table c).Else-ne) c.recover.ensures c.if-out-table.true
 
 pub returns : goal.returns
-returns c = let a = c.args in undo_done a.n a.numbers.now a.kind a.k a.out.now (inputs_lent c.requires) c.requires.polarity (same (goal.at.returns c).Else-ne) c.recover.ensures c.if-out-table.false c.copy_from_slice.ensures.after
+returns c = let a = c.args in undo_done a.n a.numbers.now a.kind a.k a.out.now c.requires.inputs c.requires.polarity (same (goal.at.returns c).Else-ne) c.recover.ensures c.if-out-table.false c.copy_from_slice.ensures.after

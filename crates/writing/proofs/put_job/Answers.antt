@@ -2,24 +2,16 @@
 use Rattle.std.proofs.Common.{rules}
 use Rattle.job.specs.Layout.{input_count_bits, gate_count_bits, output_count_bits, fault_count_bits}
 use Rattle.writing.proofs.Parts.{room_inputs, room_gate_count, room_gates, room_output_count, room_outputs, room_fault_count, room_faults, room_last, job_filled}
-use Rattle.writing.proofs.Widths.{inputs_fit, gates_fit, outputs_fit, faults_fit, all_gates_fit, all_lines_fit, all_faults_fit}
+use Rattle.writing.proofs.Widths.{all_gates_fit, all_lines_fit, all_faults_fit}
 use Rattle.writing.proofs.put_job.Goals as goal
 
 pub field-requires-clause-room : goal.field-requires-clause-room
 unfolding input_count_bits
 field-requires-clause-room c = room_inputs c.args.job c.new-pen.ensures.start c.requires.room
 
-pub field-requires-clause-value_fits : goal.field-requires-clause-value_fits
-unfolding input_count_bits
-field-requires-clause-value_fits c = inputs_fit c.requires.valid
-
 pub field-requires-2-clause-room : goal.field-requires-2-clause-room
 unfolding input_count_bits gate_count_bits
 field-requires-2-clause-room c = room_gate_count c.args.job c.new-pen.ensures.start c.requires.room c.field.ensures
-
-pub field-requires-2-clause-value_fits : goal.field-requires-2-clause-value_fits
-unfolding gate_count_bits
-field-requires-2-clause-value_fits c = gates_fit c.requires.valid
 
 pub gates-requires-clause-room : goal.gates-requires-clause-room
 unfolding input_count_bits gate_count_bits
@@ -32,10 +24,6 @@ pub field-requires-3-clause-room : goal.field-requires-3-clause-room
 unfolding input_count_bits gate_count_bits output_count_bits
 field-requires-3-clause-room c = room_output_count c.args.job c.new-pen.ensures.start c.requires.room c.field.ensures c.field-2.ensures c.gates.ensures
 
-pub field-requires-3-clause-value_fits : goal.field-requires-3-clause-value_fits
-unfolding output_count_bits
-field-requires-3-clause-value_fits c = outputs_fit c.requires.valid
-
 pub outputs-requires-clause-room : goal.outputs-requires-clause-room
 unfolding input_count_bits gate_count_bits output_count_bits
 outputs-requires-clause-room c = room_outputs c.args.job c.new-pen.ensures.start c.requires.room c.field.ensures c.field-2.ensures c.gates.ensures c.field-3.ensures
@@ -47,10 +35,6 @@ pub field-requires-4-clause-room : goal.field-requires-4-clause-room
 unfolding input_count_bits gate_count_bits output_count_bits fault_count_bits
 field-requires-4-clause-room c =
     room_fault_count c.args.job c.new-pen.ensures.start c.requires.room c.field.ensures c.field-2.ensures c.gates.ensures c.field-3.ensures c.outputs.ensures
-
-pub field-requires-4-clause-value_fits : goal.field-requires-4-clause-value_fits
-unfolding fault_count_bits
-field-requires-4-clause-value_fits c = faults_fit c.requires.valid
 
 pub faults-requires-clause-room : goal.faults-requires-clause-room
 unfolding input_count_bits gate_count_bits output_count_bits fault_count_bits

@@ -1,8 +1,0 @@
--- `agrees` meets its contract: the numbers passed are the readings.
-use Rattle.spectra.specs.Listed.{entries_at}
-use Rattle.spectra.proofs.Recovery.{Comparing}
-use Rattle.locating.specs.Scanning.{numbers_at}
-use Rattle.locating.proofs.agrees.Given as goal
-
-abbrev pub invariant-loop-i : goal.invariant-loop-i
-invariant-loop-i l = Comparing (numbers_at l.work l.start l.size (entries_at l.indices l.outputs)) l.readings l.i
