@@ -1,7 +1,5 @@
 -- Circuits worked out side by side, line after line (specs/Work.antt).
 --
---   side_none      no line is worked out yet
---   side_fewer     fewer lines are
 --   side_kept      rows before a line's block that are as they were
 --   side_next      the lines before, and one more
 --   gate_inside    the number of the gate that drives a line is an index of the record's gates
@@ -32,7 +30,7 @@ use Rattle.gates.proofs.Answers.{kind_lt}
 use Rattle.tables.specs.Circuit.{fixing_of}
 use Rattle.bits.specs.Blocks.{block}
 use Rattle.tables.specs.Sizes.{shape_of}
-use Rattle.tables.specs.Work.{row_at, row_of, fixes_line, FixedIn, Unfixed, Good, side_table, Side, Blocked, Made}
+use Rattle.tables.specs.Work.{row_at, row_of, fixes_line, FixedIn, Unfixed, side_table, Side, Blocked, Made}
 use Rattle.tables.specs.declared.evaluator.Batch.{Batch}
 use Rattle.tables.specs.declared.rows.Shape.{Shape}
 use Rattle.tables.proofs.Blocks.{tabulate_block, block_row, block_kept}
@@ -41,12 +39,6 @@ use Rattle.tables.proofs.LineTables.{input_table, gate_table}
 use Rattle.tables.proofs.ShapedRows.{gate_columns}
 use Rattle.tables.proofs.Space.{Sound, line_index, row_before, block_inside}
 use Rattle.tables.proofs.Values.{first_below, second_below}
-
-pub side_none : {j : Job} {b : Batch} {rows : List ℕ} → (1 ≤ b.first → Good j rows) → Side j b 0 rows
-side_none good = record { good = good; line = λ l i h. absurd (omega arith) }
-
-pub side_fewer : {j : Job} {b : Batch} {k next : ℕ} {rows : List ℕ} → k ≤ next → Side j b next rows → Side j b k rows
-side_fewer h side = record { good = side.good; line = λ l i less. side.line l i (omega arith) }
 
 pub side_kept : (j : Job) (b : Batch) (l : ℕ) (rows after : List ℕ) → (1 ≤ b.first → lines j ≤ b.base) → Side j b l rows
     → ((k : ℕ) → k < row_of b l → row_at j k after ≡ row_at j k rows) → Side j b l after

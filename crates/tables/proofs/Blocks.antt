@@ -11,11 +11,9 @@
 --   placed_none      it has put nothing yet
 --   placed_length    the bytes are as many as before
 --   placed_room, placed_one   there is room for the next lists, or the next one
---   placed_place     their place fits a word, and so does its distance from the first (placed_offset)
---   placed_width     so does the length of a list, where there is one to put
 --   placed_next, placed_more   so many lists more, or one, are put
 --   placed_all       all are put
-use Prim.Native.Nat.{ℕ, zero, suc, ◌+◌, ◌*◌, ◌^◌, ◌≤◌, ◌<◌, zero-le}
+use Prim.Native.Nat.{ℕ, zero, suc, ◌+◌, ◌*◌, ◌≤◌, ◌<◌, zero-le}
 use native.Mathlib.Omega.{arith}
 use native.Mathlib.Nat.{add-zero, add_assoc, add-mul, suc-mul, zero-mul, one-mul, not-suc-le-zero, le_of_suc-le-suc, eq-or-lt_of_le, le_antisymm, mul-le-mul_right}
 use mathlib.Core.Path.{◌≡◌, sym, ap, ap₂, ◌∙◌}
@@ -23,8 +21,6 @@ use mathlib.Core.List.{List, [], ◌∷◌, ◌++◌, append_assoc, append-nil}
 use mathlib.Core.Logic.{⊎_elim}
 use lib.ListN.{length, take, drop, length-append, length-take, length-drop, take-append-drop}
 use lib.Seq.{length-take-le, take_at, drop_at, drop-drop, drop-append-add}
-use mir.Syntax.{w64}
-use mir.Val.{Fits}
 use Rattle.bits.specs.Packed.{tabulate}
 use Rattle.bits.proofs.Blocks.{block_append, length_below, length_block}
 use Rattle.bits.specs.Slices.{slice, splice}
@@ -157,16 +153,6 @@ module _ {start : List ℕ} {to count width : ℕ} {f : ℕ → List ℕ} where
 
     pub placed_one : i < count → to + i * width + width ≤ length out
     placed_one h = omega (arith, placed_room 1 (omega arith), one-mul width)
-
-    module _ (short : length start < 2 ^ 64) where
-      pub placed_place : Fits w64 (to + i * width)
-      placed_place = record { fits = omega (arith, next_end 0 (omega (arith, p.within))) }
-
-      pub placed_offset : Fits w64 (i * width)
-      placed_offset = record { fits = omega (arith, next_end 0 (omega (arith, p.within))) }
-
-      pub placed_width : i < count → Fits w64 width
-      placed_width h = record { fits = omega (arith, next_end 1 (omega arith), one-mul width) }
 
     pub placed_next : (n : ℕ) {put : List ℕ} → i + n ≤ count → put ≡ splice out (to + i * width) (block n (λ k. f (i + k)))
         → Placed start to count width f put (i + n)

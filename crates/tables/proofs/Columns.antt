@@ -5,9 +5,8 @@
 --   low_index, high_index   the lines that a fault fixes are indices of an array of lines
 --   FixedTo       the sets, for the first columns
 --   fixed_good    the good circuit fixes no line
---   fixed_none, fixed_next, fixed_all   no column yet, one more, all
+--   fixed_none, fixed_next   no column yet, one more
 use Prim.Native.Nat.{ℕ, zero, suc, ◌+◌, ◌-◌, ◌≤◌, ◌<◌}
-use native.Mathlib.Nat.{le_antisymm}
 use native.Mathlib.Omega.{arith}
 use native.Mathlib.Decide.{ℕ_discrete}
 use mathlib.Core.Path.{◌≡◌, refl, sym, ap, subst, ◌∙◌}
@@ -150,7 +149,3 @@ module _ {j : Job} {first count i : ℕ} {of : List ℕ} (w : FixedTo j first co
   fixed_next {a} {b} ea eb =
       subst (λ (v : ℕ). FixedTo j first count (i + 1) (set (set of low a) high v)) (sym eb)
       (subst (λ (v : ℕ). FixedTo j first count (i + 1) (set (set of low v) high (joined (get_or (set of low v) high 0) i))) (sym ea) noted)
-
-pub fixed_all : {j : Job} {b : Batch} {i : ℕ} {of : List ℕ} → FixedTo j b.first b.count i of → b.count ≤ i → FixedIn j b of
-fixed_all {j} {b} {i} {of} w h =
-    record { columns = λ l k below. w.columns l k below ∙ ap (λ (n : ℕ). ltb k n && fixes_line j (b.first + k) l) (le_antisymm w.within h) }

@@ -1,16 +1,14 @@
 -- What puts the tables of circuits into lent bytes (the functions `put_column`, `put_columns`, `put_batch`, `put_good`, `put_table`, `put_tables` and `put_faults`).
 --
 --   row_there        a row of a column ends within the rows
---   row_place        so its block's place fits a word, and so do its place in the block and its own (row_offset, row_start)
 --   length_rows      a column's rows at the lines asked for have a table's bytes each
 --   rows_none, rows_more   none of them is put yet, and one more is put
 --   batch_there      a batch's rows are there
 --   batch_room       there is room for its tables
 --   batch_put        they are put
---   good_room, good_put   so for the good circuit, which is a batch by itself
+--   good_put         so are those of the good circuit, which is a batch by itself
 --   single_put       the tables of one faulty circuit, over the good circuit's
 --   first_room       there is room for the good circuit's tables where there is for all
---   step_fits_lem    so their bytes fit a word
 --   tables_put       the tables of all circuits are put
 --   Putting          the tables of the first faulty circuits are put, and the good circuit's rows stand
 --   putting_start    none is put yet
@@ -56,16 +54,6 @@ module _ {b : Batch} {bytes : ℕ} {asked : List ℕ} {room i : ℕ} (r : RowsTh
         add-mul (row_of b (get_or asked p 0)) b.count bytes,
         r.there p l,
       )
-
-  module _ (short : room < 2 ^ 64) where
-    pub row_place : row_of b (get_or asked p 0) * bytes < 2 ^ 64
-    row_place = omega (arith, row_there, add-mul (row_of b (get_or asked p 0)) i bytes)
-
-    pub row_offset : Fits w64 (i * bytes)
-    row_offset = record { fits = omega (arith, row_there, add-mul (row_of b (get_or asked p 0)) i bytes) }
-
-    pub row_start : {at : ℕ} → at ≡ row_of b (get_or asked p 0) * bytes → Fits w64 (at + i * bytes)
-    row_start e = record { fits = omega (arith, row_there, add-mul (row_of b (get_or asked p 0)) i bytes) }
 
 module _ {b : Batch} {bytes : ℕ} {asked : List ℕ} {i : ℕ} (rows : List ℕ) (r : RowsThere b bytes asked (length rows)) (h : i < b.count) where
   length_row : (p : ℕ) → p < length asked → length (asked_row b bytes asked rows i p) ≡ bytes
@@ -116,9 +104,6 @@ module _ (j : Job) (asked : List ℕ) where
   abbrev step : ℕ
   step = length asked * table_bytes j.inputs
 
-  pub good_room : {size : ℕ} → step ≤ size → 0 + 1 * step ≤ size
-  good_room h = omega (arith, one-mul step)
-
   pub good_put : (out : List ℕ) {put : List ℕ} → put ≡ splice out 0 (tables_from j asked 0 1) → put ≡ splice out 0 (tables_at j asked 0)
   good_put out e = e ∙ ap (splice out 0) (tables_single j asked 0)
 
@@ -133,9 +118,6 @@ module _ (j : Job) (asked : List ℕ) where
 
   pub first_room : {size : ℕ} → (j.fault_count + 1) * step ≤ size → step ≤ size
   first_room h = omega (arith, first_end j.fault_count)
-
-  pub step_fits_lem : {shape : Shape} {size : ℕ} → shape ≡ shape_of j.inputs → (j.fault_count + 1) * step ≤ size → size < 2 ^ 64 → length asked * shape.bytes < 2 ^ 64
-  step_fits_lem shaped h short = omega (arith, first_room h, ap (λ (k : ℕ). length asked * k) (shape_bytes j shaped))
 
   pub tables_put : (start : List ℕ) {mid out : List ℕ} → (j.fault_count + 1) * step ≤ length start → mid ≡ splice start 0 (tables_at j asked 0)
       → out ≡ splice mid step (tables_from j asked 1 j.fault_count) → out ≡ splice start 0 (tables_from j asked 0 (j.fault_count + 1))

@@ -2,7 +2,6 @@
 --
 --   made_done        no column is left: the line is done
 --   Mending          a line's block is made but for the columns that are left
---   mending_none     no column is put yet
 --   mending_column   the lowest column that is left is one of the batch, and its place fits a word (mending_offset, mending_place)
 --   mending_faulty   the batch's circuits are faulty
 --   mending_index    the column's fault is one of the record's
@@ -12,7 +11,7 @@ use Prim.Native.Nat.{ℕ, zero, suc, ◌+◌, ◌-◌, ◌*◌, ◌^◌, ◌≤�
 use native.Mathlib.Omega.{arith}
 use native.Mathlib.Nat.{add-mul}
 use native.Mathlib.Decide.{ℕ_discrete}
-use mathlib.Core.Path.{◌≡◌, refl, sym, ap, subst, ◌∙◌}
+use mathlib.Core.Path.{◌≡◌, sym, ap, subst, ◌∙◌}
 use mathlib.Core.Bool.{Bool, true, false, not, ◌&&◌, and-true, true≢false}
 use mathlib.Core.List.{List}
 use mathlib.Core.Logic.{⊎_elim}
@@ -54,10 +53,6 @@ pub record Mending (j : Job) (b : Batch) (l : ℕ) (start : List ℕ) (left : �
   pub long : length rows ≡ length start
   pub word : left < 2 ^ 64
   pub made : Made j b l left rows
-
-pub mending_none : {j : Job} {b : Batch} {l columns left : ℕ} {rows : List ℕ} → columns < 2 ^ 64 → Made j b l columns rows → left ≡ columns → Mending j b l rows left rows
-mending_none {j} {b} {l} {columns} {left} {rows} word made e =
-    subst (λ (s : ℕ). Mending j b l rows s rows) (sym e) (record { long = refl; word = word; made = made })
 
 module _ {j : Job} {shape : Shape} {b : Batch} {l left : ℕ} {start rows : List ℕ} (sound : Sound j shape b start) (below : l < lines j)
     (m : Mending j b l start left rows) {i rest : ℕ} (f : First left i rest) where

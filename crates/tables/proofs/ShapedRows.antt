@@ -8,7 +8,6 @@
 --   bridge_spliced      so for a bridge
 --   gate_columns        the gate step over blocks, table by table
 --   fixed_stuck, fixed_bridge   what the code puts for a fault is the table that the fault gives its lines
---   low_fits, high_fits         the places of the tables that a bridge reads fit a word
 --   gate_stepped        the gate step over blocks finds its places
 use Prim.Native.Nat.{ℕ, ◌+◌, ◌-◌, ◌*◌, ◌^◌, ◌≤◌, ◌<◌}
 use native.Mathlib.Nat.{add_assoc, add-mul}
@@ -19,8 +18,6 @@ use mathlib.Core.List.{List}
 use lib.Bits.{bit_and}
 use lib.ListN.{length, get_or}
 use lib.Pow.{pow-add}
-use mir.Syntax.{w64}
-use mir.Val.{Fits}
 use Rattle.bits.specs.Packed.{tabulate, packed, entry}
 use Rattle.bits.proofs.Digits.{digit_above}
 use Rattle.bits.proofs.Packed.{tabulate_ext}
@@ -157,12 +154,6 @@ module _ (shape : Shape) (to : ℕ) (rows : List ℕ) (x : Fault) (below : Below
       bridge_spliced shape (a * shape.bytes) (b * shape.bytes) to rows
       (subst (λ (y : Fault). Below shape (fault_a y * shape.bytes) (fault_b y * shape.bytes) to rows) is below) is_and polynomial formed e
       ∙ ap (λ (y : Fault). splice rows to (fixed_row shape y rows)) (sym is)
-
-  pub low_fits : length rows < 2 ^ 64 → {a b : ℕ} {is_and : Bool} → x ≡ Bridge a b is_and → Fits w64 (a * shape.bytes)
-  low_fits short is = record { fits = omega (arith, below.at.room, below.first, ap (λ (y : Fault). fault_a y * shape.bytes) is) }
-
-  pub high_fits : length rows < 2 ^ 64 → {a b : ℕ} {is_and : Bool} → x ≡ Bridge a b is_and → Fits w64 (b * shape.bytes)
-  high_fits short is = record { fits = omega (arith, below.at.room, below.second, ap (λ (y : Fault). fault_b y * shape.bytes) is) }
 
 -- the gate step over the blocks of a gate's line and of the lines that it reads
 pub gate_stepped : (b : Batch) (line p q bytes : ℕ) (rows : List ℕ) → p < line → q < line → row_of b line * bytes + b.count * bytes ≤ length rows

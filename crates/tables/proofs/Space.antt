@@ -9,14 +9,13 @@
 --   row_order         a row before another ends before it
 --   times_some        a factor of a product that fits a word fits one
 --   Sound             a valid job's shape, and rows for a batch of circuits
---   good_stands, faulty_stands   where there are rows for a batch, a batch has its rows
+--   faulty_stands     where there are rows for a batch, a batch has its rows
 --   stands_kept       so have rows of the same length
 --   rows_kept, rows_fewer   there are rows where rows have the same length, and for fewer circuits
 --   shape_bytes, sound_bytes   the shape has the table's bytes, one or more (shape_some, sound_some)
 --   sound_kept       rows of the same length stay sound
 --   sound_inputs, sound_few, sound_shaped   the shape is that of the job's inputs, which are few
 --   block_before     a line's block ends before those of later lines
---   reads_small      so the place of a block that is read fits a word
 --   row_before       the rows of a line's block are before those of later lines
 --   row_inside       a row of a line's block lies within the rows, and so does the block (block_inside, block_room)
 --   place_small      the block's place fits a word, and so do the place and the bytes of a row in it (column_fits, offset_fits)
@@ -25,7 +24,7 @@
 use Prim.Native.Nat.{ℕ, ◌+◌, ◌-◌, ◌*◌, ◌^◌, ◌≤◌, ◌<◌}
 use native.Mathlib.Nat.{le_trans, mul-le-mul_left, mul-le-mul_right, suc-mul, add-mul, mul-one}
 use native.Mathlib.Omega.{arith}
-use mathlib.Core.Path.{◌≡◌, refl, sym, ap, subst, ◌∙◌}
+use mathlib.Core.Path.{◌≡◌, sym, ap, subst, ◌∙◌}
 use mathlib.Core.List.{List}
 use lib.ListN.{length}
 use lib.Pow.{pow_mono, pow_pos}
@@ -83,16 +82,6 @@ stands_kept {j} {b} e s =
     }
 
 module _ {j : Job} {width : ℕ} {rows : List ℕ} (r : RowsFor j width rows) where
-  pub good_stands : Stands j (record { base = 0; first = 0; count = 1 }) rows
-  good_stands =
-      let few : 0 + lines j * 1 ≤ lines j + lines j * width = omega (arith, mul-one (lines j)) in
-      record {
-        room = le_trans (mul-le-mul_right (table_bytes j.inputs) few) r.room;
-        behind = λ h. absurd (omega arith);
-        within = omega arith;
-        alone = λ _. (refl, refl);
-      }
-
   pub faulty_stands : {first : ℕ} → 1 ≤ first → first + width ≤ j.fault_count + 1 → Stands j (record { base = lines j; first = first; count = width }) rows
   faulty_stands some h = record { room = r.room; behind = λ _. omega arith; within = h; alone = λ none. absurd (omega (arith, none)) }
 
@@ -115,10 +104,6 @@ pub block_before : (b : Batch) (k l bytes : ℕ) → k < l → row_of b k * byte
 block_before b k l bytes h =
     let e : row_of b k + b.count ≤ row_of b l = omega (arith, mul-le-mul_right b.count h, suc-mul k b.count) in
     omega (arith, mul-le-mul_right bytes e, add-mul (row_of b k) b.count bytes)
-
-pub reads_small : (b : Batch) (l bytes : ℕ) (rows : List ℕ) {k a : ℕ} → k < l → a ≡ k → row_of b l * bytes + b.count * bytes ≤ length rows
-    → length rows < 2 ^ 64 → row_of b a * bytes < 2 ^ 64
-reads_small b l bytes rows {k} {a} h e room short = omega (arith, block_before b k l bytes h, ap (λ (n : ℕ). row_of b n * bytes) e)
 
 pub row_before : (b : Batch) (k l i : ℕ) → k < l → i < b.count → row_of b k + i < row_of b l
 row_before b k l i h less = omega (arith, mul-le-mul_right b.count h, suc-mul k b.count)

@@ -5,12 +5,12 @@
 --   length_tables_to     the tables of c circuits have c times as many
 --   rows_one, rows_block   the lent rows have room for the good circuit and one more, or as many as fit a block
 --   all_tables_room     all tables of a valid job are no more bytes than those of the most circuits at the most outputs
---   table_count_fits    so they fit a usize, and so does how many tables they are (tables_fit)
+--   table_count_fits    so they fit a usize
 --   side_good           a batch leaves the good circuit's rows, whether it is the good circuit or stands behind it
 --   side_tables         the rows of a batch at some lines are the tables of its circuits there
 --   length_tables       so many tables of a circuit have table_bytes bytes each
 --   one_asked, one_room, one_put   one output is asked for: a line of the circuit, room for one table, and the circuit's table there is put
---   all_asked, all_room, all_put   so for all outputs
+--   all_room, all_put   so for all outputs
 --   tables_single       a batch of one circuit
 --   tables_all          the good circuit's tables, and then those of the faulty circuits
 use Prim.Native.Nat.{ℕ, ◌+◌, ◌-◌, ◌*◌, ◌/◌, ◌^◌, ◌≤◌, ◌<◌}
@@ -39,7 +39,7 @@ use Rattle.tables.specs.declared.evaluator.Batch.{Batch}
 use Rattle.bits.proofs.Blocks.{block_ext, block_append, length_block}
 use Rattle.tables.proofs.Blocks.{length_slice, splice_append}
 use Rattle.tables.proofs.Sizes.{all_tables_fit}
-use Rattle.tables.proofs.Space.{lines_most, table_bytes_most, bytes_some, times_some}
+use Rattle.tables.proofs.Space.{lines_most, table_bytes_most}
 
 -- a row and a block a line
 side_by_side : (lines width bytes : ℕ) → (lines + lines * width) * bytes ≡ lines * (bytes + width * bytes)
@@ -82,9 +82,6 @@ module _ (j : Job) (v : Valid j) where
 
   pub table_count_fits : Fits w64 (tables_bytes j)
   table_count_fits = record { fits = lt_of_le_of_lt all_tables_room all_tables_fit }
-
-  pub tables_fit : Fits w64 ((j.fault_count + 1) * j.output_count)
-  tables_fit = record { fits = times_some ((j.fault_count + 1) * j.output_count) (table_bytes j.inputs) (bytes_some j.inputs) table_count_fits.fits }
 
 -- the good circuit is the batch of circuit 0
 alone_good : (j : Job) (b : Batch) (rows : List ℕ) → b.first ≡ 0 → b.base ≡ 0 → b.count ≡ 1 → Side j b (lines j) rows → Good j rows
@@ -157,9 +154,6 @@ module _ (j : Job) (v : Valid j) (inside : j.output_count ≤ length j.outputs) 
         e
         ∙ ap (splice out 0)
         (asked_tables j o (o + 1 - o) one_inside c ∙ ap (λ (k : ℕ). block k (λ p. circuit_table j c (o + p))) one ∙ ap (circuit_table j c) (add-zero o))
-
-  pub all_asked : Asked j (take j.output_count j.outputs)
-  all_asked = asked_valid j 0 j.output_count (omega arith) v (omega arith)
 
   pub all_room : {size : ℕ} → tables_bytes j ≤ size → (j.fault_count + 1) * (length (take j.output_count j.outputs) * table_bytes j.inputs) ≤ size
   all_room {size} room =

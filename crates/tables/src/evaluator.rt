@@ -25,7 +25,7 @@ pub(crate) const MAX_LINES: usize = MAX_INPUTS + MAX_GATES;
 
 // `count` circuits from number `first` on. The table of line l of circuit first + i is row base + l * count + i, so that
 // the tables of one line are a block. The good circuit is a batch by itself.
-#[derive(Clone, Copy)]
+#[derive(Clone, Copy, Debug, PartialEq, Eq)]
 pub(crate) struct Batch {
     base: usize,
     first: usize,

@@ -83,11 +83,12 @@ impl Shape {
     fn bridge_polynomial(self, is_and: bool) -> Polynomial
         ensures { result ≡ kind_polynomial (cond is_and 0 1) self.mask }
     {
-        if is_and {
-            gates::polynomial_of(Gate::Binary(BinaryKind::And, 0, 0), self.mask)
+        let kind = if is_and {
+            BinaryKind::And
         } else {
-            gates::polynomial_of(Gate::Binary(BinaryKind::Or, 0, 0), self.mask)
-        }
+            BinaryKind::Or
+        };
+        gates::polynomial_of(Gate::Binary(kind, 0, 0), self.mask)
     }
 
     // The table that a fault gives its lines: a level, or the bridge of the good circuit's tables of the two lines,

@@ -16,7 +16,7 @@ use Rattle.job.specs.Layout.{max_inputs, max_gates}
 use Rattle.tables.specs.Operations.{tables_bytes}
 use Rattle.tables.specs.Work.{max_table_bytes, block_bytes, all_row_bytes}
 use Rattle.tables.proofs.Answers.{tables_unread, tables_memory, tables_done}
-use Rattle.tables.proofs.WrittenTables.{rows_block, table_count_fits, tables_fit, all_asked, all_room, all_put}
+use Rattle.tables.proofs.WrittenTables.{rows_block, table_count_fits, all_room, all_put}
 use Rattle.tables.proofs.tables.Goals as goal
 use Rattle.tables.proofs.tables.Goals.{In_ok-job, After-new-circuits}
 
@@ -37,9 +37,6 @@ sized c =
 pub new-circuits-requires : goal.new-circuits-requires
 new-circuits-requires c = valid (goal.at.new-circuits-requires c).In_ok-job
 
-pub overflow_mul-bytes : goal.overflow_mul-bytes
-overflow_mul-bytes c = tables_fit _ (valid (goal.at.overflow_mul-bytes c).In_ok-job)
-
 pub overflow_mul-bytes-2 : goal.overflow_mul-bytes-2
 overflow_mul-bytes-2 c = subst (λ (k : ℕ). Fits w64 k) (sym (sized c)) (table_count_fits _ (valid (goal.at.overflow_mul-bytes-2 c).In_ok-job))
 
@@ -51,9 +48,6 @@ slice_bounds-lines-end c = inside (goal.at.slice_bounds-lines-end c).In_ok-job
 
 pub slice_bounds-asked-end : goal.slice_bounds-asked-end
 slice_bounds-asked-end c = sym (length-take-le _ _ (inside (goal.at.slice_bounds-asked-end c).In_ok-job))
-
-pub invariant_of-listing : goal.invariant_of-listing
-invariant_of-listing c = let p = (goal.at.invariant_of-listing c).In_ok-job in rw c.new-circuits.ensures (record { lie = all_asked _ (valid p) (inside p) })
 
 pub put_tables-requires : goal.put_tables-requires
 unfolding all_row_bytes block_bytes max_inputs max_gates max_table_bytes

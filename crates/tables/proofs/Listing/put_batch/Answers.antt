@@ -8,9 +8,6 @@ use Rattle.tables.proofs.Listing.put_batch.Goals.{After-work_out}
 worked : (c : After-work_out) → Sound c.args.self.now.circuits.job.now c.args.self.now.circuits.shape c.args.batch c.work_out.new.rows
 worked c = let s = c.args.self.now.circuits in record { valid = s.valid; shaped = s.shaped; stands = stands_kept c.work_out.auto.rows c.requires.0 }
 
-pub work_out-requires : goal.work_out-requires
-work_out-requires c = (c.requires.0, c.requires.1)
-
 pub put_columns-requires : goal.put_columns-requires
 put_columns-requires c =
     let s = c.args.self.now in

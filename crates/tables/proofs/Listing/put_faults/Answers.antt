@@ -3,20 +3,14 @@ use Prim.Native.Nat.{◌*◌, ◌<◌}
 use native.Mathlib.Omega.{arith}
 use Rattle.tables.specs.Work.{block_bytes}
 use Rattle.tables.proofs.Blocks.{placed_all}
-use Rattle.tables.proofs.Copies.{most, most_some, step_fits_lem, putting_start, putting_left, putting_all, putting_within, putting_rows, putting_room, putting_place, putting_next}
-use Rattle.tables.proofs.Space.{shape_some, faulty_stands}
+use Rattle.tables.proofs.Copies.{most, most_some, putting_start, putting_left, putting_all, putting_within, putting_rows, putting_room, putting_place, putting_next}
+use Rattle.tables.proofs.Space.{faulty_stands}
 use Rattle.tables.proofs.Listing.put_faults.Goals as goal
 use Rattle.tables.proofs.Listing.put_faults.Goals.{In-loop-i}
 
 left : (c : In-loop-i) → c.loop-i.i * most c.args.self.now.circuits.shape < c.args.self.now.circuits.job.now.fault_count
 unfolding block_bytes
 left c = let s = c.args.self.now.circuits in putting_left s.valid s.shaped c.div_ceil-i-end.ensures c.loop-i-test.true
-
-pub overflow_mul-step : goal.overflow_mul-step
-overflow_mul-step c = let s = c.args.self.now in record { fits = step_fits_lem s.circuits.job.now s.asked.now s.circuits.shaped c.requires.2 c.well_formed.1.1.0.0 }
-
-pub nonzero_div-most : goal.nonzero_div-most
-nonzero_div-most c = shape_some c.args.self.now.circuits.job.now c.args.self.now.circuits.shaped
 
 pub div_ceil-i-end-requires : goal.div_ceil-i-end-requires
 unfolding block_bytes

@@ -1,8 +1,7 @@
 -- `tables::evaluator::Circuits::fix_line` meets its contract: each turn puts the table of one column.
 use native.Mathlib.Omega.{arith}
-use mathlib.Core.Path.{◌∙◌}
 use Rattle.job.specs.Layout.{max_faults}
-use Rattle.tables.proofs.FixedColumns.{made_done, mending_none, mending_faulty, mending_index, mending_offset, mending_place, mending_below, mending_next}
+use Rattle.tables.proofs.FixedColumns.{made_done, mending_faulty, mending_index, mending_offset, mending_place, mending_below, mending_next}
 use Rattle.tables.proofs.Space.{Sound, sound_some, place_small}
 use Rattle.tables.proofs.evaluator.Circuits.fix_line.Goals as goal
 use Rattle.tables.proofs.evaluator.Circuits.fix_line.Goals.{Start}
@@ -12,9 +11,6 @@ sound c = record { valid = c.args.self.now.valid; shaped = c.args.self.now.shape
 
 pub block_place-start-requires : goal.block_place-start-requires
 block_place-start-requires c = let s = sound (goal.at.block_place-start-requires c).Start in (sound_some s, place_small s c.requires.2 c.well_formed.1.0.0)
-
-pub loop-column-init : goal.loop-column-init
-loop-column-init c = mending_none c.ranges.columns.fits c.requires.1 (c.into_iter-column-iterator.ensures.into_iter_gives ∙ c.members_of-column-items.ensures)
 
 pub overflow_sub-entry : goal.overflow_sub-entry
 overflow_sub-entry c = omega (arith, mending_faulty (sound (goal.at.overflow_sub-entry c).Start) c.requires.2 c.loop-column.invariant c.in-Some.ensures.steps)

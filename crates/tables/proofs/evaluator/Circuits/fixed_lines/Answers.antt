@@ -4,7 +4,7 @@ use native.Mathlib.Omega.{arith}
 use mathlib.Core.Path.{refl}
 use Rattle.job.specs.Layout.{max_inputs, max_gates, max_faults}
 use Rattle.job.specs.Record.{fault_at}
-use Rattle.tables.proofs.Columns.{column_index, column_few, low_index, high_index, fixed_good, fixed_none, fixed_next, fixed_all}
+use Rattle.tables.proofs.Columns.{column_index, column_few, low_index, high_index, fixed_good, fixed_none, fixed_next}
 use Rattle.tables.proofs.evaluator.Circuits.fixed_lines.Goals as goal
 
 pub returns-then-first-eq0 : goal.returns-then-first-eq0
@@ -14,9 +14,6 @@ returns-then-first-eq0 c = fixed_good c.args.self.now.job.now c.args.batch c.if-
 pub loop-i-init : goal.loop-i-init
 unfolding max_inputs max_gates
 loop-i-init c = fixed_none c.args.self.now.job.now c.args.batch.first c.args.batch.count
-
-pub overflow_sub-entry : goal.overflow_sub-entry
-overflow_sub-entry c = omega (arith, c.if-first-eq0.false)
 
 pub overflow_add-entry : goal.overflow_add-entry
 unfolding max_faults
@@ -67,6 +64,3 @@ loop-i-preserved c =
     fixed_next c.loop-i.invariant c.if-first-eq0.false (fault_at c.args.self.now.job.now (c.args.batch.first - 1 + c.loop-i.i)) refl c.first-low.ensures c.second-high.ensures
     (low_index c.args.self.now.valid c.if-first-eq0.false c.requires.0 c.loop-i-test.true c.first-low.ensures) (high_index c.args.self.now.valid c.if-first-eq0.false c.requires.0 c.loop-i-test.true c.second-high.ensures)
     c.loop-i-test.true (column_few c.args.self.now.valid c.if-first-eq0.false c.requires.0 c.loop-i-test.true) c.joined.ensures c.joined-in-loop-i.ensures
-
-pub returns : goal.returns
-returns c = fixed_all c.loop-i.invariant c.loop-i-test.false

@@ -3,22 +3,13 @@ use Prim.Native.Nat.{◌<◌}
 use native.Mathlib.Omega.{arith}
 use Rattle.job.specs.Layout.{max_inputs, max_gates}
 use Rattle.job.specs.Record.{lines}
-use Rattle.tables.proofs.Batches.{side_none, side_fewer, made_line}
+use Rattle.tables.proofs.Batches.{made_line}
 use Rattle.tables.proofs.Space.{line_index, stands_kept}
 use Rattle.tables.proofs.evaluator.Circuits.work_out.Goals as goal
 use Rattle.tables.proofs.evaluator.Circuits.work_out.Goals.{In-loop-line}
 
 below : (c : In-loop-line) → c.loop-line.line < lines c.args.self.now.job.now
 below c = omega (arith, c.loop-line-test.true, c.lines-line-end.ensures)
-
-pub fixed_lines-fixed-requires : goal.fixed_lines-fixed-requires
-fixed_lines-fixed-requires c = (c.requires.0.within, λ none. (c.requires.0.alone none).1)
-
-pub loop-line-init : goal.loop-line-init
-loop-line-init c = side_none c.requires.1
-
-pub line_block-requires : goal.line_block-requires
-line_block-requires c = (stands_kept c.loop-line.auto.rows c.requires.0, c.loop-line.invariant, below (goal.at.line_block-requires c).In-loop-line)
 
 pub offset_bounds-fixed-line : goal.offset_bounds-fixed-line
 unfolding max_inputs max_gates
@@ -34,6 +25,3 @@ fix_line-requires c =
     let at = stands_kept c.loop-line.auto.rows c.requires.0 in
     let h = below (goal.at.fix_line-requires c).In-loop-line in
     (stands_kept c.line_block.auto.rows at, made_line (record { valid = a.valid; shaped = a.shaped; stands = at }) h c.loop-line.invariant c.line_block.ensures c.fixed_lines-fixed.ensures, h)
-
-pub returns : goal.returns
-returns c = side_fewer (omega (arith, c.loop-line-test.false, c.lines-line-end.ensures)) c.loop-line.invariant

@@ -3,15 +3,9 @@
 use Prim.Native.Nat.{ℕ}
 use mathlib.Core.Path.{sym, ap, ◌∙◌}
 use mathlib.Core.Bool.{Bool, cond}
-use Rattle.tables.proofs.ShapedRows.{fixed_stuck, fixed_bridge, low_fits, high_fits}
+use Rattle.tables.proofs.ShapedRows.{fixed_stuck, fixed_bridge}
 use Rattle.tables.proofs.rows.Shape.fix_row.Goals as goal
 use Rattle.tables.proofs.rows.Shape.fix_row.Goals.{then-level, else-level}
-
-pub overflow_mul-x : goal.overflow_mul-x
-overflow_mul-x c = let a = c.args in low_fits a.self a.to a.rows.now a.fault c.requires c.well_formed.1.0.0 c.in-Bridge.is
-
-pub overflow_mul-y : goal.overflow_mul-y
-overflow_mul-y c = let a = c.args in high_fits a.self a.to a.rows.now a.fault c.requires c.well_formed.1.0.0 c.in-Bridge.is
 
 pub returns-after-level : goal.returns-after-level
 returns-after-level c =

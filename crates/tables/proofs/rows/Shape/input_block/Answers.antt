@@ -7,9 +7,6 @@ use Rattle.tables.proofs.ShapedRows.{pattern_block, alternate_block}
 use Rattle.tables.proofs.rows.Shape.input_block.Goals as goal
 use Rattle.tables.proofs.rows.Shape.input_block.Goals.{in-0, in-1, in_default}
 
-pub overflow_mul-bytes : goal.overflow_mul-bytes
-overflow_mul-bytes c = record { fits = omega (arith, c.requires.0.room, c.well_formed.1.0.0) }
-
 pub returns-after-line : goal.returns-after-line
 returns-after-line c =
     let a = c.args in
