@@ -62,7 +62,7 @@ module _ {upto piece : ℕ → List ℕ} {count : ℕ} {whole : List ℕ} (g : G
       record {
         room = subst (λ (t : List ℕ). Room t before) (sym g.all) h;
         within = zero-le;
-        so_far = puts_same g.none (puts_none before (omega arith));
+        so_far = puts_same g.none (puts_none before);
       }
 
   module _ {before after : Writer} {i : ℕ} (w : Begun upto count before after i) where

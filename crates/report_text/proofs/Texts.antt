@@ -14,12 +14,11 @@ use Rattle.bits.specs.Slices.{splice}
 use Rattle.report_text.specs.Putting.{Puts}
 use Rattle.report_text.specs.declared.Writer.{Writer}
 
-pub puts_none : (w : Writer) → w.len ≤ length w.out.now → Puts [] w w
-puts_none w h =
+pub puts_none : (w : Writer) → Puts [] w w
+puts_none w =
     record {
       same_bytes = refl;
       kept = refl;
-      inside = h;
       ends = sym (add-zero w.len);
       stands = rw (add-zero, append-nil) (sym (take-append-drop w.len w.out.now));
     }
@@ -45,7 +44,6 @@ puts_then {x} {y} {first} {second} {third} p q =
     record {
       same_bytes = q.same_bytes ∙ p.same_bytes;
       kept = q.kept ∙ p.kept;
-      inside = q.inside;
       ends = omega (arith, length-append x y);
       stands =
           q.stands ∙ ap₂ (λ (l : List ℕ) (n : ℕ). splice l n y) p.stands p.ends

@@ -24,7 +24,6 @@ use Rattle.report_text.specs.Text.{counts_line, signature_line, circuit_lines, r
 pub record Puts (text : List ℕ) (before after : Writer) : Type 0 where
   pub same_bytes : after.out.ghost_name ≡ before.out.ghost_name
   pub kept : length after.out.now ≡ length before.out.now
-  pub inside : after.len ≤ length after.out.now
   pub ends : after.len ≡ before.len + length text
   pub stands : after.out.now ≡ splice before.out.now before.len text
 

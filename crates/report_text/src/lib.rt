@@ -3,7 +3,7 @@
 // There is room for the longest text, or nothing is written, so that no piece of it needs a test.
 #![tactic(auto)]
 
-ghost use Rattle.std.specs.Prelude.{◌+◌, ◌<◌, ◌≡◌, ◌∷◌, length};
+ghost use Rattle.std.specs.Prelude.{◌+◌, ◌≤◌, ◌<◌, ◌≡◌, ◌∷◌, length};
 ghost use Rattle.locating.specs.Scanning.{RowsIn};
 ghost use Rattle.report_text.specs.Text.{decimal, space, numbers_text, entry_text, entries_text, counts_line, signature_line, circuit_line, circuit_lines, refused_line, alike_line, reported};
 
@@ -21,6 +21,7 @@ pub const MAX_TEXT: usize = 28 + (10 + 6 * MAX_FAULTS) + (MAX_FAULTS + 1) * (3 +
 struct Writer<'a> {
     out: &'a mut [u8],
     len: usize,
+    ghost inside: { len ≤ length out.now },
 }
 
 // The rows of the work that a text prints, and the entries to print of each: an index and an output each.
@@ -46,7 +47,7 @@ impl Writer<'_> {
         self.len = end;
     }
 
-    // Puts a number's digits. By hand: of std's `write!` nothing is known where it answers an error, and nothing says that it answers none.
+    // Puts a number's digits. By hand: `to_string` needs a heap, and where `write!` answers an error its contract says nothing.
     fn put_decimal(&mut self, n: usize)
         requires { Room (decimal n) self.old }
         ensures { Puts (decimal n) self.old self.new }
@@ -199,8 +200,8 @@ impl Writer<'_> {
     }
 }
 
-// Writes the report of the job that the bytes give, isolated by MRM at polarity 0, or its refusal, to the start of `out`, and answers
-// how long it is. With less room than the longest text has nothing is written.
+// Writes the report of the job that the bytes give, isolated by MRM at polarity 0, or its refusal, to the start of
+// `out`, and answers how long it is; with less room than the longest text has nothing is written.
 pub fn report(bytes: &[u8], work: &mut [u16], out: &mut [u8]) -> Option<usize>
     ensures { record { answer = result; work = work.new; text = out.new } ≡ reported bytes.now work.old out.old }
 {

@@ -20,7 +20,7 @@ before : (t : ℕ) (c : Joined-n-ge10 t) → Puts (front c.args.n) c.args.self.n
 before t c =
     elim c.if-n-ge10.branch [
       | then-n-ge10 w ↦ rw w.self-is (puts_same (front_large c.args.n w.if-n-ge10.true) w.put_decimal.ensures)
-      | else-n-ge10 w ↦ rw w.self-is (puts_same (front_small c.args.n w.if-n-ge10.false) (puts_none c.args.self.now (omega arith)))
+      | else-n-ge10 w ↦ rw w.self-is (puts_same (front_small c.args.n w.if-n-ge10.false) (puts_none c.args.self.now))
     ]
 
 pub put-requires : goal.put-requires
