@@ -12,7 +12,7 @@ pub const MAX_MEMBERS: usize = 64;
 pub fn lowest(set: u64) -> usize
     ensures { result ≡ lowest set }
 {
-    u64::trailing_zeros(set) as usize
+    set.trailing_zeros() as usize
 }
 
 // The set without its lowest member; the empty set stays.

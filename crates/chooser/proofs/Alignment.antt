@@ -4,9 +4,9 @@
 --   kept_push      an entry put at a place stands before the others
 use Prim.Native.Nat.{ℕ, zero, suc, ◌+◌, ◌-◌, ◌≤◌, ◌<◌}
 use native.Mathlib.Omega.{arith}
-use mathlib.Core.Path.{◌≡◌, refl, ap, ap₂, ◌∙◌}
+use mathlib.Core.Path.{◌≡◌, ap, ap₂, ◌∙◌}
 use mathlib.Core.List.{List, ◌∷◌, ◌++◌}
-use lib.ListN.{length, drop, get_or, set}
+use lib.ListN.{length, drop, set}
 use lib.Seq.{drop-cons, lt-length-set, get_or-set_same, drop-set-lt}
 use Rattle.chooser.specs.Matrix.{max_signature, zeros, signature_of}
 use Rattle.chooser.specs.declared.Signature.{Signature}

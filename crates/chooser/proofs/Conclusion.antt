@@ -16,10 +16,10 @@ use mathlib.Core.Logic.{◌⊎◌, inl, inr, ⊎_elim}
 use mathlib.Core.List.{List, []}
 use borrow.Author.Tests.{ltb-true, lt-ltb, le-leb}
 use lib.Dec.{ltb}
-use lib.ListN.{length, get_or, drop}
-use Rattle.bits.specs.Sets.{has, lowest}
+use lib.ListN.{length, get_or}
+use Rattle.bits.specs.Sets.{lowest}
 use Rattle.bits.proofs.Below.{lt_or_ge}
-use Rattle.bits.proofs.Membership.{has_none, set_some, set_lowest}
+use Rattle.bits.proofs.Membership.{set_some, set_lowest}
 use Rattle.bits.proofs.Tests.{and_l, and_r, and_i, clash, by_test, by_cond, same_test}
 use Rattle.method.specs.Method.{without, agree, full, takes, drops, signature, first_pair, Pair}
 use Rattle.method.specs.Method.Pair.{nobody, pair}
@@ -27,12 +27,11 @@ use Rattle.method.proofs.Agreement.{agree_without}
 use Rattle.method.proofs.Firsts.{first_pair_nobody, nobody_first_pair, first_pair_pair}
 use Rattle.method.proofs.Signatures.{signature_tell}
 use Rattle.method.proofs.Takes.{takes_agree}
-use Rattle.chooser.specs.Matrix.{max_rows, cell, differ, fits, signature_of, choice_by, choice_over, choice}
+use Rattle.chooser.specs.Matrix.{max_rows, cell, differ, fits, choice_by, choice_over, choice}
 use Rattle.chooser.specs.Pairing.{pair_of, base, Paired, Listed, Sound, Leaves, keeps}
-use Rattle.std.specs.Prelude.{Result, Ok, Err}
+use Rattle.std.specs.Prelude.{Result}
 use Rattle.chooser.specs.declared.Signature.{Signature}
 use Rattle.chooser.specs.declared.Untold.{Untold}
-use Rattle.chooser.specs.declared.Untold.TheVariants as two
 use Rattle.chooser.proofs.KeptEntries.{signature_keeps}
 use Rattle.chooser.proofs.Soundness.{none_listed, pair_below, pair_listed, listed_pair, low_first}
 

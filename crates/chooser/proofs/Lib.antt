@@ -1,9 +1,7 @@
 pub mod Alignment
-pub mod Cells
 pub mod Clearness
 pub mod CommonPairs
 pub mod Conclusion
-pub mod Fits
 pub mod KeptEntries
 pub mod Marks
 pub mod Recursion

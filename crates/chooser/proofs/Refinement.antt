@@ -20,7 +20,7 @@ use lib.Bits.{bit_and, bit_xor, and_le_l, xor_lt}
 use lib.Dec.{eqb}
 use lib.ListN.{length, get_or, set, length-set}
 use lib.Seq.{get_or-set_same, get_or-set_other}
-use Rattle.bits.specs.Sets.{has, lowest, joined, max_members, First}
+use Rattle.bits.specs.Sets.{has, lowest, joined, First}
 use Rattle.bits.proofs.Membership.{either, has_none, has_and, has_xor, set_some, set_lowest, set_joined, joined_word, less_falls, first_member, first_below, first_others, first_word}
 use Rattle.bits.proofs.Tests.{and_l, and_r, and_i, clash, by_test, same_test}
 use Rattle.chooser.specs.Matrix.{max_rows}

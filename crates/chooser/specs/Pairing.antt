@@ -18,7 +18,7 @@
 --   clear        an entry tells no pair apart
 --   keeps        what is kept of the entries from here on: taking on the way down, dropping on the way up
 --   pair_or_nobody   a pair that may be none, as the method's
-use Rattle.std.specs.Prelude.{ℕ, suc, ◌+◌, ◌*◌, ◌^◌, ◌≤◌, ◌<◌, ◌≡◌, Bool, true, false, not, cond, ◌&&◌, List, [], ◌∷◌, Option, Some, None, eqb, ltb, length, get_or}
+use Rattle.std.specs.Prelude.{ℕ, suc, ◌*◌, ◌^◌, ◌≤◌, ◌<◌, ◌≡◌, Bool, true, false, not, cond, ◌&&◌, List, [], ◌∷◌, Option, Some, None, eqb, ltb, length, get_or}
 use Rattle.std.specs.Int.Bits.{bit_and}
 use Rattle.bits.specs.Sets.{has}
 use Rattle.method.specs.Method.{agree, some_below, Pair}

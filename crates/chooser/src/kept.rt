@@ -2,9 +2,8 @@
 ghost use Rattle.std.specs.Prelude.{◌≤◌, ◌<◌, ◌≡◌, [], ◌∷◌, length};
 ghost use Rattle.chooser.specs.Matrix.{max_signature};
 
-use std::marker::Model;
-
 use crate::MAX_SIGNATURE;
+use std::marker::Model;
 
 // They stand at the end of an array, from a start on.
 #[derive(Drop)]

@@ -75,11 +75,12 @@ fn choose_from(matrix: Matrix, scan: &[u16], pairs: &Pairs, rest: &mut Pairs, ke
     ensures kept { kept.new ≡ keeps (numbers matrix.entry) (pair_of pairs.now) (pair_of rest.old) scan.now }
     ensures left { Leaves rest.old (agree (numbers matrix.entry) kept.new) rest.new }
 {
+    // copied before the way out, since it would be cleared first behind it
+    let mut fewer = *pairs;
     let Some(at) = pairs.next(matrix, scan) else {
         return;
     };
     let entry = scan[at];
-    let mut fewer = *pairs;
     fewer.refine(matrix, entry as usize);
     choose_from(matrix, &scan[at + 1..], &fewer, rest, kept);
     if !pairs.is_apart_from(rest) {
@@ -89,12 +90,8 @@ fn choose_from(matrix: Matrix, scan: &[u16], pairs: &Pairs, rest: &mut Pairs, ke
 }
 
 // The answer of a matrix: the first pair that is left, or the entries kept.
-fn choose_fit(
-    matrix: Matrix,
-    rows: usize,
-    marks: &[u8],
-    scan: &[u16],
-) -> Result<Signature, Untold>
+#[tactic(auto, using(crate::proofs::Marks::base_there), unfolding(crate::specs::Matrix::fits))]
+fn choose_fit(matrix: Matrix, rows: usize, marks: &[u8], scan: &[u16]) -> Result<Signature, Untold>
     requires { (rows ≤ length marks.now) × (fits matrix.work.now matrix.width rows scan.now ≡ true) }
     ensures { result ≡ choice matrix.entry.work.now matrix.entry.width rows marks.now scan.now }
 {

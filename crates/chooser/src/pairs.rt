@@ -10,15 +10,15 @@ ghost use Rattle.method.specs.Method.{first_pair};
 ghost use Rattle.chooser.specs.Matrix.{max_rows};
 ghost use Rattle.chooser.specs.Pairing.{numbers, pair_of, pair_or_nobody, max_marks, Counted, Marked, Paired, Listed, Within, There, Sound, Having, Narrowed, Leaves, meets, equal_at, clear};
 
-use std::marker::Model;
-
 use crate::MAX_ROWS;
 use crate::matrix::Matrix;
 use bits::sets;
+use std::marker::Model;
 
 // A mark is a byte.
 const MARKS: usize = 256;
 
+// That the rows have their numbers in a matrix (`There`) is no fact of the pairs alone, so the contracts say it.
 #[derive(Clone, Copy)]
 pub(crate) struct Pairs {
     partners: [u64; MAX_ROWS],
@@ -118,6 +118,7 @@ impl Pairs {
         ensures { Leaves self.old (equal_at (numbers matrix.entry) entry) self.new }
     {
         let mut left = self.rows();
+        // a turn takes a group of rows
         while left != 0 {
             let number = matrix.cell(sets::lowest(left), entry);
             let set = having(matrix, entry, left, number);

@@ -1,25 +1,50 @@
 -- Laws of the gate step by words (specs/Words.antt).
 --
---   word_put      the eight bytes of a word, stored one after the other
---   word_length   the bytes are as many with it as before
---   word_more     a word more of the gate step
-use Prim.Native.Nat.{ℕ, ◌+◌, ◌-◌, ◌≤◌, ◌<◌}
-use native.Mathlib.Nat.{add-zero}
+--   written_part     the first bytes of what a loop is to write
+--   written_some     so many bytes more, written at once
+--   word_put         the eight bytes of a word, stored one after the other
+--   word_length      the rows are as long with it as before
+--   word_stepped     the gate step of two words is that of their bytes
+--   words_put        two words of it, side by side
+--   step_more        so many bytes more of it, from the rows as they are by then
+--   places_more      the same at places so much further on
+use Prim.Native.Nat.{ℕ, zero, suc, ◌+◌, ◌≤◌, ◌<◌}
+use native.Mathlib.Nat.{add-zero, add_assoc}
+use native.Mathlib.Numerals.{add-one}
 use native.Mathlib.Omega.{arith}
-use mathlib.Core.Path.{◌≡◌, refl, sym, ap, ap₂, ◌∙◌}
-use mathlib.Core.List.{List, ◌++◌, append_assoc}
-use mathlib.Core.Logic.{⊎_elim}
-use lib.ListN.{length, get_or, set, take, drop, length-append, length-take, length-drop, get_or-append}
-use lib.Seq.{length-take-le, ext_get_or, get_or-take, get_or-drop, get_or-append_right, drop-drop}
+use mathlib.Core.Path.{◌≡◌, refl, sym, ap, ap₂, subst, ◌∙◌}
+use mathlib.Core.List.{List}
+use lib.ListN.{length, get_or, set}
 use Rattle.bits.specs.Packed.{tabulate}
 use Rattle.bits.specs.Slices.{splice}
-use Rattle.bits.proofs.Below.{lt_or_ge}
-use Rattle.bits.proofs.Packed.{length_tabulate, tabulate_at, tabulate_ext}
-use Rattle.bits.proofs.Splice.{length_splice, splice_before, Written, written_none, written_more, written_all}
+use Rattle.bits.proofs.Splice.{length_splice, Written, written_none, written_more, written_length, written_before, written_all}
 use Rattle.gates.specs.Polynomial.{step, combined}
-use Rattle.gates.specs.Words.{word_of, bytes_of, word_step, stepped, Stepped}
+use Rattle.gates.specs.Words.{word_of, bytes_of, word_step, gate_step, further, stepped, Apart}
 use Rattle.gates.specs.declared.Polynomial.{Polynomial}
+use Rattle.gates.specs.declared.step.Places.{Places}
 use Rattle.gates.specs.declared.step.Word.{Word}
+
+pub written_part : (start : List ℕ) (to count : ℕ) (f : ℕ → ℕ) (k : ℕ) → to + count ≤ length start → k ≤ count
+    → Written start to count f (splice start to (tabulate k f)) k
+written_part start to count f k h l = record { room = h; within = l; so_far = refl }
+
+module _ {start : List ℕ} {to count : ℕ} {f : ℕ → ℕ} {rows : List ℕ} {i : ℕ} (w : Written start to count f rows i) where
+  -- one byte more, by the rows as the first i bytes left them
+  set_next : (k : ℕ) (g : ℕ → ℕ) → i + suc k ≤ count → set (splice rows (to + i) (tabulate k g)) (to + (i + k)) (g k) ≡ splice rows (to + i) (tabulate (suc k) g)
+  set_next k g h =
+      ap (λ (j : ℕ). set (splice rows (to + i) (tabulate k g)) j (g k)) (sym (add_assoc to i k))
+      ∙ (written_more (written_part rows (to + i) (k + 1) g k (omega (arith, written_length w)) (omega arith)) (g k) (omega arith) refl).so_far
+      ∙ ap (λ (n : ℕ). splice rows (to + i) (tabulate n g)) (add-one k)
+
+  pub written_some : (k : ℕ) (g : ℕ → ℕ) → i + k ≤ count → ((j : ℕ) → j < k → g j ≡ f (i + j))
+      → Written start to count f (splice rows (to + i) (tabulate k g)) (i + k)
+  written_some zero g h same =
+      let none : Written rows (to + i) 0 g rows 0 = written_none (omega (arith, written_length w)) in
+      subst (λ (r : List ℕ). Written start to count f r (i + 0)) none.so_far (rw add-zero w)
+  written_some (suc k) g h same =
+      let more = written_more (written_some k g (omega arith) (λ j l. same j (omega arith))) (g k) (omega arith) (same k (omega arith)) in
+      let e : i + k + 1 ≡ i + suc k = omega arith in
+      subst (λ (r : List ℕ). Written start to count f r (i + suc k)) (set_next k g h) (rw e at more)
 
 -- ---- a word
 
@@ -42,20 +67,39 @@ module _ (rows : List ℕ) (to : ℕ) (w : Word) (h : to + 8 ≤ length rows) wh
 pub word_length : (rows : List ℕ) (to : ℕ) (w : Word) {after : List ℕ} → to + 8 ≤ length rows → after ≡ splice rows to (bytes_of w) → length after ≡ length rows
 word_length rows to w h e = ap length e ∙ length_splice rows to (bytes_of w) h
 
--- byte j of what is put
-put_at : (bytes : List ℕ) (at : ℕ) (new : List ℕ) (k : ℕ) → at + length new ≤ length bytes → at ≤ k → k < at + length new → get_or (splice bytes at new) k 0 ≡ get_or new (k - at) 0
-put_at bytes at new k room h l =
-    let front : length (take at bytes) ≡ at = length-take at bytes ∙ omega arith in
-    get_or-append (take at bytes ++ new) (drop (at + length new) bytes) 0 k (rw (length-append, front) l)
-    ∙ get_or-append_right (take at bytes) new k 0 (omega arith) ∙ ap (λ (n : ℕ). get_or new (k - n) 0) front
-
-pub word_more : (f : Polynomial) (x y bytes : List ℕ) (at : ℕ) {after : List ℕ} {u v w : Word} → Stepped f x y bytes at → at + 8 ≤ length bytes
-    → u ≡ word_of (λ i. get_or x (at + i) 0) → v ≡ word_of (λ i. get_or y (at + i) 0) → w ≡ word_step f u v → after ≡ splice bytes at (bytes_of w)
-    → Stepped f x y after (at + 8)
+pub word_stepped : (f : Polynomial) (x y : ℕ) (rows : List ℕ) {u v w : Word} → u ≡ word_of (λ i. get_or rows (x + i) 0) → v ≡ word_of (λ i. get_or rows (y + i) 0) → w ≡ word_step f u v
+    → bytes_of w ≡ tabulate 8 (combined f x y rows)
 unfolding tabulate
-word_more f x y bytes at {after} {u} {v} {w} before room first second combined put k h =
-    let new : bytes_of w ≡ tabulate 8 (λ i. stepped f x y (at + i)) = ap bytes_of (combined ∙ ap₂ (word_step f) first second) in
-    ap (λ (l : List ℕ). get_or l k 0) put
-    ∙ ⊎_elim (λ l. splice_before bytes at (bytes_of w) k (omega arith) l ∙ before k l)
-    (λ l. put_at bytes at (bytes_of w) k room l h ∙ ap (λ (s : List ℕ). get_or s (k - at) 0) new ∙ tabulate_at 8 (λ i. stepped f x y (at + i)) (k - at) (omega arith)
-    ∙ ap (stepped f x y) (omega arith)) (lt_or_ge k at)
+word_stepped f x y rows first second stepped = ap bytes_of (stepped ∙ ap₂ (word_step f) first second)
+
+-- ---- the gate step
+
+module _ (f : Polynomial) (x y : ℕ) {to count : ℕ} {start rows : List ℕ} {i : ℕ} (first : x + count ≤ to) (second : y + count ≤ to)
+    (w : Written start to count (combined f x y start) rows i) where
+  -- what is read stands before all that is written
+  combined_later : (j : ℕ) → i + j < count → combined f (x + i) (y + i) rows j ≡ combined f x y start (i + j)
+  combined_later j h =
+      ap₂ (step f) (ap (λ (k : ℕ). get_or rows k 0) (add_assoc x i j) ∙ written_before w (x + (i + j)) (omega arith))
+      (ap (λ (k : ℕ). get_or rows k 0) (add_assoc y i j) ∙ written_before w (y + (i + j)) (omega arith))
+
+  pub step_more : (k : ℕ) → i + k ≤ count → Written start to count (combined f x y start) (gate_step f (x + i) (y + i) (to + i) k rows) (i + k)
+  step_more k h = written_some w k (combined f (x + i) (y + i) rows) h (λ j l. combined_later j (omega arith))
+
+-- the same at places so much further on
+pub places_more : (f : Polynomial) (p : Places) {count i m j : ℕ} {start rows after : List ℕ} {q : Places} → Apart p count start
+    → Written start p.to count (combined f p.x p.y start) rows i → q ≡ further p m → m ≡ i → (k : ℕ) → after ≡ stepped f q k rows → i + k ≡ j → j ≤ count
+    → Written start p.to count (combined f p.x p.y start) after j
+places_more f p {count} {i} {m} {j} {start} {rows} {after} (first, second, room) w at here k put e h =
+    let same : after ≡ stepped f (further p i) k rows = put ∙ ap (λ (q : Places). stepped f q k rows) (at ∙ ap (further p) here) in
+    subst (λ (n : ℕ). Written start p.to count (combined f p.x p.y start) after n) e
+    (subst (λ (r : List ℕ). Written start p.to count (combined f p.x p.y start) r (i + k)) (sym same) (step_more f p.x p.y first second w k (omega arith)))
+
+-- both words are worked out before the first is put
+pub words_put : (f : Polynomial) (x y to : ℕ) (rows : List ℕ) {one other : List ℕ} → to + 16 ≤ length rows
+    → one ≡ tabulate 8 (combined f x y rows) → other ≡ tabulate 8 (combined f (x + 8) (y + 8) rows) → splice (splice rows to one) (to + 8) other ≡ gate_step f x y to 16 rows
+words_put f x y to rows room first second =
+    ap₂ (λ (a b : List ℕ). splice (splice rows to a) (to + 8) b) first second
+    ∙ written_all
+    (written_some (written_part rows to 16 (combined f x y rows) 8 room (omega arith)) 8 (combined f (x + 8) (y + 8) rows) (omega arith)
+    (λ j l. ap₂ (λ (a b : ℕ). step f (get_or rows a 0) (get_or rows b 0)) (add_assoc x 8 j) (add_assoc y 8 j)))
+    (omega arith)

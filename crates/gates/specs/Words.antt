@@ -4,14 +4,15 @@
 --   bytes_of    its bytes in order
 --   word_step   the gate step of two words, byte by byte
 --   gate_step   rows in which the table at one place is the gate step of so many bytes at two others
---   stepped     a byte of the gate step of two tables
---   AsLong      the two that are read are as long as the one that is written
---   Stepped     so many bytes of that one are the gate step's
-use Rattle.std.specs.Prelude.{ℕ, ◌≡◌, ◌<◌, List, [], ◌∷◌, get_or, length}
+--   further     places so many bytes further on
+--   stepped     the gate step at places
+--   Apart       the two that are read end before the one that is written, and that one within the rows
+use Rattle.std.specs.Prelude.{ℕ, ◌+◌, ◌≤◌, List, [], ◌∷◌, length}
 use Rattle.bits.specs.Packed.{tabulate}
 use Rattle.bits.specs.Slices.{splice}
 use Rattle.gates.specs.Polynomial.{step, combined}
 use Rattle.gates.specs.declared.Polynomial.{Polynomial}
+use Rattle.gates.specs.declared.step.Places.{Places}
 use Rattle.gates.specs.declared.step.Word.{Word}
 
 abbrev pub word_of : (ℕ → ℕ) → Word
@@ -46,12 +47,11 @@ word_step f x y =
 abbrev pub gate_step : Polynomial → ℕ → ℕ → ℕ → ℕ → List ℕ → List ℕ
 gate_step f x y to count rows = splice rows to (tabulate count (combined f x y rows))
 
--- byte i of the gate step of two tables
-abbrev pub stepped : Polynomial → List ℕ → List ℕ → ℕ → ℕ
-stepped f x y i = step f (get_or x i 0) (get_or y i 0)
+abbrev pub further : Places → ℕ → Places
+further p by = record { x = p.x + by; y = p.y + by; to = p.to + by }
 
-abbrev pub AsLong : List ℕ → List ℕ → List ℕ → Type 0
-AsLong to x y = (length x ≡ length to) × (length y ≡ length to)
+abbrev pub stepped : Polynomial → Places → ℕ → List ℕ → List ℕ
+stepped f p count rows = gate_step f p.x p.y p.to count rows
 
-abbrev pub Stepped : Polynomial → List ℕ → List ℕ → List ℕ → ℕ → Type 0
-Stepped f x y to count = (k : ℕ) → k < count → get_or to k 0 ≡ stepped f x y k
+abbrev pub Apart : Places → ℕ → List ℕ → Type 0
+Apart p count rows = (p.x + count ≤ p.to) × (p.y + count ≤ p.to) × (p.to + count ≤ length rows)

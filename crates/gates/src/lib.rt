@@ -32,7 +32,7 @@ const ANSWERS: [[u8; 4]; 8] = [
 ];
 
 // A gate's answers over packed bytes, as the polynomial constant ^ (first & x) ^ (second & y) ^ (both & x & y).
-#[derive(Clone, Copy)]
+#[derive(Clone, Copy, Debug, PartialEq, Eq)]
 pub struct Polynomial {
     pub constant: u8,
     pub first: u8,
@@ -63,13 +63,7 @@ pub fn combine(rows: &mut [u8], x: usize, y: usize, to: usize, count: usize, pol
         && bits::has_room(to, x, count)
         && bits::has_room(to, y, count)
     {
-        let (read, written) = rows.split_at_mut(to);
-        step::combine_bytes(
-            &mut written[..count],
-            &read[x..x + count],
-            &read[y..y + count],
-            polynomial,
-        );
+        step::combine_bytes(rows, step::Places { x, y, to }, count, polynomial);
     }
 }
 

@@ -8,7 +8,7 @@
 --   rewritten_of            a job read, and written again
 --   chosen_at               what choosing answers and leaves for a job
 --   length_of, choice_of, location_of, report_of   the answers of the operations that give values
-use Rattle.std.specs.Prelude.{ℕ, zero, suc, List, length}
+use Rattle.std.specs.Prelude.{ℕ, zero, suc, List, Option, Some, None, length}
 use Rattle.bits.specs.Answer.{Answer, Fills, Leaves, onward}
 use Rattle.bits.specs.Answer.Answer.{gives, refused}
 use Rattle.job.specs.declared.Job.{Job}
@@ -23,8 +23,6 @@ use Rattle.choosing.specs.declared.Purpose.{Purpose}
 use Rattle.choosing.specs.declared.Purpose.TheVariants.{Isolating, Detecting}
 use Rattle.locating.specs.Locating.{Location}
 use Rattle.locating.specs.Locating.Location.{parted, several, nowhere}
-use Rattle.report_text.specs.declared.Reported.{Reported}
-use Rattle.report_text.specs.declared.Reported.TheVariants.{Written, Short}
 use Rattle.horncurlew.specs.declared.ReportAnswer.{ReportAnswer}
 use Rattle.horncurlew.specs.declared.JobAnswer.{JobAnswer}
 use Rattle.horncurlew.specs.declared.LengthAnswer.{LengthAnswer}
@@ -101,6 +99,6 @@ location_of (gives nowhere) = record { number = 0; found = 0; part = 0; circuit 
 location_of (refused k) = record { number = k; found = 0; part = 0; circuit = 0; agreeing = 0 }
 
 -- 1 with the text's length, or 0 where there was less room than the longest text has
-abbrev pub report_of : Reported → ReportAnswer
-report_of (Written n) = record { written = 1; length = n }
-report_of Short = record { written = 0; length = 0 }
+abbrev pub report_of : Option ℕ → ReportAnswer
+report_of (Some n) = record { written = 1; length = n }
+report_of None = record { written = 0; length = 0 }

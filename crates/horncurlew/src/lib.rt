@@ -3,15 +3,16 @@
 // MRM; a purpose 0 for isolating and any other number for detecting.
 #![tactic(auto)]
 
-ghost use Rattle.std.specs.Prelude.{◌≡◌, length};
+ghost use Rattle.std.specs.Prelude.{◌≡◌, [], length};
 ghost use Rattle.bits.specs.Answer.{leaves, outcome};
 ghost use Rattle.reading.specs.Reading.{reading};
-ghost use Rattle.tables.specs.Operations.{table_of};
+ghost use Rattle.tables.specs.Operations.{table_of, no_counts};
 ghost use Rattle.spectra.specs.Operations.{spectrum_of, undone_of};
-ghost use Rattle.choosing.specs.Choosing.{verdict_number, verdict_pair};
+ghost use Rattle.method.specs.Method.Pair.{nobody};
+ghost use Rattle.choosing.specs.Choosing.{signature_of, told};
 ghost use Rattle.locating.specs.Locating.{located_of, located_told};
 ghost use Rattle.report_text.specs.Text.{reported};
-ghost use Rattle.horncurlew.specs.Exports.{report_of, kind_of, purpose_of, number_of, numbered, job_of, length_of, rewritten_of, chosen_at, first_of, second_of, choice_of, location_of, version};
+ghost use Rattle.horncurlew.specs.Exports.{report_of, kind_of, purpose_of, number_of, numbered, job_of, length_of, rewritten_of, chosen_at, choice_of, location_of, version};
 
 use bits::Refusal;
 use chooser::MAX_SIGNATURE;
@@ -208,7 +209,7 @@ pub extern "C" fn horncurlew_undo(
 
 // What stands beside a number alone.
 fn no_choice(number: usize) -> ChoiceAnswer
-    ensures { result ≡ choice_of (unfound number nobody []) }
+    ensures { result ≡ choice_of (record { number = number; pair = nobody; counts = no_counts; signature = signature_of []; memory = [] }) }
 {
     ChoiceAnswer {
         number,
@@ -228,18 +229,22 @@ fn choice_of(chosen: Result<Chosen, Unchosen>) -> ChoiceAnswer
     ensures { result ≡ choice_of (told chosen []) }
 {
     match chosen {
-        Ok(Chosen { counts, signature }) => ChoiceAnswer {
-            number: 0,
-            first: 0,
-            second: 0,
-            inputs: counts.inputs,
-            gates: counts.gates,
-            outputs: counts.outputs,
-            faults: counts.faults,
-            count: signature.count,
-            entry_indices: signature.indices,
-            entry_outputs: signature.outputs,
-        },
+        Ok(Chosen { counts, signature }) => {
+            let entry_indices = signature.indices;
+            let entry_outputs = signature.outputs;
+            ChoiceAnswer {
+                number: 0,
+                first: 0,
+                second: 0,
+                inputs: counts.inputs,
+                gates: counts.gates,
+                outputs: counts.outputs,
+                faults: counts.faults,
+                count: signature.count,
+                entry_indices,
+                entry_outputs,
+            }
+        }
         Err(Unchosen::Alike(first, second)) => ChoiceAnswer {
             first,
             second,

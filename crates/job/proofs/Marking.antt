@@ -6,17 +6,16 @@
 --   marking_start   before the pass the outputs are marked
 --   marking_next    a gate is passed, and the lines that it reads are marked
 use Prim.Native.Nat.{ℕ, zero, suc, min, ◌+◌, ◌-◌, ◌≤◌, ◌<◌}
-use native.Mathlib.Numerals.{add-one}
 use native.Mathlib.Omega.{arith}
 use mathlib.Core.Path.{◌≡◌, refl, sym, ap, ◌∙◌}
-use mathlib.Core.Bool.{Bool, true, false, ◌&&◌, ◌||◌, and-true, or_assoc, or_comm}
+use mathlib.Core.Bool.{Bool, true, false, ◌&&◌, ◌||◌, and-true, or_assoc}
 use mathlib.Core.List.{List, [], ◌∷◌, ◌++◌}
 use borrow.Author.Tests.{eqb-true, eqb-false}
 use lib.Dec.{eqb}
 use lib.ListN.{length, get_or, take, drop, set, replicate, length-set, length-replicate}
-use lib.Seq.{take-suc, drop-length, drop-cons, get_or-take}
+use lib.Seq.{drop-length, drop-cons, get_or-take}
 use Rattle.std.proofs.lemmas.Grind.{elements}
-use Rattle.std.proofs.lemmas.List.{take_min, length-take}
+use Rattle.std.proofs.lemmas.List.{take_min, take_more, length-take}
 use Rattle.bits.proofs.Tests.{by_test}
 use Rattle.job.specs.Dependence.{gates_of, output_lines, no_loose}
 use Rattle.job.specs.Layout.{max_gates, max_outputs}
@@ -31,6 +30,12 @@ set_mark : (used : List Bool) (k l : ℕ) → k < length used → get_or (set us
 set_mark used k l h =
     by_test (eqb l k) (λ e. grind (arith, elements, eqb-true)) (λ e. grind (arith, elements, eqb-false))
 
+-- two marks more, one after the other
+both : (x y z : Bool) → y || (x || z) ≡ (x || y) || z
+both true true z = refl
+both true false z = refl
+both false y z = refl
+
 blank : (count l : ℕ) → get_or (replicate count false) l false ≡ false
 blank zero l = refl
 blank (suc count) zero = refl
@@ -41,9 +46,7 @@ blank (suc count) (suc l) = blank count l
 is_output_last : (outputs : List ℕ) (x l : ℕ) → is_output (outputs ++ (x ∷ [])) l ≡ eqb l x || is_output outputs l
 is_output_last [] x l = refl
 is_output_last (y ∷ outputs) x l =
-    ap (λ (t : Bool). eqb l y || t) (is_output_last outputs x l)
-    ∙ sym (or_assoc (eqb l y) (eqb l x) (is_output outputs l)) ∙ ap (λ (t : Bool). t || is_output outputs l) (or_comm (eqb l y) (eqb l x))
-    ∙ or_assoc (eqb l x) (eqb l y) (is_output outputs l)
+    ap (λ (t : Bool). eqb l y || t) (is_output_last outputs x l) ∙ both (eqb l x) (eqb l y) (is_output outputs l) ∙ or_assoc (eqb l x) (eqb l y) (is_output outputs l)
 
 pub outputs_start : (outputs : List ℕ) → OutputsMarked (take 0 outputs) (replicate (256 + max_gates) false)
 outputs_start outputs = record { long = length-replicate (256 + max_gates) false; each = λ l. blank (256 + max_gates) l }
@@ -58,7 +61,7 @@ outputs_next outputs {marks} {o} m h small =
           set_mark marks (get_or outputs o 0) l (omega arith)
           ∙ ap (λ (t : Bool). eqb l (get_or outputs o 0) || t) (m.each l)
           ∙ sym
-          (ap (λ (s : List ℕ). is_output s l) (ap (λ (i : ℕ). take i outputs) (add-one o) ∙ take-suc outputs o 0 h)
+          (ap (λ (s : List ℕ). is_output s l) (take_more outputs o 0 h)
           ∙ is_output_last (take o outputs) (get_or outputs o 0) l);
     }
 
@@ -86,12 +89,6 @@ marking_start j {q} long least m =
           ∙ sym (ap (λ (rest : List GateEntry). is_marked (output_lines j) rest l) (ap (λ (i : ℕ). drop i gates) (sym all) ∙ drop-length gates));
       rest = tight_read j.inputs gates (output_lines j) ∙ ap (each_read j.inputs gates (output_lines j)) all;
     }
-
--- a unary gate marks its line twice
-both : (x y z : Bool) → y || (x || z) ≡ (x || y) || z
-both true true z = refl
-both true false z = refl
-both false y z = refl
 
 module _ {j : Job} {used : List Bool} {q : ℕ} (m : Marking j used q) (some : 0 < q) where
   abbrev n : ℕ

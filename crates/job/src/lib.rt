@@ -56,7 +56,7 @@ pub const MAX_JOB_BYTES: usize = (COUNT_BITS
     + 7)
     / 8;
 
-// The six kinds of gate that read two lines.
+// The six kinds of gate that read two lines, with their numbers in a field.
 #[derive(Clone, Copy, Debug, PartialEq, Eq)]
 pub enum BinaryKind {
     And = 0,
@@ -67,7 +67,7 @@ pub enum BinaryKind {
     Xnor,
 }
 
-// The two kinds that read one line.
+// The two kinds that read one line, with their numbers.
 #[derive(Clone, Copy, Debug, PartialEq, Eq)]
 pub enum UnaryKind {
     Buf = 7,
@@ -126,7 +126,7 @@ impl Gate {
     }
 }
 
-// The gate of a kind's number and two lines; a kind over 7 counts as 7.
+// The gate of a kind's number and two lines. Every number has one, so this is no TryFrom: a kind over 7 counts as 7.
 pub fn gate_of(kind: usize, a: u8, b: u8) -> Gate
     ensures { result ≡ gate_of kind a b }
 {
@@ -178,7 +178,7 @@ impl Fault {
     }
 }
 
-// The fault of a kind's number and two lines; a kind over 3 counts as 3.
+// The fault of a kind's number and two lines. Every number has one: a kind over 3 counts as 3.
 pub fn fault_of(kind: usize, a: u8, b: u8) -> Fault
     ensures { result ≡ fault_of kind a b }
 {
@@ -220,7 +220,7 @@ pub struct FaultEntry {
     pub part: u8,
 }
 
-// Entries past a count are unused.
+// Entries past a count are unused. The counts stand beside full arrays, as in the documents' layout.
 #[derive(Clone, Copy, Debug, PartialEq, Eq)]
 pub struct Job {
     pub inputs: u8,

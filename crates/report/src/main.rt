@@ -4,83 +4,56 @@
 #![tactic(auto)]
 
 ghost use Rattle.std.specs.Prelude.{◌≡◌};
+ghost use Rattle.std.specs.Io.{ReadsAtMost};
 ghost use Rattle.report.specs.Program.{program_report};
-ghost use Rattle.report.specs.Buffers.{Whole, Found};
 
 use job::MAX_JOB_BYTES;
-use report_text::{MAX_TEXT, Reported};
+use report_text::MAX_TEXT;
+use std::io;
 use std::io::{Read, Stdin};
 
 // "reads one byte beyond the longest job", so that a longer input is seen to be longer.
 const MAX_INPUT_BYTES: usize = MAX_JOB_BYTES + 1;
 
-// How many bytes there were, up to as many as there is room for; or a read failed.
-#[derive(Drop)]
-enum Input {
-    Bytes(usize),
-    Unreadable,
-}
-
 fn main(rt: HostRuntime) {
     let mut input = [0u8; MAX_INPUT_BYTES];
-    let found = read_input(rt.stdin(), &mut input);
-    match found {
-        Input::Bytes(count) => print_report(&rt, &input[..count]),
-        Input::Unreadable => complain(&rt, "report: standard input can't be read\n"),
+    match read_input(rt.stdin(), &mut input) {
+        Ok(count) => print_report(&rt, &input[..count]),
+        Err(_) => complain(&rt, "report: standard input can't be read\n"),
     }
 }
 
-// Reads until the input ends or `buf` is full.
-fn read_input(stdin: Stdin, buf: &mut [u8]) -> Input
-    ensures { Found result buf.new }
+// Reads until the input ends or `buf` is full, and answers how many bytes there were. By hand: std's `read_exact` does not answer that, and
+// `read_to_end` needs a heap.
+fn read_input(mut stdin: Stdin, buf: &mut [u8]) -> io::Result<usize>
+    ensures { ReadsAtMost result buf.new }
 {
     let mut done = 0;
     while done < buf.len() {
-        let found = read_once(stdin, &mut buf[done..]);
-        let Input::Bytes(count) = found else {
-            return Input::Unreadable;
-        };
+        let count = stdin.read(&mut buf[done..])?;
         if count == 0 {
-            return Input::Bytes(done);
+            break;
         }
         done += count;
     }
-    Input::Bytes(done)
-}
-
-// One read, of no bytes at the input's end.
-fn read_once(mut stdin: Stdin, buf: &mut [u8]) -> Input
-    ensures { Found result buf.new }
-{
-    match stdin.read(buf) {
-        Ok(count) => Input::Bytes(count),
-        Err(_) => Input::Unreadable,
-    }
+    Ok(done)
 }
 
 fn print_report(rt: &(impl Print + Eprint), bytes: &[u8]) {
     let mut text = [0u8; MAX_TEXT];
-    let reported = job_report(bytes, &mut text);
-    print(rt, &text, reported);
+    // There is room for the longest text.
+    let length = job_report(bytes, &mut text).unwrap();
+    if rt.write_all(&text[..length]).is_err() {
+        complain(rt, "report: standard output can't be written\n");
+    }
 }
 
 // The program's text for these bytes, to the start of `out`: "lends work of 32768 numbers".
-fn job_report(bytes: &[u8], out: &mut [u8]) -> Reported
+fn job_report(bytes: &[u8], out: &mut [u8]) -> Option<usize>
     ensures { record { answer = result; text = out.new } ≡ program_report bytes.now out.old }
 {
     let mut work = [0u16; 32768];
     report_text::report(bytes, &mut work, out)
-}
-
-// Writes the text, which is all there: there was room for the longest one.
-fn print(rt: &(impl Print + Eprint), text: &[u8], reported: Reported)
-    requires { Whole reported text.now }
-{
-    if let Reported::Written(length) = reported {
-        if rt.write_all(&text[..length]).is_err() {
-            complain(rt, "report: standard output can't be written\n");
-        }
-    }
 }
 
 // Says on standard error what failed.

@@ -1,3 +1,4 @@
+pub mod Choices
 pub mod Decimals
 pub mod Elements
 pub mod Lengths
@@ -5,6 +6,5 @@ pub mod Pieces
 pub mod Readings
 pub mod Sizes
 pub mod Texts
-pub mod Verdicts
 pub mod Whole
 pub mod Widths

@@ -3,8 +3,8 @@
 --   Prints              what choosing answers and leaves prints a text that fits, and can be printed
 --   prints_isolated     it prints the report's text
 --   text_bounded        every text fits in the most bytes
---   verdict_printable   so the verdict that tells it can be printed
---   verdict_fits        there is room for its text
+--   choice_printable    so what is answered can be printed
+--   choice_fits        there is room for its text
 --   reported_written, reported_short   what is written, with room and without
 use Prim.Native.Nat.{ℕ, ◌+◌, ◌*◌, ◌^◌, ◌≤◌, ◌<◌}
 use native.Mathlib.Omega.{arith}
@@ -12,7 +12,7 @@ use native.Mathlib.Nat.{le_trans, mul_assoc}
 use mathlib.Core.Path.{◌≡◌, refl, sym, ap, ap₂, subst, ◌∙◌}
 use mathlib.Core.Bool.{Bool, true, false}
 use mathlib.Core.List.{List, ◌++◌}
-use Rattle.std.proofs.Common.{Some, None}
+use Rattle.std.proofs.Common.{Some, None, Result, Ok, Err}
 use borrow.Author.Tests.{le-leb, lt-leb}
 use lib.Dec.{leb}
 use lib.ListN.{length, drop, length-append, length-map}
@@ -35,26 +35,30 @@ use Rattle.spectra.proofs.Codes.{entries_back, entries_ok}
 use Rattle.spectra.proofs.Families.{length_family_spectra}
 use Rattle.method.specs.Method.{Pair}
 use Rattle.method.specs.Method.Pair.{nobody, pair}
-use Rattle.choosing.specs.Choosing.{Finding, AtExit, signature_in, signature_of, alike_pair, finding_by, chosen_from, chosen_of, found, at_exit, counts_in, verdict_number, verdict_pair}
+use Rattle.choosing.specs.Choosing.{Finding, AtExit, told, signature_in, signature_of, alike_pair, finding_by, chosen_from, chosen_of, found, at_exit, counts_in}
 use Rattle.choosing.specs.Choosing.Finding.{chosen, alike}
 use Rattle.choosing.specs.declared.Purpose.TheVariants.{Isolating}
 use Rattle.choosing.specs.declared.Signature.{Signature}
-use Rattle.choosing.specs.declared.Verdict.{Verdict}
-use Rattle.choosing.specs.declared.Verdict.TheVariants.{Done, Alike, Refused}
+use Rattle.choosing.specs.declared.Chosen.{Chosen}
+use Rattle.choosing.specs.declared.Unchosen.{Unchosen}
 use Rattle.choosing.proofs.Bound.{signature_below}
 use Rattle.choosing.proofs.Sizes.{faults_entries}
 use Rattle.locating.specs.Scanning.{RowsIn}
-use Rattle.report_text.specs.Putting.{Puts, Printable, work_text, index_list, output_list, verdict_text}
+use Rattle.report_text.specs.Putting.{Puts, Printable, work_text, index_list, output_list, choice_text}
 use Rattle.report_text.specs.Text.{refused_line, finding_text, chosen_text, report_by, report_text, work_left, max_text, reported}
 use Rattle.report_text.specs.declared.Writer.{Writer}
 use Rattle.report_text.proofs.Lengths.{refused_short, signature_few, job_short, alike_short}
 use Rattle.report_text.proofs.Readings.{work_text_lem}
-use Rattle.report_text.proofs.Verdicts.{exit_text, refused_printed, verdict_printed}
+use Rattle.report_text.proofs.Choices.{exit_text, refused_printed, choice_printed, told_memory}
+
+-- a signature that is answered can be printed
+abbrev Ready : AtExit → Type 0
+Ready c = c.number ≡ 0 → Printable (Ok (record { counts = c.counts; signature = c.signature })) (length c.memory)
 
 record Prints (c : AtExit) (text : List ℕ) : Type 0 where
   told : exit_text c ≡ text
   short : length text ≤ max_text
-  ready : c.number ≡ 0 → Printable Done c.counts c.signature (length c.memory)
+  ready : Ready c
 
 -- with any counts, for a refusal tells none
 prints_refused : (counts : Counts) (i : ℕ) (work : List ℕ) → 1 ≤ i → i < 100 → Prints (at_exit counts (refused i) work) (refused_line i)
@@ -164,31 +168,28 @@ exit_memory : (counts : Counts) (r : Answer (Fills Finding)) (work : List ℕ) �
 exit_memory counts (gives w) work = found_memory counts w.value (leaves (gives w) work).memory
 exit_memory counts (refused i) work = refl
 
-module _ (s work : List ℕ) (v : Verdict) (counts : Counts) (signature : Signature) (memory : List ℕ)
-    (e : record { number = verdict_number v; pair = verdict_pair v; counts = counts; signature = signature; memory = memory } ≡ isolated s work) where
+module _ (s work : List ℕ) (r : Result Chosen Unchosen) (memory : List ℕ) (e : told r memory ≡ isolated s work) where
   abbrev text : List ℕ
-  text = verdict_text v counts signature memory
+  text = choice_text r memory
 
   text_whole : text ≡ report_text s (length work)
-  text_whole = verdict_printed v counts signature memory ∙ ap exit_text e ∙ (prints_isolated s work).told
+  text_whole = choice_printed r memory ∙ ap exit_text e ∙ (prints_isolated s work).told
 
   memory_left : memory ≡ work_left s work
   memory_left =
-      ap (λ (c : AtExit). c.memory) e ∙ exit_memory (counts_in (reading s)) (chosen_of Isolating s Mrm 0 (length work)) work
+      sym (told_memory r memory) ∙ ap (λ (c : AtExit). c.memory) e
+      ∙ exit_memory (counts_in (reading s)) (chosen_of Isolating s Mrm 0 (length work)) work
 
-  pub verdict_printable : Printable v counts signature (length memory)
-  verdict_printable =
-      by_verdict v
-      (subst (λ (c : AtExit). c.number ≡ 0 → Printable Done c.counts c.signature (length c.memory)) (sym e) (prints_isolated s work).ready)
+  pub choice_printable : Printable r (length memory)
+  choice_printable = by_result r (subst (λ (c : AtExit). Ready c) (sym e) (prints_isolated s work).ready)
     where
-      by_verdict : (x : Verdict) → (verdict_number x ≡ 0 → Printable Done counts signature (length memory)) → Printable x counts signature (length memory)
-      by_verdict Done h = h refl
-      by_verdict (Alike a b) h = tt
-      by_verdict (Refused i) h = tt
+      by_result : (x : Result Chosen Unchosen) → Ready (told x memory) → Printable x (length memory)
+      by_result (Ok c) h = h refl
+      by_result (Err u) h = tt
 
   module _ (out : List ℕ) (enough : max_text ≤ length out) where
-    pub verdict_fits : 0 + length text ≤ length out
-    verdict_fits =
+    pub choice_fits : 0 + length text ≤ length out
+    choice_fits =
         let short : length text ≤ max_text = subst (λ (t : List ℕ). length t ≤ max_text) (sym text_whole) (text_bounded s work) in
         omega arith
 

@@ -7,58 +7,34 @@
 --   signature_width                       the line of a signature
 --   circuits_width                        the lines of circuits 0 to c − 1
 --   refused_width, alike_width            the line of a refusal, without and with a pair
-use Prim.Native.Nat.{ℕ, zero, suc, ◌+◌, ◌*◌, ◌/◌, ◌%◌, ◌≤◌, ◌<◌}
-use native.Mathlib.Nat.{div-lt_iff_lt-mul, suc-mul}
+use Prim.Native.Nat.{ℕ, zero, suc, ◌+◌, ◌*◌, ◌^◌, ◌≤◌, ◌<◌}
+use native.Mathlib.Nat.{suc-mul}
 use native.Mathlib.Omega.{arith}
-use mathlib.Core.List.{List, [], ◌∷◌, ◌++◌, Memᴰ}
-use borrow.Author.Tests.{ltb-false}
-use lib.Dec.{ltb}
+use mathlib.Core.Path.{sym, subst}
+use mathlib.Core.List.{List, Memᴰ}
 use lib.ListN.{length, length-append}
 use Rattle.tables.specs.declared.Counts.{Counts}
-use Rattle.bits.proofs.Tests.{by_cond}
+use Rattle.std.proofs.lemmas.Fmt.{length-decimal-le}
 use Rattle.spectra.specs.Listed.{Entry}
-use Rattle.report_text.specs.Text.{digits, decimal, numbers_text, entry_text, inputs_word, gates_word, faults_word, signature_word, refused_word, alike_word, counts_line, signature_line, circuit_line, circuit_lines, refused_line, alike_line}
+use Rattle.report_text.specs.Text.{decimal, numbers_text, entry_text, inputs_word, gates_word, faults_word, signature_word, refused_word, alike_word, counts_line, signature_line, circuit_line, circuit_lines, refused_line, alike_line}
+use Rattle.report_text.proofs.Decimals.{decimal_known}
 use Rattle.report_text.proofs.Elements.{joined_width, numbers_joined, entries_joined}
 
 -- ---- a number's digits
 
-digits_one : (left n : ℕ) → n < 10 → length (digits left n) ≤ 1
-unfolding digits
-digits_one zero n h = omega arith
-digits_one (suc left) n h =
-    by_cond (λ (l : List ℕ). length l ≤ 1) (ltb n 10) ((48 + n) ∷ []) (digits left (n / 10) ++ ((48 + n % 10) ∷ []))
-    (λ t. omega arith) (λ f. absurd (omega (arith, ltb-false n 10 f)))
-
--- ten times the bound, one digit more
-digits_more : (bound most : ℕ) → ((left n : ℕ) → n < bound → length (digits left n) ≤ most)
-    → (left n : ℕ) → n < bound * 10 → length (digits left n) ≤ suc most
-unfolding digits
-digits_more bound most few zero n h = omega arith
-digits_more bound most few (suc left) n h =
-    by_cond (λ (l : List ℕ). length l ≤ suc most) (ltb n 10) ((48 + n) ∷ []) (digits left (n / 10) ++ ((48 + n % 10) ∷ []))
-    (λ t. omega arith)
-    (λ f.
-    let front = few left (n / 10) ((div-lt_iff_lt-mul (omega arith)).1 h) in
-    let all = length-append (digits left (n / 10)) ((48 + n % 10) ∷ []) in
-    omega arith)
-
-digits_two : (left n : ℕ) → n < 100 → length (digits left n) ≤ 2
-digits_two = digits_more 10 1 digits_one
-
-digits_three : (left n : ℕ) → n < 1000 → length (digits left n) ≤ 3
-digits_three = digits_more 100 2 digits_two
+-- with the bound that the library's law takes
+width : (most n : ℕ) → 0 < most → n < 10 ^ most → n < 2 ^ 64 → length (decimal n) ≤ most
+width most n some few fits =
+    subst (λ (d : List ℕ). length d ≤ most) (sym (decimal_known n fits)) (length-decimal-le most n some few fits)
 
 pub one_digit : (n : ℕ) → n < 10 → length (decimal n) ≤ 1
-unfolding decimal
-one_digit n h = digits_one (suc n) n h
+one_digit n h = width 1 n (omega arith) h (omega arith)
 
 pub two_digits : (n : ℕ) → n < 100 → length (decimal n) ≤ 2
-unfolding decimal
-two_digits n h = digits_two (suc n) n h
+two_digits n h = width 2 n (omega arith) h (omega arith)
 
 pub three_digits : (n : ℕ) → n < 1000 → length (decimal n) ≤ 3
-unfolding decimal
-three_digits n h = digits_three (suc n) n h
+three_digits n h = width 3 n (omega arith) h (omega arith)
 
 -- ---- the lines
 

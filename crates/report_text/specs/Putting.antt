@@ -3,17 +3,19 @@
 --   Puts          a text stands behind what stood there, and all else is as it was
 --   Room          there is room for a text
 --   work_text     the text of a job, its circuits' numbers read off the work
---   verdict_text  the text of a verdict
+--   list_of, numbers_of, text_of   the entries, a circuit's numbers and the whole text of the rows that are printed
+--   choice_text   the text of what choosing answers
 --   Printable     it can be printed from the work
-use Rattle.std.specs.Prelude.{ℕ, ◌+◌, ◌≤◌, ◌≡◌, List, ◌++◌, length, take}
+use Rattle.std.specs.Prelude.{ℕ, ◌+◌, ◌≤◌, ◌≡◌, List, ◌++◌, length, take, Result, Ok, Err}
 use Rattle.bits.specs.Answer.{number}
 use Rattle.bits.specs.Slices.{splice}
 use Rattle.tables.specs.declared.Counts.{Counts}
 use Rattle.chooser.specs.Matrix.{max_signature}
 use Rattle.spectra.specs.Listed.{Entry, entries_at}
+use Rattle.choosing.specs.declared.Chosen.{Chosen}
 use Rattle.choosing.specs.declared.Signature.{Signature}
-use Rattle.choosing.specs.declared.Verdict.{Verdict}
-use Rattle.choosing.specs.declared.Verdict.TheVariants.{Done, Alike, Refused}
+use Rattle.choosing.specs.declared.Unchosen.{Unchosen}
+use Rattle.choosing.specs.declared.Unchosen.TheVariants.{Alike, Refused}
 use Rattle.locating.specs.Scanning.{work_numbers, RowsIn}
 use Rattle.report_text.specs.declared.Rows.{Rows}
 use Rattle.report_text.specs.declared.Writer.{Writer}
@@ -47,14 +49,13 @@ index_list s = take s.count s.indices
 abbrev pub output_list : Signature → List ℕ
 output_list s = take s.count s.outputs
 
-abbrev pub verdict_text : Verdict → Counts → Signature → List ℕ → List ℕ
-verdict_text Done counts signature work = work_text counts (entries_at (index_list signature) (output_list signature)) work
-verdict_text (Alike a b) counts signature work = alike_line a b
-verdict_text (Refused e) counts signature work = refused_line (number e)
+abbrev pub choice_text : Result Chosen Unchosen → List ℕ → List ℕ
+choice_text (Ok c) work = work_text c.counts (entries_at (index_list c.signature) (output_list c.signature)) work
+choice_text (Err (Alike a b)) work = alike_line a b
+choice_text (Err (Refused e)) work = refused_line (number e)
 
 -- of a refusal or a pair there is nothing to know
-abbrev pub Printable : Verdict → Counts → Signature → ℕ → Type 0
-Printable Done counts signature room =
-    (signature.count ≤ max_signature) × RowsIn counts (index_list signature) (output_list signature) room
-Printable (Alike a b) counts signature room = Unit {0}
-Printable (Refused e) counts signature room = Unit {0}
+abbrev pub Printable : Result Chosen Unchosen → ℕ → Type 0
+Printable (Ok c) room =
+    (c.signature.count ≤ max_signature) × RowsIn c.counts (index_list c.signature) (output_list c.signature) room
+Printable (Err u) room = Unit {0}

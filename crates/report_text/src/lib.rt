@@ -7,7 +7,7 @@ ghost use Rattle.std.specs.Prelude.{◌+◌, ◌<◌, ◌≡◌, ◌∷◌, leng
 ghost use Rattle.locating.specs.Scanning.{RowsIn};
 ghost use Rattle.report_text.specs.Text.{decimal, space, numbers_text, entry_text, entries_text, counts_line, signature_line, circuit_line, circuit_lines, refused_line, alike_line, reported};
 
-use choosing::{Purpose, Signature, Verdict};
+use choosing::{Chosen, Purpose, Unchosen};
 use job::MAX_FAULTS;
 use spectra::Kind;
 use tables::Counts;
@@ -34,8 +34,9 @@ struct Rows<'a> {
 }
 
 impl Writer<'_> {
-    ghost use Rattle.report_text.specs.Putting.{Puts, Room, Printable, list_of, numbers_of, text_of, verdict_text};
+    ghost use Rattle.report_text.specs.Putting.{Puts, Room, Printable, list_of, numbers_of, text_of, choice_text};
 
+    // Puts a text behind what there is.
     fn put(&mut self, text: &[u8])
         requires { Room text.now self.old }
         ensures { Puts text.now self.old self.new }
@@ -45,7 +46,7 @@ impl Writer<'_> {
         self.len = end;
     }
 
-    // Puts a number's digits. By hand, since std's `write!` may fail, and then says nothing of the bytes.
+    // Puts a number's digits. By hand: of std's `write!` nothing is known where it answers an error, and nothing says that it answers none.
     fn put_decimal(&mut self, n: usize)
         requires { Room (decimal n) self.old }
         ensures { Puts (decimal n) self.old self.new }
@@ -177,23 +178,23 @@ impl Writer<'_> {
         self.put(b"\n");
     }
 
-    // Puts the text of a verdict.
-    fn put_verdict(&mut self, verdict: Verdict, counts: Counts, signature: &Signature, work: &[u16])
-        requires { Printable verdict counts signature.now (length work.now) × Room (verdict_text verdict counts signature.now work.now) self.old }
-        ensures { Puts (verdict_text verdict counts signature.now work.now) self.old self.new }
+    // Puts the text of what is chosen, or why nothing is.
+    fn put_choice(&mut self, choice: &Result<Chosen, Unchosen>, work: &[u16])
+        requires { Printable choice.now (length work.now) × Room (choice_text choice.now work.now) self.old }
+        ensures { Puts (choice_text choice.now work.now) self.old self.new }
     {
-        match verdict {
-            Verdict::Refused(cause) => self.put_refused(cause.number()),
-            Verdict::Alike(a, b) => self.put_alike(a, b),
-            Verdict::Done => {
-                let count = signature.count;
+        match choice {
+            Ok(chosen) => {
+                let count = chosen.signature.count;
                 self.put_job(&Rows {
-                    counts,
+                    counts: chosen.counts,
                     work,
-                    indices: &signature.indices[..count],
-                    outputs: &signature.outputs[..count],
+                    indices: &chosen.signature.indices[..count],
+                    outputs: &chosen.signature.outputs[..count],
                 });
             }
+            Err(Unchosen::Alike(a, b)) => self.put_alike(*a, *b),
+            Err(Unchosen::Refused(cause)) => self.put_refused(cause.number()),
         }
     }
 }
@@ -206,8 +207,8 @@ pub fn report(bytes: &[u8], work: &mut [u16], out: &mut [u8]) -> Option<usize>
     if out.len() < MAX_TEXT {
         return None;
     }
-    let chosen = choosing::choose(bytes, Purpose::Isolating, Kind::Mrm, 0, work);
+    let choice = choosing::choose(bytes, Purpose::Isolating, Kind::Mrm, 0, work);
     let mut text = Writer { out, len: 0 };
-    text.put_verdict(chosen.verdict, chosen.counts, &chosen.signature, work);
+    text.put_choice(&choice, work);
     Some(text.len)
 }

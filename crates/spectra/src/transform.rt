@@ -7,6 +7,9 @@
 // three lowest bits of the polarity (`half_sums`). For four inputs the same step stands written out with the leaf as
 // its inner call (`four`), since that saves half of all calls. One and two inputs go down to single entries.
 //
+// `sums` and `table` are parameters of their own in all of these: behind a struct of both, filling takes a twentieth longer.
+// So are the inputs, the kind and the polarity, which the recursion changes and the callers have apart, as C gives them.
+//
 // What is made are sums, which are the MRM spectrum; RM's numbers are taken modulo 2 at the end (`parities`).
 ghost use Rattle.std.specs.Prelude.{◌+◌, ◌*◌, ◌/◌, ◌%◌, ◌^◌, ◌≤◌, ◌<◌, length, take, drop, ◌≡◌};
 ghost use Rattle.bits.specs.Packed.{entry};
@@ -119,25 +122,20 @@ fn transform(out: &mut [u16], sums: &HalfSums, table: &[u8], at: usize, n: usize
     requires { Asks (length out.old) sums.now (length table.now) at n k }
     ensures { out.new ≡ spectrum Mrm n k (entries_from table.now at) }
 {
-    if n == 0 {
-        out[0] = entry_at(table, at);
-        return;
+    match n {
+        0 => out[0] = entry_at(table, at),
+        3 => leaf(out, sums, table, at),
+        4 => four(out, sums, table, at, k),
+        _ => {
+            let half = 1 << (n - 1);
+            let top = k / half;
+            let rest = k % half;
+            let (lower, upper) = out.split_at_mut(half);
+            transform(lower, sums, table, at + top * half, n - 1, rest);
+            transform(upper, sums, table, at + (1 - top) * half, n - 1, rest);
+            combine(out, half);
+        }
     }
-    if n == 3 {
-        leaf(out, sums, table, at);
-        return;
-    }
-    if n == 4 {
-        four(out, sums, table, at, k);
-        return;
-    }
-    let half = 1 << (n - 1);
-    let top = k / half;
-    let rest = k % half;
-    let (lower, upper) = out.split_at_mut(half);
-    transform(lower, sums, table, at + top * half, n - 1, rest);
-    transform(upper, sums, table, at + (1 - top) * half, n - 1, rest);
-    combine(out, half);
 }
 
 // "The Reed-Muller (RM) coefficient is that sum modulo 2."
@@ -160,7 +158,7 @@ fn transform_row(out: &mut [u16], sums: &HalfSums, table: &[u8], n: usize, k: us
     }
 }
 
-// The spectra of tables that stand row after row.
+// The spectra of tables that stand row after row. The rows go by an index: after a loop over `chunks_exact_mut` a proof knows no number of the work.
 fn transform_rows(
     work: &mut [u16],
     sums: &HalfSums,
@@ -176,14 +174,9 @@ fn transform_rows(
     let size = bits::table_size(n);
     let bytes = bits::table_bytes(n);
     for r in 0..rows {
-        transform_row(
-            &mut work[r * size..r * size + size],
-            sums,
-            &tables[r * bytes..r * bytes + bytes],
-            n,
-            k,
-            kind,
-        );
+        let row = &mut work[r * size..r * size + size];
+        let table = &tables[r * bytes..r * bytes + bytes];
+        transform_row(row, sums, table, n, k, kind);
     }
 }
 

@@ -14,16 +14,20 @@
 --   tables_put       the tables of all circuits are put
 --   Putting          the tables of the first faulty circuits are put, and the good circuit's rows stand
 --   putting_start    none is put yet
---   putting_within, putting_rows, putting_turn, putting_room   the next batch has faults of the job, rows, a circuit or more, and room
+--   most, taken      how many circuits a batch takes, and so many batches
+--   putting_left, putting_all    faults are left where batches are, and none behind the last (most_some: a batch takes one or more)
+--   putting_within, putting_rows, putting_room   the next batch has faults of the job, rows and room
 --   putting_place    its place fits a word
 --   putting_next     the tables of a batch are put
 use Prim.Native.Nat.{ℕ, min, ◌+◌, ◌-◌, ◌*◌, ◌/◌, ◌^◌, ◌≤◌, ◌<◌}
 use native.Mathlib.Omega.{arith}
-use native.Mathlib.Nat.{add-mul, one-mul, le-div_iff_mul-le}
+use native.Mathlib.Nat.{add-mul, zero-mul, one-mul, suc-mul, mul-le-mul_right, le-div_iff_mul-le}
 use mathlib.Core.Path.{◌≡◌, refl, sym, ap, subst, ◌∙◌}
 use mathlib.Core.Bool.{cond}
 use mathlib.Core.List.{List}
 use lib.ListN.{length, get_or}
+use Rattle.std.specs.Int.{div_ceil}
+use Rattle.std.proofs.lemmas.Grind.{div_ceil_times}
 use mir.Syntax.{w64}
 use mir.Val.{Fits}
 use Rattle.job.specs.Check.{Valid}
@@ -99,6 +103,14 @@ module _ {j : Job} {shape : Shape} {b : Batch} {rows : List ℕ} (sound : Sound 
       ∙ ap (λ (k : ℕ). splice out to (block b.count (rows_at b k asked rows))) (sound_bytes sound)
       ∙ ap (splice out to) (side_tables side asked lie)
 
+-- a batch takes as many circuits as fit a block
+abbrev pub most : Shape → ℕ
+most shape = block_bytes / shape.bytes
+
+-- so many batches take no more than there are
+abbrev pub taken : Job → Shape → ℕ → ℕ
+taken j shape i = min (i * most shape) j.fault_count
+
 module _ (j : Job) (asked : List ℕ) where
   -- the bytes of a circuit's tables
   abbrev step : ℕ
@@ -137,35 +149,54 @@ module _ (j : Job) (asked : List ℕ) where
     pub long : length rows ≡ length first
     pub placed : Placed start step j.fault_count step (λ i. tables_at j asked (1 + i)) out done
 
-  pub putting_start : {out rows : List ℕ} → RowsFor j (block_bytes / table_bytes j.inputs) rows → Good j rows
-      → (j.fault_count + 1) * step ≤ length out → Putting out rows out rows 0
-  putting_start room good h =
-      record { room = room; good = good; long = refl; placed = placed_none (omega (arith, first_end j.fault_count)) (λ i _. length_tables j asked (1 + i)) }
+  pub putting_start : (shape : Shape) {out rows : List ℕ} → RowsFor j (block_bytes / table_bytes j.inputs) rows → Good j rows
+      → (j.fault_count + 1) * step ≤ length out → Putting out rows out rows (taken j shape 0)
+  putting_start shape {out} {rows} room good h =
+      let none : 0 ≡ taken j shape 0 = omega (arith, zero-mul (most shape)) in
+      subst (Putting out rows out rows) none
+      (record { room = room; good = good; long = refl; placed = placed_none (omega (arith, first_end j.fault_count)) (λ i _. length_tables j asked (1 + i)) })
 
-module _ {j : Job} {asked : List ℕ} {shape : Shape} {start first out rows : List ℕ} {done : ℕ} (valid : Valid j) (shaped : shape ≡ shape_of j.inputs)
-    (p : Putting j asked start first out rows done) where
+module _ {j : Job} {shape : Shape} (valid : Valid j) (shaped : shape ≡ shape_of j.inputs) where
   bytes : shape.bytes ≡ table_bytes j.inputs
   bytes = shape_bytes j shaped
 
   -- a block has room for a table or more
-  width_some : 1 ≤ block_bytes / shape.bytes
-  width_some =
+  pub most_some : 1 ≤ most shape
+  most_some =
       (le-div_iff_mul-le (shape_some j shaped)).1
       (omega (arith, one-mul shape.bytes, bytes, table_bytes_most j.inputs valid.few, block_fits))
 
+  module _ {i batches : ℕ} (e : batches ≡ div_ceil j.fault_count (most shape)) where
+    pub putting_left : i < batches → i * most shape < j.fault_count
+    putting_left h =
+        let above : batches * most shape < j.fault_count + most shape =
+        subst (λ (n : ℕ). n * most shape < j.fault_count + most shape) (sym e) (div_ceil_times j.fault_count (most shape) most_some).1 in
+        omega (arith, above, mul-le-mul_right (most shape) h, suc-mul i (most shape))
+
+    pub putting_all : batches ≤ i → j.fault_count ≤ taken j shape i
+    putting_all h =
+        let enough : j.fault_count ≤ batches * most shape =
+        subst (λ (n : ℕ). j.fault_count ≤ n * most shape) (sym e) (div_ceil_times j.fault_count (most shape) most_some).0 in
+        omega (arith, enough, mul-le-mul_right (most shape) h)
+
+module _ {j : Job} {asked : List ℕ} {shape : Shape} {start first out rows : List ℕ} (i : ℕ) (valid : Valid j) (shaped : shape ≡ shape_of j.inputs)
+    (m : Putting j asked start first out rows (taken j shape i)) (left : i * most shape < j.fault_count) where
+  abbrev done : ℕ
+  done = i * most shape
+
+  p : Putting j asked start first out rows done
+  p = let e : taken j shape i ≡ done = omega (arith, left) in subst (Putting j asked start first out rows) e m
+
   -- where the next batch's tables start
   place : (done + 1) * (length asked * shape.bytes) ≡ step j asked + done * step j asked
-  place = ap (λ (k : ℕ). (done + 1) * (length asked * k)) bytes ∙ first_end j asked done
+  place = ap (λ (k : ℕ). (done + 1) * (length asked * k)) (bytes valid shaped) ∙ first_end j asked done
 
-  module _ {count : ℕ} (least : count ≡ min (block_bytes / shape.bytes) (j.fault_count - done)) where
+  module _ {count : ℕ} (least : count ≡ min (most shape) (j.fault_count - done)) where
     pub putting_within : done + 1 + count ≤ j.fault_count + 1
-    putting_within = omega (arith, p.placed.within, least)
+    putting_within = omega (arith, left, least)
 
     pub putting_rows : RowsFor j count rows
-    putting_rows = rows_fewer p.room (subst (λ (k : ℕ). count ≤ k) (ap (λ (k : ℕ). block_bytes / k) bytes) (omega (arith, least)))
-
-    pub putting_turn : done < j.fault_count → 1 ≤ count
-    putting_turn h = omega (arith, least, width_some)
+    putting_rows = rows_fewer p.room (subst (λ (k : ℕ). count ≤ k) (ap (λ (k : ℕ). block_bytes / k) (bytes valid shaped)) (omega (arith, least)))
 
     pub putting_room : (done + 1) * (length asked * shape.bytes) + count * step j asked ≤ length out
     putting_room = omega (arith, place, placed_room p.placed count (omega (arith, putting_within)))
@@ -174,9 +205,11 @@ module _ {j : Job} {asked : List ℕ} {shape : Shape} {start first out rows : Li
     putting_place short = record { fits = omega (arith, putting_room, placed_length p.placed) }
 
     pub putting_next : {put after : List ℕ} → Good j after → length after ≡ length rows
-        → put ≡ splice out ((done + 1) * (length asked * shape.bytes)) (tables_from j asked (done + 1) count) → Putting j asked start first put after (done + count)
-    putting_next good l e =
-        record {
+        → put ≡ splice out ((done + 1) * (length asked * shape.bytes)) (tables_from j asked (done + 1) count) → Putting j asked start first put after (taken j shape (i + 1))
+    putting_next {put} {after} good l e =
+        let then : done + count ≡ taken j shape (i + 1) = omega (arith, least, left, add-mul i 1 (most shape), one-mul (most shape)) in
+        subst (Putting j asked start first put after) then
+        (record {
           room = rows_kept p.room l;
           good = good;
           long = l ∙ p.long;
@@ -184,4 +217,4 @@ module _ {j : Job} {asked : List ℕ} {shape : Shape} {start first out rows : Li
               placed_next p.placed count (omega (arith, putting_within))
               (e ∙ (λ i. splice out (place i) (block_ext count (λ k. tables_at j asked (done + 1 + k)) (λ k. tables_at j asked (1 + (done + k)))
               (λ k _. let s : done + 1 + k ≡ 1 + (done + k) = omega arith in ap (tables_at j asked) s) i)));
-        }
+        })

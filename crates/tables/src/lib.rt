@@ -208,13 +208,12 @@ impl<'a> Listing<'a> {
         let bytes = self.circuits.shape.bytes;
         let step = self.asked.len() * bytes;
         let most = BLOCK_BYTES / bytes;
-        let mut done = 0;
-        while done < faults {
+        for i in 0..faults.div_ceil(most) {
+            let done = i * most;
             let count = most.min(faults - done);
             let first = done + 1;
             let batch = self.circuits.faulty(first, count);
             self.put_batch(rows, batch, out, first * step);
-            done += count;
         }
     }
 }

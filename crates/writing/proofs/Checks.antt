@@ -1,14 +1,12 @@
 -- Laws of checking a list entry by entry (specs/Checks.antt; job's specs/Check.antt).
 --
 --   judged_from                        the checks of a list from an entry on
---   each_start, each_end               from the first, and where none is left
---   each_stop, each_next               where the next is refused, and where it passes
+--   each_end, each_stop, each_next     where none is left, where the next is refused, and where it passes
 --   gate_first, gate_second, gate_passed   a gate whose first line is not below its own, whose second is not, and one that passes
 --   gates_lent, outputs_lent, faults_lent   the checks of the entries in use are those of the list of them
 --   behind_gates, behind_outputs       what is left to check once the gates have passed, and the outputs
 --   past_gates, past_outputs           so a record whose gates, and whose outputs, have passed is refused or not by these
 use Rattle.std.proofs.Common.{◌≡◌, ℕ, zero, suc, ◌+◌, ◌-◌, ◌≤◌, ◌<◌, Bool, true, false, ◌&&◌, List, length, get_or, take, drop, drop-cons, refl, sym, ap, ◌∙◌, add-one, arith, lt-ltb, le-ltb, le-leb}
-use Rattle.std.proofs.Math.Nat.{sub-zero}
 use mathlib.Core.Path.{ap₂}
 use lib.Seq.{length-take-le, get_or-take}
 use Rattle.std.proofs.lemmas.List.{drop_all}
@@ -29,9 +27,6 @@ judged_from judged d entries i = in_turn (λ k. judged k (get_or entries k d)) (
 module _ {A : Type 0} (judged : ℕ → A → Answer (Unit {0})) (d : A) (entries : List A) where
   abbrev at : ℕ → Answer (Unit {0})
   at i = judged i (get_or entries i d)
-
-  pub each_start : each_judged judged d entries ≡ judged_from judged d entries 0
-  each_start = ap (λ (n : ℕ). in_turn at n 0) (sym (sub-zero (length entries)))
 
   module _ {i : ℕ} (so_far : each_judged judged d entries ≡ judged_from judged d entries i) where
     pub each_end : length entries ≤ i → gives tt ≡ each_judged judged d entries

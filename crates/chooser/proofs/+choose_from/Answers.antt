@@ -1,5 +1,5 @@
 -- `chooser::choose_from` meets its contract. Its measure is the number of entries that are left to look at.
-use Rattle.std.proofs.Common.{◌∙◌, sym, ◌≡◌, ◌<◌, ℕ, get_or, length, subst}
+use Rattle.std.proofs.Common.{◌∙◌, sym, ◌≡◌, ◌<◌, ℕ, get_or, length}
 use Rattle.bits.proofs.Bounds.{entry_below}
 use Rattle.std.specs.Prelude.{Some, position}
 use Rattle.std.proofs.lemmas.List.Quantifiers.{position-Some}
@@ -41,15 +41,20 @@ refine-requires t c = (c.requires.there, entry t (goal.at.refine-requires t c).I
 pub choose_from-requires : goal.choose_from-requires
 choose_from-requires t c = (
   behind_less c.args.scan.now c.in-Some.at c.decreases (inside t (goal.at.choose_from-requires t c).In-Some),
-  (leaves_there c.refine.ensures c.requires.there,
-  (c.requires.rest_there,
-  (behind_below c.args.scan.now c.in-Some.at c.args.matrix.width c.requires.within, c.requires.none))),
+  (
+    leaves_there c.refine.ensures c.requires.there,
+    (
+      c.requires.rest_there,
+      (behind_below c.args.scan.now c.in-Some.at c.args.matrix.width c.requires.within, c.requires.none),
+    ),
+  ),
 )
 
 pub refine-requires-then-not-is_apart_from : goal.refine-requires-then-not-is_apart_from
-refine-requires-then-not-is_apart_from t c =
-    (rest_there (numbers c.args.matrix) c.choose_from.new.kept c.choose_from.ensures.left c.requires.rest_there,
-    entry t (goal.at.refine-requires-then-not-is_apart_from t c).In-Some)
+refine-requires-then-not-is_apart_from t c = (
+  rest_there (numbers c.args.matrix) c.choose_from.new.kept c.choose_from.ensures.left c.requires.rest_there,
+  entry t (goal.at.refine-requires-then-not-is_apart_from t c).In-Some,
+)
 
 pub push-requires : goal.push-requires
 push-requires t c =

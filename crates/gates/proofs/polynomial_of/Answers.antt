@@ -1,5 +1,5 @@
 -- `gates::polynomial_of` meets its contract. The constant's rows are `answers`, by computation.
-use Prim.Native.Nat.{ℕ, ◌<◌}
+use Prim.Native.Nat.{ℕ}
 use native.Mathlib.Omega.{arith}
 use mathlib.Core.Path.{ap}
 use mathlib.Core.List.{List, []}

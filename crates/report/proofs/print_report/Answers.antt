@@ -1,10 +1,25 @@
--- `report::print_report` is safe and ends: it hands on a text that is all there.
+-- `report::print_report` is safe and ends: the text is made, and all there.
+use lib.Seq.{length-take-le}
+use mathlib.Core.Path.{sym}
 use Rattle.job.specs.Layout.{max_faults}
 use Rattle.report_text.specs.Text.{max_text}
-use Rattle.report.proofs.Bounds.{blank_whole}
+use Rattle.report.proofs.Bounds.{blank_made, blank_within}
 use Rattle.report.proofs.print_report.Goals as goal
 
-pub print-requires : goal.print-requires
+pub unwrap-length-requires : goal.unwrap-length-requires
 unfolding max_text max_faults
-print-requires g c =
-    blank_whole c.args.bytes.now (record { answer = c.job_report-reported.result; text = c.job_report-reported.new.out }) c.job_report-reported.ensures
+unwrap-length-requires g c =
+    blank_made c.args.bytes.now (record { answer = c.job_report.result; text = c.job_report.new.out }) c.job_report.ensures
+
+pub slice_bounds-text-end : goal.slice_bounds-text-end
+unfolding max_text max_faults
+slice_bounds-text-end g c =
+    blank_within c.args.bytes.now (record { answer = c.job_report.result; text = c.job_report.new.out }) c.job_report.ensures
+    c.unwrap-length.result c.unwrap-length.ensures
+
+pub slice_bounds-write_all-end : goal.slice_bounds-write_all-end
+unfolding max_text max_faults
+slice_bounds-write_all-end g c =
+    sym (length-take-le c.unwrap-length.result c.job_report.new.out
+    (blank_within c.args.bytes.now (record { answer = c.job_report.result; text = c.job_report.new.out }) c.job_report.ensures
+    c.unwrap-length.result c.unwrap-length.ensures))

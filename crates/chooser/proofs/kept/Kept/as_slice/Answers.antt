@@ -8,6 +8,7 @@ pub returns : goal.returns
 unfolding max_signature
 returns c =
     let kept = drop c.self.inside.start c.self.inside.entries in
-    let few : length kept ≡ length c.args.self.now = ap length c.self.view_is in
-    (take_all _ kept (omega (arith, length-drop c.self.inside.start c.self.inside.entries)) ∙ c.self.view_is,
-    omega (arith, length-drop c.self.inside.start c.self.inside.entries))
+    let few : length kept ≡ length c.args.self.now = ap length c.self.view_is in (
+      take_all _ kept (omega (arith, length-drop c.self.inside.start c.self.inside.entries)) ∙ c.self.view_is,
+      omega (arith, length-drop c.self.inside.start c.self.inside.entries),
+    )
