@@ -1,8 +1,7 @@
 -- Locating among circuits whose tables are given: its ways out (specs/Locating.antt, specs/Scanning.antt).
 --
 --   passing_same       the numbers that pass depend on the test below the bound alone
---   sought_refused     what the preparation refuses
---   sought_indexed     past it, there is a reading for each index
+--   sought_indexed     past the preparation, there is a reading for each index
 --   sought_rows        and the rows of the circuits lie within the work
 --   numbers_readings   the numbers of a row of the filled work are the circuit's readings
 --   sought_done        success
@@ -15,10 +14,10 @@ use mathlib.Core.List.{List, [], ◌∷◌, ◌++◌, Memᴰ}
 use borrow.Author.Tests.{eqb-true}
 use lib.Dec.{eqb}
 use lib.ListN.{length, get_or, drop, length-append}
-use Rattle.bits.specs.Answer.{Answer, Fills, Leaves, leaves, onward}
-use Rattle.bits.specs.Answer.Answer.{gives, refused}
+use Rattle.bits.specs.Answer.{Answer, Fills, leaves, onward}
+use Rattle.bits.specs.Answer.Answer.{gives}
 use Rattle.bits.specs.Passing.{passing}
-use Rattle.bits.proofs.Answers.{never_gives, refused_same, onward_onward}
+use Rattle.bits.proofs.Answers.{onward_onward}
 use Rattle.bits.proofs.Tests.{and_l, and_r}
 use Rattle.tables.specs.Family.{Family}
 use Rattle.tables.specs.declared.Counts.{Counts}
@@ -63,17 +62,6 @@ module _ (counts : Counts) (s : List ℕ) (kind : Kind) (k : ℕ) (indices outpu
   after_prepared =
       onward_onward (tables_checked counts s) (λ _. prepared_by paired F kind k indices outputs (length work)) found
       ∙ ap (λ (t : Bool). onward (tables_checked counts s) (λ _. onward (prepared_by t F kind k indices outputs (length work)) found)) lengths
-
-  refusing : (a : Answer (Fills (Unit {0}))) (after : List ℕ) (i : ℕ) → record { answer = refused i; memory = after } ≡ leaves a work
-      → record { answer = refused i; memory = after } ≡ leaves (onward a found) work
-  refusing (gives w) after i p = absurd (never_gives (ap (λ (x : Leaves (Unit {0})). x.answer) p))
-  refusing (refused j) after i p =
-      ap₂ (λ (x : ℕ) (m : List ℕ). record { answer = refused x; memory = m })
-      (refused_same {A = Unit {0}} (ap (λ (x : Leaves (Unit {0})). x.answer) p)) (ap (λ (x : Leaves (Unit {0})). x.memory) p)
-
-  pub sought_refused : {after : List ℕ} (i : ℕ) → record { answer = refused i; memory = after } ≡ leaves prepared work
-      → record { answer = refused i; memory = after } ≡ leaves sought work
-  sought_refused {after} i p = refusing prepared after i p ∙ ap (λ (x : Answer (Fills Location)). leaves x work) after_prepared
 
   module _ {after : List ℕ} (w : Prepared counts s kind k indices outputs paired work after) where
     room : (counts.faults + 1) * (counts.outputs * 2 ^ counts.inputs) ≤ length after

@@ -1,7 +1,6 @@
--- Comparing numbers read at entries with readings, as the code does it: Comparing (spectra/proofs/Recovery.antt) by the indices' length.
+-- Comparing numbers read at entries with readings, as the code does it: Comparing (spectra/proofs/Recovery.antt) by the readings' length.
 --
 --   compared_none, compared_stop, compared_more, compared_all   its start, its ways out and its step
---   read_inside                                                 a number of the work stands where the code reads it
 use Prim.Native.Nat.{ℕ, ◌+◌, ◌*◌, ◌≤◌, ◌<◌}
 use mathlib.Core.Path.{◌≡◌, sym, subst, ◌∙◌}
 use mathlib.Core.Bool.{true, false}
@@ -12,11 +11,6 @@ use Rattle.spectra.specs.Operations.{same_numbers}
 use Rattle.spectra.proofs.Recovery.{Comparing, comparing_none, comparing_stop, comparing_more, comparing_all}
 use Rattle.locating.specs.Scanning.{numbers_at, Within}
 use Rattle.locating.proofs.Indices.{numbers_at_lem, numbers_length}
-
-pub read_inside : {start size : ℕ} {indices outputs : List ℕ} (readings : List ℕ) {room i : ℕ}
-    → Within start size indices outputs room × (length indices ≡ length readings) → i < length readings
-    → start + (get_or outputs i 0 * size + get_or indices i 0) < room
-read_inside readings {i = i} r h = r.0.inside i (subst (λ (x : ℕ). i < x) (sym r.1) h)
 
 module _ (work : List ℕ) {size start : ℕ} {indices outputs : List ℕ} (r : Within start size indices outputs (length work)) where
   abbrev numbers : List ℕ

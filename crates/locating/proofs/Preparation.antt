@@ -1,7 +1,6 @@
 -- The checks of locating and the filled work, from tables: its ways out, and what success tells (specs/Locating.antt).
 --
 --   lengths_differ, lengths_same   the test of 17
---   prepared_unchecked             2 or 12
 --   prepared_polarity, prepared_index, prepared_output, prepared_readings   13, 16, 20, 17
 --   prepared_filled                past these, what the spectra of the tables answer and leave
 --   Prepared                       the checks are passed, and the spectra stand at the start of the work
@@ -23,7 +22,7 @@ use Rattle.tables.proofs.Answers.{kept}
 use Rattle.spectra.specs.Listed.{family_spectra, places}
 use Rattle.spectra.specs.Operations.{polarity_ok, tables_checked, table_family, from_tables, filled_from}
 use Rattle.spectra.specs.declared.Kind.{Kind}
-use Rattle.spectra.proofs.Families.{Fits, checked_fits, unchecked, checked}
+use Rattle.spectra.proofs.Families.{Fits, checked_fits, checked}
 use Rattle.locating.specs.Locating.{lengths_ok, prepared_by}
 
 -- ---- the test of 17
@@ -50,9 +49,6 @@ module _ (counts : Counts) (s : List ℕ) (kind : Kind) (k : ℕ) (indices outpu
 
   abbrev prepared : Answer (Fills (Unit {0}))
   prepared = from_tables counts s go
-
-  pub prepared_unchecked : {i : ℕ} → tables_checked counts s ≡ refused i → record { answer = refused i; memory = work } ≡ leaves prepared work
-  prepared_unchecked {i} u = kept prepared i work (unchecked counts s go u)
 
   module _ (ok : tables_checked counts s ≡ gives tt) {size : ℕ} (e : size ≡ 2 ^ n) where
     onto : prepared ≡ go family

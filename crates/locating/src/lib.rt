@@ -2,7 +2,8 @@
 //
 // The list is lent as its indices and its outputs, two slices as C lends them. `prepare` has the checks and fills the
 // work: 13, 16, 20 and 17 come before 10, so they are judged before the spectra are made; 16 over all indices, then 20
-// over all outputs, then 17. Then each circuit's coefficients at the entries are compared with the readings.
+// over all outputs, then 17. Then each circuit's coefficients at the entries are compared with the readings. What public
+// functions take side by side (counts and tables, kind and polarity, the list) the C interface takes so.
 #![tactic(auto)]
 
 ghost use Rattle.std.specs.Prelude.{◌+◌, ◌<◌, ◌≡◌, length, IfSome};

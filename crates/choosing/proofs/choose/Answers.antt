@@ -1,9 +1,8 @@
 -- `choosing::choose` meets its contract: the tables are delivered, or reading refuses.
 use Prim.Native.Nat.{ℕ}
-use mathlib.Core.Path.{sym, ◌∙◌}
+use mathlib.Core.Path.{◌∙◌}
 use mathlib.Core.List.{List}
 use lib.ListN.{replicate, length-replicate}
-use lib.Seq.{length-take-le}
 use Rattle.std.proofs.lemmas.Result.{err_from_is_err_and}
 use Rattle.job.specs.Layout.{max_outputs, max_faults}
 use Rattle.tables.specs.Work.{max_table_bytes}
@@ -27,10 +26,6 @@ returns-in_err-delivery c =
 
 delivers : (c : In_ok-delivery) → Delivers c.args.bytes.now c.in_ok-delivery.delivery c.tables.new.out
 delivers c = tables_deliver c.args.bytes.now zeros c.tables.new.out c.in_ok-delivery.ensures
-
-pub slice_bounds-tables-end-2 : goal.slice_bounds-tables-end-2
-slice_bounds-tables-end-2 c =
-    sym (length-take-le c.in_ok-delivery.delivery.bytes c.tables.new.out (delivers (goal.at.slice_bounds-tables-end-2 c).In_ok-delivery).inside)
 
 pub returns : goal.returns
 returns c =

@@ -1,11 +1,7 @@
 -- `choosing::put_outputs` meets its contract: an entry a turn.
-use Prim.Native.Nat.{◌<◌}
 use native.Mathlib.Omega.{arith}
 use mathlib.Core.Path.{refl, ◌∙◌}
-use mir.Syntax.{w16}
-use mir.Val.{Fits}
 use lib.ListN.{length}
-use Rattle.job.specs.Layout.{max_outputs}
 use Rattle.bits.proofs.Splice.{written_none, filled_more, filled_all}
 use Rattle.choosing.proofs.EntryNumbers.{code_fits, outputs_codes}
 use Rattle.choosing.proofs.put_outputs.Goals as goal

@@ -1,16 +1,8 @@
 -- `locate_tables` meets its contract: the work is prepared, and its rows are scanned.
-use Rattle.std.proofs.lemmas.Result.{err_from_is_err_and}
 use Rattle.locating.proofs.Preparation.{Prepared, prepared_done}
-use Rattle.locating.proofs.Answers.{sought_refused, sought_indexed, sought_rows, sought_done}
+use Rattle.locating.proofs.Answers.{sought_indexed, sought_rows, sought_done}
 use Rattle.locating.proofs.locate_tables.Goals as goal
 use Rattle.locating.proofs.locate_tables.Goals.{In_ok-prepare}
-
-pub returns-in_err-prepare : goal.returns-in_err-prepare
-returns-in_err-prepare c =
-    let p = err_from_is_err_and c.from_residual.result c.from_residual.ensures.1 in
-    let a = c.args in
-    rw (p.1, p.2)
-    (sought_refused a.counts a.tables.now a.kind a.polarity a.indices.now a.outputs.now a.readings.now a.work.now c.lengths_ok-paired.ensures _ c.in_err-prepare.ensures)
 
 -- the work is prepared
 ready : (c : In_ok-prepare) → let a = c.args in Prepared a.counts a.tables.now a.kind a.polarity a.indices.now a.outputs.now c.lengths_ok-paired.result a.work.now c.prepare.new.work

@@ -2,22 +2,15 @@
 use Prim.Native.Nat.{◌^◌}
 use mathlib.Core.Bool.{true}
 use mathlib.Core.Path.{◌≡◌, sym, ◌∙◌}
-use Rattle.std.proofs.lemmas.Result.{err_from_is_err_and}
 use Rattle.bits.specs.Bounds.{all_below}
 use Rattle.bits.specs.Answer.Answer.{gives}
 use Rattle.bits.proofs.TableSizes.{table_size_exact}
 use Rattle.job.proofs.Sizes.{inputs_few}
 use Rattle.spectra.specs.Operations.{tables_checked}
 use Rattle.spectra.proofs.Families.{checked_fits}
-use Rattle.locating.proofs.Preparation.{prepared_unchecked, prepared_polarity, prepared_index, prepared_output, prepared_readings, prepared_filled}
+use Rattle.locating.proofs.Preparation.{prepared_polarity, prepared_index, prepared_output, prepared_readings, prepared_filled}
 use Rattle.locating.proofs.prepare.Goals as goal
 use Rattle.locating.proofs.prepare.Goals.{After-table_size-size, Else-not-all_below, Else-not-all_below-2}
-
-pub returns-in_err-check_tables : goal.returns-in_err-check_tables
-returns-in_err-check_tables c =
-    let p = err_from_is_err_and c.from_residual.result c.from_residual.ensures.1 in
-    let a = c.args in
-    rw (p.1, p.2) (prepared_unchecked a.counts a.tables.now a.kind a.polarity a.indices.now a.outputs.now a.paired a.work.now (sym c.in_err-check_tables.ensures))
 
 -- the checks of the tables are passed
 passed : (c : After-table_size-size) → let a = c.args in tables_checked a.counts a.tables.now ≡ gives tt
