@@ -11,24 +11,20 @@ use native.Mathlib.Omega.{arith}
 use mathlib.Core.Path.{◌≡◌, refl, sym, ap, ap₂, subst, ◌∙◌}
 use mathlib.Core.Bool.{Bool, true, false, not, ◌&&◌, ◌||◌, and-true, and-false, or-false}
 use mathlib.Core.Logic.{⊎_elim}
-use mathlib.Core.List.{List}
+use mathlib.Core.List.{List, []}
 use borrow.Author.Tests.{eqb-true, eqb-false, eq-eqb, ltb-true, lt-ltb, le-ltb}
 use lib.Bits.{bit_xor, xor_lt}
 use lib.Dec.{eqb, ltb}
-use lib.ListN.{length, get_or, set, replicate, length-set, length-replicate, get_or-eq_default, get_or-replicate}
+use lib.ListN.{length, get_or, set, replicate, length-set, length-replicate}
 use lib.Seq.{get_or-set_same, get_or-set_other}
 use Rattle.bits.specs.Sets.{has, joined, max_members}
 use Rattle.bits.proofs.Below.{lt_or_ge}
+use Rattle.bits.proofs.Packed.{get_or_zeros}
 use Rattle.bits.proofs.Membership.{either, has_none, has_xor, set_joined, joined_word}
 use Rattle.bits.proofs.Tests.{and_l, and_r, and_i, clash, by_test, same_test}
 use Rattle.chooser.specs.Matrix.{max_rows, differ}
 use Rattle.chooser.specs.declared.matrix.Matrix.{Matrix}
 use Rattle.chooser.specs.Pairing.{pair_of, base, max_marks, Counted, Marked, Paired, There, Sound}
-
--- the default of a list of zeros is 0 too
-zero_at : (n i : ℕ) → ◌≡◌ {A = ℕ} (get_or (replicate n 0) i 0) 0
-zero_at n i =
-    ⊎_elim (λ h. get_or-replicate n i 0 0 h) (λ h. get_or-eq_default (replicate n 0) 0 (subst (λ (m : ℕ). m ≤ i) (sym (length-replicate {A = ℕ} n 0)) h)) (lt_or_ge i n)
 
 row_member : {c : ℕ} → c < max_rows → c < max_members
 unfolding max_rows max_members
@@ -59,7 +55,7 @@ none_below k t = has_none k ∙ sym (ap (λ (x : Bool). x && t) (le-ltb k 0 (ome
 
 pub marking_start : (rows : ℕ) (marks sets : List ℕ) → sets ≡ replicate max_marks 0 → Marking rows marks sets 0 0
 marking_start rows marks sets e =
-    let zero : (m : ℕ) → get_or sets m 0 ≡ 0 = λ m. ap (λ (l : List ℕ). get_or l m 0) e ∙ zero_at max_marks m in
+    let zero : (m : ℕ) → get_or sets m 0 ≡ 0 = λ m. ap (λ (l : List ℕ). get_or l m 0) e ∙ get_or_zeros [] max_marks m in
     record {
       within = omega arith;
       word = omega arith;
@@ -148,7 +144,7 @@ pub record Coupling (rows : ℕ) (marks pairs : List ℕ) (c : ℕ) : Type 0 whe
 pub coupling_start : (rows : ℕ) (marks pairs : List ℕ) → pairs ≡ replicate max_rows 0 → Coupling rows marks pairs 0
 unfolding pair_of
 coupling_start rows marks pairs e =
-    let zero : (a : ℕ) → get_or pairs a 0 ≡ 0 = λ a. ap (λ (l : List ℕ). get_or l a 0) e ∙ zero_at max_rows a in
+    let zero : (a : ℕ) → get_or pairs a 0 ≡ 0 = λ a. ap (λ (l : List ℕ). get_or l a 0) e ∙ get_or_zeros [] max_rows a in
     record {
       within = omega arith;
       size = ap length e ∙ length-replicate {A = ℕ} max_rows 0;

@@ -1,9 +1,9 @@
 -- Taking on the way down, dropping on the way up (specs/Pairing.antt, `keeps`).
 --
 --   useful           an entry tells a pair apart
---   none_found, one_found    what is found at the end of the scan, and at the first entry that does
+--   none_found       where none does, none is found
 --   keeps_none       where no entry does, nothing is kept
---   behind_below, behind_less   the entries behind one
+--   below_all        the entries are below the width
 --   keeps_step       else the first that does is put before those kept behind it
 --   keeps_start      where nothing is kept, all pairs are left
 --   rest_there       the rows of the pairs that the entries kept leave are there
@@ -16,17 +16,20 @@ use native.Mathlib.Omega.{arith}
 use mathlib.Core.Path.{◌≡◌, refl, sym, ap, subst, ◌∙◌}
 use mathlib.Core.Bool.{Bool, true, false, not, cond, ◌&&◌, and-true, and_assoc, and_comm}
 use mathlib.Core.List.{List, [], ◌∷◌}
-use borrow.Author.Tests.{not-true, not-false, ltb-false, lt-ltb, le-ltb}
+use borrow.Author.Tests.{not-true, not-false, ltb-false, le-ltb}
 use lib.Dec.{ltb}
 use lib.ListN.{length, take, drop, get_or, length-drop}
 use lib.Seq.{take_all}
 use Rattle.bits.specs.Bounds.{all_below}
+use Rattle.bits.proofs.Bounds.{entry_below}
+use Rattle.std.specs.List.{All}
+use Rattle.std.proofs.lemmas.List.Elements.{All-from_get_or}
 use Rattle.std.specs.Prelude.{Some, None}
 use Rattle.std.specs.List.{position, position_or_len}
 use Rattle.std.proofs.lemmas.List.Quantifiers.{position-Some}
 use Rattle.std.proofs.lemmas.List.Sums.{fails_before_first, position_or_len_is}
 use Rattle.method.specs.Method.{agree}
-use Rattle.bits.proofs.Tests.{and_r, by_test}
+use Rattle.bits.proofs.Tests.{by_test}
 use Rattle.chooser.specs.Matrix.{max_signature}
 use Rattle.chooser.specs.Pairing.{pair_of, There, Leaves, meets, equal_at, clear, puts, keeps}
 use Rattle.chooser.specs.declared.matrix.Matrix.{Matrix}
@@ -36,18 +39,10 @@ use Rattle.chooser.proofs.KeptEntries.{keeps_clear, keeps_puts}
 
 -- ---- the next entry
 
-pub none_found : (p : ℕ → Bool) (scan : List ℕ) (at : ℕ) → length scan ≤ at → ((k : ℕ) → k < at → p (get_or scan k 0) ≡ false) → None ≡ position p scan
-none_found p scan at h none =
-    let all : position_or_len p scan ≡ length scan =
-    position_or_len_is p scan (length scan) 0 (omega arith) (λ k l. none k (omega arith)) (λ l. absurd (omega arith)) in
+pub none_found : (p : ℕ → Bool) (scan : List ℕ) → ((k : ℕ) → k < length scan → p (get_or scan k 0) ≡ false) → None ≡ position p scan
+none_found p scan none =
+    let all : position_or_len p scan ≡ length scan = position_or_len_is p scan (length scan) 0 (omega arith) none (λ l. absurd (omega arith)) in
     sym (ap (λ (t : Bool). cond t (Some (position_or_len p scan)) None) (le-ltb (position_or_len p scan) (length scan) (omega (arith, all))))
-
-pub one_found : (p : ℕ → Bool) (scan : List ℕ) (at : ℕ) → at < length scan → ((k : ℕ) → k < at → p (get_or scan k 0) ≡ false)
-    → p (get_or scan at 0) ≡ true → Some at ≡ position p scan
-one_found p scan at h none t =
-    let here : position_or_len p scan ≡ at = position_or_len_is p scan at 0 (omega arith) none (λ l. t) in
-    ap Some (sym here)
-    ∙ sym (ap (λ (u : Bool). cond u (Some (position_or_len p scan)) None) (lt-ltb (position_or_len p scan) (length scan) (omega (arith, here))))
 
 abbrev pub useful : (ℕ → ℕ → ℕ) → (ℕ → ℕ → Bool) → ℕ → Bool
 useful coef pair e = not (clear coef pair e)
@@ -85,18 +80,8 @@ module _ (coef : ℕ → ℕ → ℕ) (pair all : ℕ → ℕ → Bool) where
 behind : (n : ℕ) (scan : List ℕ) → take (length scan - n) (drop n scan) ≡ drop n scan
 behind n scan = take_all (length scan - n) (drop n scan) (omega (arith, length-drop n scan))
 
-below_behind : (bound n : ℕ) (scan : List ℕ) → all_below bound scan ≡ true → all_below bound (drop n scan) ≡ true
-unfolding all_below
-below_behind bound zero scan t = t
-below_behind bound (suc n) [] t = refl
-below_behind bound (suc n) (e ∷ scan) t = below_behind bound n scan (and_r (ltb e bound) (all_below bound scan) t)
-
-module _ (scan : List ℕ) (at : ℕ) where
-  pub behind_below : (bound : ℕ) → all_below bound scan ≡ true → all_below bound (take (length scan - (at + 1)) (drop (at + 1) scan)) ≡ true
-  behind_below bound t = ap (all_below bound) (behind (at + 1) scan) ∙ below_behind bound (at + 1) scan t
-
-  pub behind_less : {t : ℕ} → length scan ≡ t → at < length scan → length (take (length scan - (at + 1)) (drop (at + 1) scan)) < t
-  behind_less e h = omega (arith, ap length (behind (at + 1) scan), length-drop (at + 1) scan)
+pub below_all : (bound : ℕ) (scan : List ℕ) → all_below bound scan ≡ true → All (λ e. e < bound) scan
+below_all bound scan t = All-from_get_or (λ e. e < bound) scan 0 (λ i h. entry_below bound scan i t h)
 
 -- the entry found is put before those kept behind it
 pub keeps_step : (coef : ℕ → ℕ → ℕ) (pairs all scan : List ℕ) (at : ℕ) {fewer kept : List ℕ} → position (useful coef (pair_of pairs)) scan ≡ Some at

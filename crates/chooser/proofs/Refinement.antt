@@ -13,6 +13,7 @@ use Prim.Native.Nat.{ℕ, suc, ◌*◌, ◌^◌, ◌≤◌, ◌<◌}
 use native.Mathlib.Nat.{lt_of_le_of_lt}
 use native.Mathlib.Omega.{arith}
 use mathlib.Core.Path.{◌≡◌, refl, sym, ap, ap₂, subst, ◌∙◌}
+use Rattle.std.proofs.Math.Bool.{and-not_self}
 use mathlib.Core.Bool.{Bool, true, false, not, cond, ◌&&◌, ◌||◌, and-true, and-false, or-false}
 use mathlib.Core.List.{List}
 use borrow.Author.Tests.{eqb-true, eqb-false, eq-eqb, not-true}
@@ -102,10 +103,6 @@ pub record Narrowing (these : ℕ) (old pairs : List ℕ) (left : ℕ) : Type 0 
   pub within : (a : ℕ) → has left a ≡ true → has these a ≡ true
   pub each : (a : ℕ) → get_or pairs a 0 ≡ cond (has these a && not (has left a)) (bit_and (get_or old a 0) these) (get_or old a 0)
 
-and_not : (t : Bool) → t && not t ≡ false
-and_not true = refl
-and_not false = refl
-
 pub narrowing_start : {these left : ℕ} (old : List ℕ) → these < 2 ^ 64 → length old ≡ max_rows → left ≡ these → Narrowing these old old left
 narrowing_start {these} old h l e =
     subst (Narrowing these old old) (sym e)
@@ -113,7 +110,7 @@ narrowing_start {these} old h l e =
       word = h;
       size = l;
       within = λ a t. t;
-      each = λ a. sym (ap (λ (t : Bool). cond t (bit_and (get_or old a 0) these) (get_or old a 0)) (and_not (has these a)));
+      each = λ a. sym (ap (λ (t : Bool). cond t (bit_and (get_or old a 0) these) (get_or old a 0)) (and-not_self (has these a)));
     })
 
 module _ {these : ℕ} {old pairs : List ℕ} {left : ℕ} (w : Narrowing these old pairs left) where

@@ -9,8 +9,7 @@
 // there are rows, which is why there is always room for one more.
 #![tactic(auto)]
 
-ghost use Rattle.std.specs.Prelude.{◌≤◌, ◌≡◌, true, [], length};
-ghost use Rattle.bits.specs.Bounds.{all_below};
+ghost use Rattle.std.specs.Prelude.{◌≤◌, ◌<◌, ◌≡◌, true, [], All, length};
 ghost use Rattle.method.specs.Method.{agree};
 ghost use Rattle.chooser.specs.Matrix.{max_signature, fits, choice, signature_of};
 ghost use Rattle.chooser.specs.Pairing.{numbers, pair_of, There, Leaves, keeps};
@@ -70,7 +69,7 @@ fn fitting(work: &[u16], width: usize, rows: usize, scan: &[u16]) -> bool
 fn choose_from(matrix: Matrix, scan: &[u16], pairs: &Pairs, rest: &mut Pairs, kept: &mut Kept)
     requires there { There matrix pairs.now }
     requires rest_there { There matrix rest.old }
-    requires within { all_below matrix.width scan.now ≡ true }
+    requires within { All (λ e. e < matrix.width) scan.now }
     requires none { kept.old ≡ [] }
     ensures kept { kept.new ≡ keeps (numbers matrix.entry) (pair_of pairs.now) (pair_of rest.old) scan.now }
     ensures left { Leaves rest.old (agree (numbers matrix.entry) kept.new) rest.new }
@@ -90,7 +89,7 @@ fn choose_from(matrix: Matrix, scan: &[u16], pairs: &Pairs, rest: &mut Pairs, ke
 }
 
 // The answer of a matrix: the first pair that is left, or the entries kept.
-#[tactic(auto, using(crate::proofs::Marks::base_there), unfolding(crate::specs::Matrix::fits))]
+#[tactic(auto, using(crate::proofs::Marks::base_there, crate::proofs::Recursion::below_all), unfolding(crate::specs::Matrix::fits))]
 fn choose_fit(matrix: Matrix, rows: usize, marks: &[u8], scan: &[u16]) -> Result<Signature, Untold>
     requires { (rows ≤ length marks.now) × (fits matrix.work.now matrix.width rows scan.now ≡ true) }
     ensures { result ≡ choice matrix.entry.work.now matrix.entry.width rows marks.now scan.now }

@@ -4,8 +4,7 @@
 // An entry tells nothing apart where every row has the number of its lowest partner (`is_clear`), so that one
 // comparison a row decides. An entry that is taken groups the rows by their numbers, and the rows of a group stay
 // paired with each other only (`refine`).
-ghost use Rattle.std.specs.Prelude.{ℕ, ◌≤◌, ◌<◌, ◌≡◌, true, not, eqb, List, length, replicate, position};
-ghost use Rattle.bits.specs.Bounds.{all_below};
+ghost use Rattle.std.specs.Prelude.{ℕ, ◌≤◌, ◌<◌, ◌≡◌, true, not, eqb, List, length, replicate, position, All};
 ghost use Rattle.method.specs.Method.{first_pair};
 ghost use Rattle.chooser.specs.Matrix.{max_rows};
 ghost use Rattle.chooser.specs.Pairing.{numbers, pair_of, pair_or_nobody, max_marks, Counted, Marked, Paired, Listed, Within, There, Sound, Having, Narrowed, Leaves, meets, equal_at, clear};
@@ -97,19 +96,15 @@ impl Pairs {
 
     // The place of the first entry that tells a pair apart.
     pub(crate) fn next(&self, matrix: Matrix, scan: &[u16]) -> Option<usize>
-        requires { There matrix self.now × (all_below matrix.width scan.now ≡ true) }
+        requires { There matrix self.now × All (λ e. e < matrix.width) scan.now }
         ensures { result ≡ position (λ e. not (clear (numbers matrix.entry) (pair_of self.now) e)) scan.now }
     {
         let rows = self.rows();
         if rows == 0 {
             return None;
         }
-        for (at, entry) in scan.iter().enumerate() {
-            if !self.is_clear(matrix, *entry as usize, rows) {
-                return Some(at);
-            }
-        }
-        None
+        scan.iter()
+            .position(|entry| !self.is_clear(matrix, *entry as usize, rows))
     }
 
     // Only the pairs stay that an entry does not tell apart: the rows that have a number there are narrowed, number after number.

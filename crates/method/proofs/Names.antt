@@ -8,27 +8,14 @@ use mathlib.Core.Bool.{Bool, true, false, not, cond, ◌&&◌}
 use mathlib.Core.List.{List, [], ◌∷◌, ◌++◌, map}
 use lib.Dec.{eqb}
 use lib.ListN.{length, take, drop, length-map}
+use Rattle.std.proofs.lemmas.List.{map-append, take-map, drop-map}
 use Rattle.method.specs.Method.{without, some_below, agree, some_pair, useful, full, takes, drops, signature}
 use Rattle.method.proofs.Congruence.{some_below_same}
 
 module _ {D E : Type 0} (f : D → E) where
-  map-append : (l m : List D) → map f (l ++ m) ≡ map f l ++ map f m
-  map-append [] m = refl
-  map-append (x ∷ l) m = ap (λ (s : List E). f x ∷ s) (map-append l m)
-
-  map_take : (i : ℕ) (l : List D) → take i (map f l) ≡ map f (take i l)
-  map_take zero l = refl
-  map_take (suc i) [] = refl
-  map_take (suc i) (x ∷ l) = ap (λ (s : List E). f x ∷ s) (map_take i l)
-
-  map_drop : (i : ℕ) (l : List D) → drop i (map f l) ≡ map f (drop i l)
-  map_drop zero l = refl
-  map_drop (suc i) [] = refl
-  map_drop (suc i) (x ∷ l) = map_drop i l
-
   without_named : (i : ℕ) (l : List D) → without i (map f l) ≡ map f (without i l)
   unfolding without
-  without_named i l = ap₂ ◌++◌ (map_take i l) (map_drop (suc i) l) ∙ sym (map-append (take i l) (drop (suc i) l))
+  without_named i l = ap₂ ◌++◌ (take-map f i l) (drop-map f (suc i) l) ∙ sym (map-append f (take i l) (drop (suc i) l))
 
   map_cond : (t : Bool) (l m : List D) → cond t (map f l) (map f m) ≡ map f (cond t l m)
   map_cond true l m = refl
@@ -65,7 +52,7 @@ module _ {D E : Type 0} (f : D → E) where
       takes_named taken [] = refl
       takes_named taken (d ∷ scan) =
           ap (λ (l : List E). takes coef rows needed l (map f scan))
-          (ap₂ (λ (t : Bool) (l : List E). cond t l (map f taken)) (useful_named taken d) (sym (map-append taken (d ∷ [])))
+          (ap₂ (λ (t : Bool) (l : List E). cond t l (map f taken)) (useful_named taken d) (sym (map-append f taken (d ∷ [])))
           ∙ map_cond (useful own rows needed taken d) (taken ++ (d ∷ [])) taken)
           ∙ takes_named (cond (useful own rows needed taken d) (taken ++ (d ∷ [])) taken) scan
 

@@ -1,24 +1,10 @@
 -- `chooser::choose_from` meets its contract. Its measure is the number of entries that are left to look at.
-use Rattle.std.proofs.Common.{◌∙◌, sym, ◌≡◌, ◌<◌, ℕ, get_or, length}
-use Rattle.bits.proofs.Bounds.{entry_below}
-use Rattle.std.specs.Prelude.{Some, position}
-use Rattle.std.proofs.lemmas.List.Quantifiers.{position-Some}
+use Rattle.std.proofs.Common.{◌∙◌, sym, ◌≡◌, ℕ, get_or}
 use Rattle.chooser.specs.Pairing.{numbers, pair_of, keeps, puts}
 use Rattle.chooser.proofs.KeptEntries.{keeps_short}
-use Rattle.chooser.proofs.Recursion.{useful, behind_below, behind_less, keeps_none, keeps_step, keeps_start, rest_there, put_goes, put_stays, put_room, put_leaves}
-use Rattle.chooser.proofs.Soundness.{leaves_there}
+use Rattle.chooser.proofs.Recursion.{keeps_none, keeps_step, keeps_start, put_goes, put_stays, put_room, put_leaves}
 use Rattle.chooser.proofs.+choose_from.Goals as goal
 use Rattle.chooser.proofs.+choose_from.Goals.{In-Some, After-choose_from}
-
-module _ (t : ℕ) (c : goal.In-Some t) where
-  found : position (useful (numbers c.args.matrix) (pair_of c.args.pairs.now)) c.args.scan.now ≡ Some c.in-Some.at
-  found = sym c.next.ensures ∙ c.in-Some.is
-
-  inside : c.in-Some.at < length c.args.scan.now
-  inside = (position-Some _ c.args.scan.now c.in-Some.at 0 found).0
-
-  entry : get_or c.args.scan.now c.in-Some.at 0 < c.args.matrix.width
-  entry = entry_below c.args.matrix.width c.args.scan.now c.in-Some.at c.requires.within inside
 
 module _ (t : ℕ) (c : goal.After-choose_from t) where
   step : keeps (numbers c.args.matrix) (pair_of c.args.pairs.now) (pair_of c.args.rest.now) c.args.scan.now
@@ -34,27 +20,6 @@ returns-in_default-clause-kept t c =
 
 pub returns-in_default-clause-left : goal.returns-in_default-clause-left
 returns-in_default-clause-left t c = keeps_start (numbers c.args.matrix) c.args.rest.now c.requires.none
-
-pub refine-requires : goal.refine-requires
-refine-requires t c = (c.requires.there, entry t (goal.at.refine-requires t c).In-Some)
-
-pub choose_from-requires : goal.choose_from-requires
-choose_from-requires t c = (
-  behind_less c.args.scan.now c.in-Some.at c.decreases (inside t (goal.at.choose_from-requires t c).In-Some),
-  (
-    leaves_there c.refine.ensures c.requires.there,
-    (
-      c.requires.rest_there,
-      (behind_below c.args.scan.now c.in-Some.at c.args.matrix.width c.requires.within, c.requires.none),
-    ),
-  ),
-)
-
-pub refine-requires-then-not-is_apart_from : goal.refine-requires-then-not-is_apart_from
-refine-requires-then-not-is_apart_from t c = (
-  rest_there (numbers c.args.matrix) c.choose_from.new.kept c.choose_from.ensures.left c.requires.rest_there,
-  entry t (goal.at.refine-requires-then-not-is_apart_from t c).In-Some,
-)
 
 pub push-requires : goal.push-requires
 push-requires t c =
