@@ -13,7 +13,7 @@ ghost use Rattle.bits.specs.Answer.{outcome, leaves};
 ghost use Rattle.bits.specs.Bits.{value_from};
 ghost use Rattle.bits.specs.Packed.{packed, tabulate};
 ghost use Rattle.job.specs.Check.{inputs_ok};
-ghost use Rattle.spectra.specs.Operations.{table_ok, all_rows_ok, tables_ok, tables_checked, from_tables, filled_from, at, spectrum_of, undone_of, same_numbers};
+ghost use Rattle.spectra.specs.Operations.{table_ok, all_rows_ok, tables_ok, tables_checked, from_tables, filled_from, at, spectrum_of, undone_of};
 ghost use Rattle.spectra.specs.Parities.{parity_at, Closed, Packs, Lent};
 ghost use Rattle.spectra.specs.Rows.{max_rows, one_table};
 ghost use Rattle.spectra.specs.Spectrum.{recovered};
@@ -129,7 +129,7 @@ pub fn spectrum(
 // The entries of the largest table.
 const MAX_TABLE_SIZE: usize = 1 << MAX_INPUTS;
 
-// The parity of number (m xor k); past the last number 0.
+// The parity of number (m xor k); past the last number 0. A parity fits a byte: `try_from` would have an error that cannot come.
 fn parity(numbers: &[u16], m: usize, k: usize) -> u8
     requires { Closed (length numbers.now) k }
     ensures { result ≡ at (tabulate (length numbers.now) (parity_at numbers.now k)) m }

@@ -14,7 +14,7 @@
 ghost use Rattle.std.specs.Prelude.{◌+◌, ◌*◌, ◌/◌, ◌%◌, ◌^◌, ◌≤◌, ◌<◌, length, take, drop, ◌≡◌};
 ghost use Rattle.bits.specs.Packed.{entry};
 ghost use Rattle.spectra.specs.Rows.{rows_filled};
-ghost use Rattle.spectra.specs.Recursion.{byte_sums, half_byte, half_sums, Summed, Asks, LeafAsks, LeafMade, entries_from, Most, combined, all_reduced};
+ghost use Rattle.spectra.specs.Recursion.{byte_entry, byte_sums, half_byte, half_sums, Summed, Asks, LeafAsks, LeafMade, entries_from, Most, combined, all_reduced};
 ghost use Rattle.spectra.specs.Spectrum.{spectrum};
 ghost use Rattle.spectra.specs.declared.Kind.TheVariants.{Rm, Mrm};
 ghost use Rattle.job.specs.Layout.{max_inputs};
@@ -22,12 +22,19 @@ ghost use Rattle.bits.specs.Sizes.{table_bytes};
 
 use crate::Kind;
 
+// Entry t mod 8 of a byte, the first its highest bit.
+fn byte_entry(byte: u8, t: usize) -> u16
+    ensures { result ≡ byte_entry byte t }
+{
+    (u16::from(byte) >> (7 - t % 8)) % 2
+}
+
 // Entry m of a packed table.
 fn entry_at(table: &[u8], m: usize) -> u16
     requires { m < 8 * length table.now }
     ensures { result ≡ entry table.now m }
 {
-    (table[m / 8] as u16 >> (7 - m % 8)) % 2
+    byte_entry(table[m / 8], m)
 }
 
 // Combines the sums of the two halves: the upper half becomes the sum of both. The numbers are small enough that their sums fit.
@@ -45,15 +52,14 @@ fn combine(out: &mut [u16], half: usize)
 fn byte_sums(byte: u8, k: usize) -> [u16; 8]
     ensures { result ≡ byte_sums k byte }
 {
-    let entries = byte as u16;
-    let e0 = (entries >> (7 - k % 8)) % 2;
-    let e1 = (entries >> (7 - (1 ^ k) % 8)) % 2;
-    let e2 = (entries >> (7 - (2 ^ k) % 8)) % 2;
-    let e3 = (entries >> (7 - (3 ^ k) % 8)) % 2;
-    let e4 = (entries >> (7 - (4 ^ k) % 8)) % 2;
-    let e5 = (entries >> (7 - (5 ^ k) % 8)) % 2;
-    let e6 = (entries >> (7 - (6 ^ k) % 8)) % 2;
-    let e7 = (entries >> (7 - (7 ^ k) % 8)) % 2;
+    let e0 = byte_entry(byte, k);
+    let e1 = byte_entry(byte, 1 ^ k);
+    let e2 = byte_entry(byte, 2 ^ k);
+    let e3 = byte_entry(byte, 3 ^ k);
+    let e4 = byte_entry(byte, 4 ^ k);
+    let e5 = byte_entry(byte, 5 ^ k);
+    let e6 = byte_entry(byte, 6 ^ k);
+    let e7 = byte_entry(byte, 7 ^ k);
     let s1 = e0 + e1;
     let s3 = s1 + (e2 + e3);
     let s5 = e4 + e5;
@@ -86,12 +92,13 @@ fn half_sums(sums: &mut HalfSums, k: usize)
     requires { k < 8 }
     ensures { sums.new ≡ half_sums k }
 {
-    for (i, row) in sums.iter_mut().enumerate() {
-        *row = byte_sums(half_byte(i as u8), k);
+    for i in 0..32 {
+        sums[usize::from(i)] = byte_sums(half_byte(i), k);
     }
 }
 
-// The MRM spectrum of three inputs, from one byte: the sums of its halves, added.
+// The MRM spectrum of three inputs, from one byte: the sums of its halves, added. Both rows are read first and the loop is one vector;
+// `copy_from_slice` of the eight sums would test first that they lie apart from `out`.
 fn leaf(out: &mut [u16], sums: &HalfSums, table: &[u8], at: usize)
     requires { LeafAsks (length out.old) sums.now (length table.now) at }
     ensures { LeafMade (length out.old) sums.now table.now at out.new }

@@ -1,8 +1,7 @@
 -- `spectra::transform::entry_at` meets its contract.
-use mathlib.Core.Path.{refl}
 use Rattle.bits.specs.Packed.{entry}
 use Rattle.spectra.proofs.transform.entry_at.Goals as goal
 
 pub returns : goal.returns
 unfolding entry
-returns c = refl
+returns c = c.byte_entry.ensures
