@@ -130,7 +130,7 @@ pub fn tables(bytes: &[u8], out: &mut [u8]) -> Result<Delivery, Refusal>
 }
 
 // The circuits of a job, and the lines whose tables are asked for.
-#[derive(Clone, Copy)]
+#[derive(Clone, Copy, Debug, PartialEq, Eq)]
 struct Listing<'a> {
     circuits: Circuits<'a>,
     asked: &'a [u8],
