@@ -20,6 +20,7 @@
 --   Blocked       a line's block is its tables in the columns that leave the line as it is, and the rows before it stand
 --   Made          so for the lines before one; its own block has its tables in the columns that are not in a set, and those of the set fix it
 --   Asked         lines of the circuit, as those whose tables are asked for
+--   circuit_bytes   how many bytes the tables of a circuit at some lines have
 --   tables_at     the tables of a circuit at some lines, one after the other
 --   tables_from   so for a batch of circuits
 --   asked_row     the row of a batch's column at one of some lines
@@ -123,6 +124,9 @@ pub record Made (j : Job) (b : Batch) (l left : ℕ) (rows : List ℕ) : Type 0 
 
 abbrev pub Asked : Job → List ℕ → Type 0
 Asked j asked = (p : ℕ) → p < length asked → get_or asked p 0 < lines j
+
+abbrev pub circuit_bytes : Job → List ℕ → ℕ
+circuit_bytes j asked = length asked * table_bytes j.inputs
 
 abbrev pub tables_at : Job → List ℕ → ℕ → List ℕ
 tables_at j asked c = block (length asked) (λ p. line_table (fixing_of j c) j (get_or asked p 0))

@@ -49,7 +49,7 @@ impl Batch {
 }
 
 // The circuits of a valid job: the shape of their tables, and the polynomial of each kind of gate.
-#[derive(Clone, Copy)]
+#[derive(Clone, Copy, Debug, PartialEq, Eq)]
 pub(crate) struct Circuits<'a> {
     pub(crate) job: &'a Job,
     pub(crate) shape: Shape,

@@ -10,7 +10,7 @@ ghost use Rattle.bits.specs.Blocks.{block};
 ghost use Rattle.bits.specs.Slices.{splice};
 ghost use Rattle.job.specs.Layout.{max_faults};
 ghost use Rattle.tables.specs.Operations.{table_of, tables_of, counts_of, no_counts, delivered};
-ghost use Rattle.tables.specs.Work.{block_bytes, RowsFor, Stands, Good, Asked, tables_at, tables_from, rows_at, RowsThere};
+ghost use Rattle.tables.specs.Work.{block_bytes, RowsFor, Stands, Good, Asked, circuit_bytes, tables_at, tables_from, rows_at, RowsThere};
 
 use bits::Refusal;
 use evaluator::{Batch, Circuits, MAX_LINES};
@@ -130,7 +130,7 @@ pub fn tables(bytes: &[u8], out: &mut [u8]) -> Result<Delivery, Refusal>
 }
 
 // The circuits of a job, and the lines whose tables are asked for.
-#[derive(Clone, Copy)]
+#[derive(Clone, Copy, Debug, PartialEq, Eq)]
 struct Listing<'a> {
     circuits: Circuits<'a>,
     asked: &'a [u8],
@@ -163,8 +163,8 @@ impl<'a> Listing<'a> {
 
     // Works out a batch, and puts its circuits' tables to a place of the lent bytes.
     fn put_batch(&self, rows: &mut [u8], batch: Batch, out: &mut [u8], to: usize)
-        requires { Stands self.now.circuits.job.now batch rows.old × (1 ≤ batch.first → Good self.now.circuits.job.now rows.old) × (to + batch.count * (length self.now.asked.now * table_bytes self.now.circuits.job.now.inputs) ≤ length out.old) }
-        ensures { Good self.now.circuits.job.now rows.new × (out.new ≡ splice out.old to (tables_from self.now.circuits.job.now self.now.asked.now batch.first batch.count)) }
+        requires { let j = self.now.circuits.job.now in let asked = self.now.asked.now in Stands j batch rows.old × (1 ≤ batch.first → Good j rows.old) × (to + batch.count * (circuit_bytes j asked) ≤ length out.old) }
+        ensures { let j = self.now.circuits.job.now in let asked = self.now.asked.now in Good j rows.new × (out.new ≡ splice out.old to (tables_from j asked batch.first batch.count)) }
     {
         self.circuits.work_out(rows, batch);
         self.put_columns(rows, batch, out, to);
@@ -172,16 +172,16 @@ impl<'a> Listing<'a> {
 
     // The good circuit by itself: its rows come first, and its tables at the start of the lent bytes.
     fn put_good(&self, rows: &mut [u8], out: &mut [u8])
-        requires { RowsFor self.now.circuits.job.now 0 rows.old × (length self.now.asked.now * table_bytes self.now.circuits.job.now.inputs ≤ length out.old) }
-        ensures { Good self.now.circuits.job.now rows.new × (out.new ≡ splice out.old 0 (tables_at self.now.circuits.job.now self.now.asked.now 0)) }
+        requires { let j = self.now.circuits.job.now in let asked = self.now.asked.now in RowsFor j 0 rows.old × (circuit_bytes j asked ≤ length out.old) }
+        ensures { let j = self.now.circuits.job.now in let asked = self.now.asked.now in Good j rows.new × (out.new ≡ splice out.old 0 (tables_at j asked 0)) }
     {
         self.put_batch(rows, Batch::GOOD, out, 0);
     }
 
     // The tables of one circuit, at the start of the lent bytes: the good one's give way to those of a faulty one.
     fn put_table(&self, rows: &mut [u8], circuit: usize, out: &mut [u8])
-        requires { RowsFor self.now.circuits.job.now 1 rows.old × (circuit ≤ self.now.circuits.job.now.fault_count) × (length self.now.asked.now * table_bytes self.now.circuits.job.now.inputs ≤ length out.old) }
-        ensures { out.new ≡ splice out.old 0 (tables_at self.now.circuits.job.now self.now.asked.now circuit) }
+        requires { let j = self.now.circuits.job.now in let asked = self.now.asked.now in RowsFor j 1 rows.old × (circuit ≤ j.fault_count) × (circuit_bytes j asked ≤ length out.old) }
+        ensures { let j = self.now.circuits.job.now in let asked = self.now.asked.now in out.new ≡ splice out.old 0 (tables_at j asked circuit) }
     {
         self.put_good(rows, out);
         if circuit == 0 {
@@ -192,8 +192,8 @@ impl<'a> Listing<'a> {
 
     // The tables of all circuits, from the start of the lent bytes on.
     fn put_tables(&self, rows: &mut [u8], out: &mut [u8])
-        requires { RowsFor self.now.circuits.job.now (block_bytes / table_bytes self.now.circuits.job.now.inputs) rows.old × ((self.now.circuits.job.now.fault_count + 1) * (length self.now.asked.now * table_bytes self.now.circuits.job.now.inputs) ≤ length out.old) }
-        ensures { out.new ≡ splice out.old 0 (tables_from self.now.circuits.job.now self.now.asked.now 0 (self.now.circuits.job.now.fault_count + 1)) }
+        requires { let j = self.now.circuits.job.now in let asked = self.now.asked.now in RowsFor j (block_bytes / table_bytes j.inputs) rows.old × ((j.fault_count + 1) * (circuit_bytes j asked) ≤ length out.old) }
+        ensures { let j = self.now.circuits.job.now in let asked = self.now.asked.now in out.new ≡ splice out.old 0 (tables_from j asked 0 (j.fault_count + 1)) }
     {
         self.put_good(rows, out);
         self.put_faults(rows, out);
@@ -201,8 +201,8 @@ impl<'a> Listing<'a> {
 
     // The tables of all faulty circuits behind the good circuit's, batch after batch.
     fn put_faults(&self, rows: &mut [u8], out: &mut [u8])
-        requires { RowsFor self.now.circuits.job.now (block_bytes / table_bytes self.now.circuits.job.now.inputs) rows.old × Good self.now.circuits.job.now rows.old × ((self.now.circuits.job.now.fault_count + 1) * (length self.now.asked.now * table_bytes self.now.circuits.job.now.inputs) ≤ length out.old) }
-        ensures { out.new ≡ splice out.old (length self.now.asked.now * table_bytes self.now.circuits.job.now.inputs) (tables_from self.now.circuits.job.now self.now.asked.now 1 self.now.circuits.job.now.fault_count) }
+        requires { let j = self.now.circuits.job.now in let asked = self.now.asked.now in RowsFor j (block_bytes / table_bytes j.inputs) rows.old × Good j rows.old × ((j.fault_count + 1) * (circuit_bytes j asked) ≤ length out.old) }
+        ensures { let j = self.now.circuits.job.now in let asked = self.now.asked.now in out.new ≡ splice out.old (circuit_bytes j asked) (tables_from j asked 1 j.fault_count) }
     {
         let faults = self.circuits.job.fault_count as usize;
         let bytes = self.circuits.shape.bytes;
