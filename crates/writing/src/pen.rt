@@ -9,7 +9,7 @@ use job::{FAULT_KIND_BITS, FaultEntry, GATE_KIND_BITS, GateEntry, LINE_BITS, PAR
 
 // So many whole bytes are put, and the bits that wait for their byte to be full are a number.
 #[derive(Drop)]
-pub struct Pen<'a> {
+pub(crate) struct Pen<'a> {
     out: &'a mut [u8],
     at: usize,
     waiting: usize,
@@ -22,7 +22,7 @@ impl<'a> Pen<'a> {
     ghost use Rattle.writing.specs.Pen.{inked_bytes, filled, HasRoom, Puts, EntryFits, GateFits, LineFits, FaultFits};
 
     // Begins at the start of the bytes.
-    pub fn new(out: &'a mut [u8]) -> Pen<'a>
+    pub(crate) fn new(out: &'a mut [u8]) -> Pen<'a>
         ensures same_memory { result.out.ghost_name ≡ out.entry.ghost_name }
         ensures start { (result.out.now ≡ out.old) × (result.at ≡ 0) × (result.count ≡ 0) }
     {
@@ -35,7 +35,7 @@ impl<'a> Pen<'a> {
     }
 
     // Puts a field, most significant bit first.
-    pub fn field(&mut self, width: usize, value: usize)
+    pub(crate) fn field(&mut self, width: usize, value: usize)
         requires room { HasRoom self.old (bits_of width value) }
         requires narrow { width ≤ 8 }
         requires value_fits { value < 2 ^ width }
@@ -69,7 +69,7 @@ impl<'a> Pen<'a> {
 
     // Puts the gates. Gates, outputs and faults have a loop each: one loop for all would take what puts an entry as a
     // closure, and be no plainer.
-    pub fn gates(&mut self, gates: &[GateEntry])
+    pub(crate) fn gates(&mut self, gates: &[GateEntry])
         requires room { HasRoom self.old (all_bits gate_bits gates.now) }
         requires gates_fit { All GateFits gates.now }
         ensures { Puts self.old (all_bits gate_bits gates.now) self.new }
@@ -81,7 +81,7 @@ impl<'a> Pen<'a> {
     }
 
     // Puts the output lines.
-    pub fn outputs(&mut self, outputs: &[u8])
+    pub(crate) fn outputs(&mut self, outputs: &[u8])
         requires room { HasRoom self.old (all_bits (bits_of line_bits) outputs.now) }
         requires lines_fit { All LineFits outputs.now }
         ensures { Puts self.old (all_bits (bits_of line_bits) outputs.now) self.new }
@@ -92,7 +92,7 @@ impl<'a> Pen<'a> {
     }
 
     // Puts the faults, each with its part.
-    pub fn faults(&mut self, faults: &[FaultEntry])
+    pub(crate) fn faults(&mut self, faults: &[FaultEntry])
         requires room { HasRoom self.old (all_bits fault_bits faults.now) }
         requires faults_fit { All FaultFits faults.now }
         ensures { Puts self.old (all_bits fault_bits faults.now) self.new }
@@ -105,7 +105,7 @@ impl<'a> Pen<'a> {
     }
 
     // Fills the last byte up with zero bits.
-    pub fn finish(self)
+    pub(crate) fn finish(self)
         requires { HasRoom self [] }
         ensures { self.exit.0.now ≡ filled (inked_bytes self.entry) self.entry.out.now }
     {
