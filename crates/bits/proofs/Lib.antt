@@ -9,7 +9,6 @@ pub mod Digits
 pub mod FieldParser
 pub mod Fields
 pub mod Membership
-pub mod Minimum
 pub mod Packed
 pub mod Passing
 pub mod Room
@@ -17,6 +16,5 @@ pub mod Slices
 pub mod SpareBits
 pub mod Splice
 pub mod TableSizes
-pub mod Tabulation
 pub mod Tests
 pub mod Window

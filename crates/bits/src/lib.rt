@@ -59,13 +59,6 @@ pub struct Cursor {
     pub bit: usize,
 }
 
-// The lesser of two numbers.
-pub fn least(a: usize, b: usize) -> usize
-    ensures { result ≡ cond (ltb a b) a b }
-{
-    if a < b { a } else { b }
-}
-
 // A byte of the slice, 0 past its end.
 fn byte_or_zero(s: &[u8], at: usize) -> usize
     ensures { (result ≡ get_or s.now at 0) × (result < 256) }

@@ -14,12 +14,13 @@ pub(crate) struct Kept {
 
 impl Model for Kept {
     ghost use Rattle.std.specs.Prelude.{ℕ, ◌≤◌, List, drop};
+    ghost use Rattle.chooser.specs.declared.TheConstants.{MAX_SIGNATURE};
 
     ghost Value = { List ℕ };
 
     ghost view = { λ k. drop k.start k.entries };
 
-    ghost invariant = { λ k. k.start ≤ 63 };
+    ghost invariant = { λ k. k.start ≤ MAX_SIGNATURE };
 }
 
 impl Kept {

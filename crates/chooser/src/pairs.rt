@@ -17,7 +17,8 @@ use std::marker::Model;
 // A mark is a byte.
 const MARKS: usize = 256;
 
-// That the rows have their numbers in a matrix (`There`) is no fact of the pairs alone, so the contracts say it.
+// A set of partners for each row; clauses see the list of these. That the rows have their numbers in a matrix (`There`)
+// is no fact of the pairs alone, so contracts say it.
 #[derive(Clone, Copy)]
 pub(crate) struct Pairs {
     partners: [u64; MAX_ROWS],

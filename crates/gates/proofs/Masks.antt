@@ -1,6 +1,5 @@
 -- Laws of a table's shape (specs/Polynomial.antt).
 --
---   at_least_three    a number that is not 0, 1 or 2
 --   mask_rest         from three inputs on the mask has every bit
 --   mask_lt           the mask is a byte
 --   full_digit        the bits of eight copies of a bit are that bit
@@ -20,9 +19,6 @@ use Rattle.bits.specs.Bounds.{each_below}
 use Rattle.bits.proofs.Below.{lt_or_ge, each_below_lem, equal_below}
 use Rattle.gates.specs.Polynomial.{mask_of}
 use Rattle.bits.specs.Sizes.{table_bytes}
-
-pub at_least_three : {n : ℕ} → (n ≡ 0 → ⊥) → (n ≡ 1 → ⊥) → (n ≡ 2 → ⊥) → 3 ≤ n
-at_least_three h0 h1 h2 = omega arith
 
 pub mask_rest : (n : ℕ) → 3 ≤ n → mask_of n ≡ 255
 mask_rest n h = get_or-eq_default (128 ∷ 192 ∷ 240 ∷ []) 255 h

@@ -3,7 +3,6 @@
 --   written_part     the first bytes of what a loop is to write
 --   written_some     so many bytes more, written at once
 --   word_put         the eight bytes of a word, stored one after the other
---   word_length      the rows are as long with it as before
 --   word_stepped     the gate step of two words is that of their bytes
 --   words_put        two words of it, side by side
 --   step_more        so many bytes more of it, from the rows as they are by then
@@ -63,9 +62,6 @@ module _ (rows : List ℕ) (to : ℕ) (w : Word) (h : to + 8 ≤ length rows) wh
       w.b1 (omega arith) refl) w.b2 (omega arith) refl) w.b3 (omega arith) refl) w.b4 (omega arith) refl) w.b5 (omega arith) refl)
       w.b6 (omega arith) refl) w.b7 (omega arith) refl)
       (omega arith)
-
-pub word_length : (rows : List ℕ) (to : ℕ) (w : Word) {after : List ℕ} → to + 8 ≤ length rows → after ≡ splice rows to (bytes_of w) → length after ≡ length rows
-word_length rows to w h e = ap length e ∙ length_splice rows to (bytes_of w) h
 
 pub word_stepped : (f : Polynomial) (x y : ℕ) (rows : List ℕ) {u v w : Word} → u ≡ word_of (λ i. get_or rows (x + i) 0) → v ≡ word_of (λ i. get_or rows (y + i) 0) → w ≡ word_step f u v
     → bytes_of w ≡ tabulate 8 (combined f x y rows)

@@ -37,7 +37,7 @@ struct Agreeing {
 }
 
 // The readings of a unit, one for each entry of a list.
-#[derive(Clone, Copy)]
+#[derive(Clone, Copy, Debug, PartialEq, Eq)]
 struct Observed<'a> {
     indices: &'a [u16],
     outputs: &'a [u16],

@@ -7,7 +7,6 @@
 --   table_bytes_most  no table has more bytes than that of the most inputs
 --   bytes_some        each has one
 --   row_order         a row before another ends before it
---   times_some        a factor of a product that fits a word fits one
 --   Sound             a valid job's shape, and rows for a batch of circuits
 --   faulty_stands     where there are rows for a batch, a batch has its rows
 --   stands_kept       so have rows of the same length
@@ -62,9 +61,6 @@ bytes_some n = omega (arith, pow_pos n)
 
 pub row_order : (r s w : ℕ) → r < s → r * w + w ≤ s * w
 row_order r s w h = omega (arith, mul-le-mul_right w h, suc-mul r w)
-
-pub times_some : (row bytes : ℕ) → 1 ≤ bytes → row * bytes < 2 ^ 64 → row < 2 ^ 64
-times_some row bytes some h = omega (arith, mul-le-mul_left row some, mul-one row)
 
 -- a valid job, its shape, and rows for a batch of its circuits
 pub record Sound (j : Job) (shape : Shape) (b : Batch) (rows : List ℕ) : Type 0 where

@@ -48,6 +48,26 @@ pub struct Counts {
     pub parts: [u8; MAX_CIRCUITS],
 }
 
+impl Counts {
+    // The counts and parts of a job: the good circuit's part is 0.
+    fn of(job: &Job) -> Self
+        requires { length job.now.faults ≡ max_faults }
+        ensures { result ≡ counts_of job.now }
+    {
+        let mut parts = [0u8; MAX_CIRCUITS];
+        for (i, entry) in job.faults.iter().enumerate() {
+            parts[1 + i] = entry.part;
+        }
+        Counts {
+            inputs: job.inputs as usize,
+            gates: job.gate_count as usize,
+            outputs: job.output_count as usize,
+            faults: job.fault_count as usize,
+            parts,
+        }
+    }
+}
+
 // The counts of a job whose tables are written, and how many bytes they have.
 #[derive(Clone, Copy, Debug, PartialEq, Eq)]
 pub struct Delivery {
@@ -75,24 +95,6 @@ pub fn table(bytes: &[u8], circuit: usize, output: usize, out: &mut [u8]) -> Res
     let listing = Listing { circuits, asked };
     listing.put_table(&mut rows, circuit, out);
     Ok(())
-}
-
-// The counts and parts of a job: the good circuit's part is 0.
-fn counts_of(job: &Job) -> Counts
-    requires { length job.now.faults ≡ max_faults }
-    ensures { result ≡ counts_of job.now }
-{
-    let mut parts = [0u8; MAX_CIRCUITS];
-    for (i, entry) in job.faults.iter().enumerate() {
-        parts[1 + i] = entry.part;
-    }
-    Counts {
-        inputs: job.inputs as usize,
-        gates: job.gate_count as usize,
-        outputs: job.output_count as usize,
-        faults: job.fault_count as usize,
-        parts,
-    }
 }
 
 // Counts and parts of 0.
@@ -125,7 +127,7 @@ pub fn tables(bytes: &[u8], out: &mut [u8]) -> Result<Delivery, Refusal>
     let asked = &lines[..outputs];
     let listing = Listing { circuits, asked };
     listing.put_tables(&mut rows, out);
-    let counts = counts_of(&job);
+    let counts = Counts::of(&job);
     Ok(Delivery { counts, bytes })
 }
 

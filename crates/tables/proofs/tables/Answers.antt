@@ -56,11 +56,11 @@ put_tables-requires c =
     let room = subst (λ (k : ℕ). k ≤ length c.args.out.now) (sized (goal.at.put_tables-requires c).After-new-circuits) c.if-out-bytes.false in
     rw c.new-circuits.ensures (rows_block _ _ (valid p) refl, all_room _ (valid p) (inside p) room)
 
-pub counts_of-counts-requires : goal.counts_of-counts-requires
-counts_of-counts-requires c = (reading_lengths _ _ (sym c.in_ok-job.ensures)).2
+pub of-counts-requires : goal.of-counts-requires
+of-counts-requires c = (reading_lengths _ _ (sym c.in_ok-job.ensures)).2
 
 pub returns : goal.returns
 returns c =
     let p = (goal.at.returns c).In_ok-job in
-    tables_done c.args.bytes.now c.args.out.now c.in_ok-job.job (sym c.in_ok-job.ensures) _ c.counts_of-counts.ensures (sized (goal.at.returns c).After-new-circuits) c.if-out-bytes.false
+    tables_done c.args.bytes.now c.args.out.now c.in_ok-job.job (sym c.in_ok-job.ensures) _ c.of-counts.ensures (sized (goal.at.returns c).After-new-circuits) c.if-out-bytes.false
     (all_put _ (valid p) (inside p) (c.in_ok-job.job.fault_count + 1) c.args.out.now (rw c.new-circuits.ensures at c.put_tables.ensures))

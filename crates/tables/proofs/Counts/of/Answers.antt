@@ -1,4 +1,4 @@
--- `tables::counts_of` meets its contract.
+-- `tables::Counts::of` meets its contract.
 use Prim.Native.Nat.{ℕ}
 use native.Mathlib.Omega.{arith}
 use mathlib.Core.Path.{ap}
@@ -6,7 +6,7 @@ use mathlib.Core.List.{List}
 use Rattle.bits.proofs.Splice.{written_none, written_more}
 use Rattle.job.specs.Layout.{max_faults}
 use Rattle.tables.proofs.Parts.{part_entry, parts_written}
-use Rattle.tables.proofs.counts_of.Goals as goal
+use Rattle.tables.proofs.Counts.of.Goals as goal
 
 pub loop-i-init : goal.loop-i-init
 loop-i-init c = written_none (omega arith)
