@@ -1,13 +1,11 @@
 -- Laws of the tests by which a function makes sure of its places (specs/Slices.antt).
 --
---   room_short, room_rest   the test as the code makes it: too few places in all, or the place against those that are left
---   ends_within             what a passed test says
 --   room_fits               it passes where so many places end within a size
 --   refused, passed         a test that the code negates
 --   kept, put               a list is left as it is where a test fails, and is what was put where it passes
 --   fitted                  where a test passes, the list is what was put
 --   and_then_lem            what is left of two tests when the first passes
---   copy_outside, copy_second   the test of a copy, by its two sides
+--   copy_second             the test of a copy, where its first side passes
 --   copy_fits_lem               it passes where there is room for what is copied, and it ends within its source
 use Prim.Native.Nat.{ℕ, ◌+◌, ◌-◌, ◌≤◌, ◌<◌}
 use native.Mathlib.Omega.{arith}
@@ -21,18 +19,6 @@ use Rattle.bits.specs.Slices.{has_room, copy_fits}
 use Rattle.bits.proofs.Below.{lt_or_ge}
 
 module _ (size at count : ℕ) where
-  pub room_short : size < count → false ≡ has_room size at count
-  room_short h = sym (lt-leb (at + count) size (omega arith))
-
-  pub room_rest : count ≤ size → leb at (size - count) ≡ has_room size at count
-  room_rest h =
-      ⊎_elim (λ l. lt-leb at (size - count) (omega arith) ∙ sym (lt-leb (at + count) size l))
-      (λ l. le-leb at (size - count) (omega arith) ∙ sym (le-leb (at + count) size l))
-      (lt_or_ge size (at + count))
-
-  pub ends_within : {t : Bool} → t ≡ has_room size at count → not t ≡ false → at + count ≤ size
-  ends_within {t} e n = leb-true (at + count) size (sym e ∙ not-false t n)
-
   pub room_fits : at + count ≤ size → has_room size at count ≡ true
   room_fits h = le-leb (at + count) size h
 
@@ -56,9 +42,6 @@ pub and_then_lem : {a b v : Bool} → a ≡ true → b ≡ v → a && b ≡ v
 and_then_lem {a} {b} p q = ap (λ (t : Bool). t && b) p ∙ q
 
 module _ (to at count size rows : ℕ) where
-  pub copy_outside : has_room size to count ≡ false → copy_fits to at count size rows ≡ false
-  copy_outside e = ap (λ (t : Bool). t && has_room rows at count) e
-
   pub copy_second : {v : Bool} → has_room size to count ≡ true → has_room rows at count ≡ v → copy_fits to at count size rows ≡ v
   copy_second room e = and_then_lem room e
 

@@ -8,7 +8,7 @@
 // place past 2 to the power 62 on is answered as cut, and the place behind a field is always a number.
 #![tactic(auto)]
 
-ghost use Rattle.std.specs.Prelude.{cond, ◌≡◌, ltb, ◌+◌, ◌-◌, ◌*◌, ◌/◌, ◌%◌, ◌^◌, ◌≤◌, ◌<◌, get_or, length};
+ghost use Rattle.std.specs.Prelude.{cond, ◌≡◌, ◌+◌, ◌-◌, ◌*◌, ◌/◌, ◌%◌, ◌^◌, ◌≤◌, ◌<◌, get_or, length};
 ghost use Rattle.bits.specs.Answer.{number};
 ghost use Rattle.bits.specs.Bounds.{all_below};
 ghost use Rattle.bits.specs.Packed.{tabulate};
@@ -74,7 +74,8 @@ fn two_bytes(s: &[u8], at: usize) -> usize
     s[at] as usize * 256 + s[at + 1] as usize
 }
 
-// The same at the end of the slice: a byte past it counts as 0.
+// The same at the end of the slice: a byte past it counts as 0. Not one function with the one above, where no field
+// but the last needs a test of the second byte.
 fn last_bytes(s: &[u8], at: usize) -> usize
     requires { at < length s.now }
     ensures { result ≡ window_at s.now at }

@@ -8,6 +8,8 @@
 // The order of looking, by number of ones, then by value, then by output, is made without sorting: each index goes to the
 // next place of its order, and then each index gives its entries. The first place of an order is the number of indices
 // of lower order, by Pascal's rule.
+//
+// What public functions take side by side (counts and tables, kind and polarity) the C interface takes so.
 #![tactic(auto)]
 
 ghost use Rattle.std.specs.Prelude.{◌+◌, ◌*◌, ◌^◌, ◌≤◌, ◌<◌, ◌≡◌, true, length};

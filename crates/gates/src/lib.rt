@@ -11,9 +11,8 @@ ghost use Rattle.std.specs.Prelude.{◌≡◌, cond, ◌<◌, length, slice_inde
 ghost use Rattle.bits.specs.Packed.{tabulate};
 ghost use Rattle.job.specs.Record.{gate_kind};
 ghost use Rattle.gates.specs.Polynomial.{alternating, combined, kind_polynomial};
-ghost use Rattle.bits.specs.Sizes.{table_size_of, table_bytes_of};
 ghost use Rattle.gates.specs.Rows.{step_fits, alternate_fits};
-ghost use Rattle.bits.specs.Slices.{slice, splice, has_room, copy_fits};
+ghost use Rattle.bits.specs.Slices.{splice};
 
 use job::Gate;
 

@@ -83,7 +83,8 @@ impl Polynomial {
     }
 }
 
-// Where the two tables that are read start in the rows, and the one that is written.
+// Where the two tables that are read start in the rows, and the one that is written. That so many bytes there lie apart
+// (`Apart`) is a fact of the rows too, so contracts say it.
 #[derive(Clone, Copy)]
 pub(crate) struct Places {
     pub(crate) x: usize,

@@ -79,6 +79,7 @@ pub struct ReportAnswer {
     pub length: usize,
 }
 
+// The kinds and purposes of C's numbers. No `From`: number and type are both other crates'.
 fn kind_of(kind: u8) -> Kind
     ensures { result ≡ kind_of kind }
 {

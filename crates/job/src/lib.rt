@@ -1,6 +1,6 @@
 // A job as a record: a circuit and its list of single faults (document 01, "Job layout").
 //
-// Lines and counts are bytes, so that the record, which goes by value from stage to stage, is half a kilobyte. A
+// Lines and counts are bytes, so that the record, which is copied where it goes by value, is half a kilobyte. A
 // one-line gate has one line, and a stuck fault too. The first case of each enum is the unused entry's, which is the
 // value that a list gives past its end.
 #![tactic(auto)]
@@ -81,7 +81,7 @@ pub enum Gate {
     Binary(BinaryKind, u8, u8),
 }
 
-// "A fault is either a line stuck at a level or a bridge of two inputs."
+// "A fault is either a line stuck at a level or a bridge of two inputs." The form, with its two flags, is document 01's.
 #[derive(Clone, Copy, Debug, PartialEq, Eq)]
 pub enum Fault {
     // The line and its level.
@@ -142,6 +142,7 @@ pub fn gate_of(kind: usize, a: u8, b: u8) -> Gate
     }
 }
 
+// The methods of a gate: a trait for both would have to be imported wherever one is called.
 impl Fault {
     // The number of the fault's kind, 0 to 3.
     pub fn kind(self) -> usize

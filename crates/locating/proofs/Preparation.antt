@@ -1,6 +1,5 @@
 -- The checks of locating and the filled work, from tables: its ways out, and what success tells (specs/Locating.antt).
 --
---   lengths_differ, lengths_same   the test of 17
 --   prepared_polarity, prepared_index, prepared_output, prepared_readings   13, 16, 20, 17
 --   prepared_filled                past these, what the spectra of the tables answer and leave
 --   Prepared                       the checks are passed, and the spectra stand at the start of the work
@@ -26,14 +25,6 @@ use Rattle.spectra.proofs.Families.{Fits, checked_fits, checked}
 use Rattle.locating.specs.Locating.{lengths_ok, prepared_by}
 
 -- ---- the test of 17
-
-module _ (indices outputs readings : List ℕ) where
-  pub lengths_differ : (length indices ≡ length readings → ⊥) → false ≡ lengths_ok indices outputs readings
-  lengths_differ h =
-      ap (λ (t : Bool). t && eqb (length outputs) (length readings)) (sym (ne_eqb (length indices) (length readings) h))
-
-  pub lengths_same : length indices ≡ length readings → eqb (length outputs) (length readings) ≡ lengths_ok indices outputs readings
-  lengths_same e = ap (λ (t : Bool). t && eqb (length outputs) (length readings)) (sym (eq-eqb (length indices) (length readings) e))
 
 -- ---- the ways out
 

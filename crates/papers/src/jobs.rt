@@ -10,7 +10,7 @@ const WORK_PLACES: usize = MAX_ROWS * MAX_ENTRIES;
 
 const ALL_TABLES_BYTES: usize = MAX_ROWS * MAX_TABLE_BYTES;
 
-// Writes the answer to a line about the job; nothing where it is no task.
+// Writes the answer to a line about the job; nothing where it is no task. A match, since each task takes what it needs.
 pub fn answer(rt: &impl Print, line: &[u8], job: &[u8]) {
     match words::letter(line) {
         b't' => list_tables(rt, job),

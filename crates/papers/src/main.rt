@@ -44,29 +44,23 @@ fn main(rt: HostRuntime) {
     answer_lines(&rt, &text[..n]);
 }
 
-// Reads until `buf` is full, the input ends or a read fails, and answers how many bytes stand at its start.
-fn read_full(stdin: Stdin, buf: &mut [u8]) -> usize
+// Reads until `buf` is full, the input ends or a read fails, and answers how many bytes stand at its start. By hand:
+// std's `read_exact` does not answer that, and `read_to_end` needs a heap.
+fn read_full(mut stdin: Stdin, buf: &mut [u8]) -> usize
     ensures { Within result buf.new }
 {
     let mut done = 0;
     while done < buf.len() {
-        let count = read_once(stdin, &mut buf[done..]);
+        let count = stdin.read(&mut buf[done..]).unwrap_or(0);
         if count == 0 {
-            return done;
+            break;
         }
         done += count;
     }
     done
 }
 
-// One read, of no bytes where it fails.
-fn read_once(mut stdin: Stdin, buf: &mut [u8]) -> usize
-    ensures { Within result buf.new }
-{
-    stdin.read(buf).unwrap_or(0)
-}
-
-// Each line of the text in turn, with the text from the last job on.
+// Each line of the text in turn, with the text from the last job on, which parts of a split would not give.
 fn answer_lines(rt: &impl Print, text: &[u8]) {
     let mut from_job = text;
     let mut rest = text;
@@ -79,7 +73,8 @@ fn answer_lines(rt: &impl Print, text: &[u8]) {
     }
 }
 
-// Writes the answer to a line. Its first letter tells its first word from the others.
+// Writes the answer to a line. Its first letter tells its first word from the others; a match, since not all tasks take
+// the job.
 fn answer_line(rt: &impl Print, line: &[u8], from_job: &[u8]) {
     match words::letter(line) {
         b'#' => listing::name(rt, line),

@@ -1,4 +1,4 @@
--- Kept by the code: what the functions write that put text into lent bytes.
+-- Kept by the code: what the methods of `Writer` put into lent bytes.
 --
 --   Puts          a text stands behind what stood there, and all else is as it was
 --   Room          there is room for a text

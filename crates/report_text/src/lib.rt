@@ -16,7 +16,8 @@ use tables::Counts;
 // 4 for each entry.
 pub const MAX_TEXT: usize = 28 + (10 + 6 * MAX_FAULTS) + (MAX_FAULTS + 1) * (3 + 4 * MAX_FAULTS);
 
-// Text at the start of lent bytes, and how long it is so far.
+// Text at the start of lent bytes, and how long it is so far. That there is room for a piece (`Room`) is a fact of that
+// piece, so contracts say it.
 #[derive(Drop)]
 struct Writer<'a> {
     out: &'a mut [u8],

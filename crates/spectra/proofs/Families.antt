@@ -7,7 +7,7 @@
 --   rows_family             the spectra of tables, row after row, are those of their family
 --   Fits                    what the checks of tables leave
 --   checked_fits, fits_checked   tables that pass the checks
---   unchecked, checked     an operation from tables: it is refused, or goes on
+--   checked                an operation from tables that pass the checks goes on
 --   table_family_valid     the family of tables that pass is valid
 --   Given                  what a successful call of `fill` has passed and left
 --   rows_given             and that it has
@@ -160,9 +160,6 @@ module _ (counts : Counts) (s : List ℕ) where
       )
 
   module _ {A : Type 0} (go : Family → Answer A) where
-    pub unchecked : {i : ℕ} → tables_checked counts s ≡ refused i → from_tables counts s go ≡ refused i
-    unchecked e = ap (λ (x : Answer (Unit {0})). onward x (λ _. go (table_family counts s))) e
-
     pub checked : tables_checked counts s ≡ gives tt → from_tables counts s go ≡ go (table_family counts s)
     checked e = ap (λ (x : Answer (Unit {0})). onward x (λ _. go (table_family counts s))) e
 

@@ -8,10 +8,13 @@
 // The good circuit is a batch of one column in which nothing is fixed, and the table of one circuit a batch of one
 // column, so that one loop over lines serves all (`work_out`). The columns that fix a line are a set, the bits of a
 // word.
+//
+// What the rows hold (`Stands`, `Good`) and how much room they have, contracts say: they are lent, and each step writes
+// them, so that no type could keep it.
 ghost use Rattle.std.specs.Prelude.{◌≡◌, ◌+◌, ◌-◌, ◌*◌, ◌^◌, ◌≤◌, ◌<◌, length};
 ghost use Rattle.bits.specs.Packed.{tabulate};
 ghost use Rattle.job.specs.Check.{Valid};
-ghost use Rattle.job.specs.Record.{gate_kind, gate_a, gate_b, gate_at, lines};
+ghost use Rattle.job.specs.Record.{gate_kind, gate_a, gate_b, lines};
 ghost use Rattle.gates.specs.Polynomial.{kind_polynomial, combined};
 ghost use Rattle.bits.specs.Slices.{splice};
 ghost use Rattle.tables.specs.Sizes.{shape_of, Formed};

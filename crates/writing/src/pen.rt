@@ -7,7 +7,8 @@ ghost use Rattle.writing.specs.Writing.{entry_bits, gate_bits, fault_bits, all_b
 
 use job::{FAULT_KIND_BITS, FaultEntry, GATE_KIND_BITS, GateEntry, LINE_BITS, PART_BITS};
 
-// So many whole bytes are put, and the bits that wait for their byte to be full are a number.
+// So many whole bytes are put, and the bits that wait for their byte to be full are a number. That there is room for a
+// field, and that its value fits, are facts of that field, so contracts say them.
 #[derive(Drop)]
 pub(crate) struct Pen<'a> {
     out: &'a mut [u8],

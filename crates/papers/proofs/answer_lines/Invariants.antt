@@ -1,3 +1,4 @@
+-- `papers::answer_lines` ends: each turn leaves less of the text.
 use Rattle.std.proofs.Common.{length}
 use Rattle.papers.proofs.answer_lines.Given as goal
 

@@ -1,3 +1,4 @@
+-- `papers::read_full` meets its contract, and ends: each turn fills more of the buffer.
 use Rattle.std.proofs.Common.{◌-◌, ◌≤◌, length}
 use Rattle.papers.proofs.read_full.Given as goal
 

@@ -1,4 +1,4 @@
--- `agrees` meets its contract: the numbers passed are the readings.
+-- `locating::Observed::agree` meets its contract: the numbers passed are the readings.
 use Rattle.spectra.specs.Listed.{entries_at}
 use Rattle.spectra.proofs.Recovery.{Comparing}
 use Rattle.locating.specs.Scanning.{numbers_at}

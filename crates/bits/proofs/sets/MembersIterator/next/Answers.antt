@@ -1,4 +1,4 @@
--- The members of a set come one after the other: the lowest is a number that a set may have, and the set that is left is a smaller word.
+-- `Members::next` meets its contract: the lowest is a number that a set may have, and the set that is left is a smaller word.
 use Rattle.std.proofs.Common.{rules, arith, ◌^◌, ◌<◌}
 use Rattle.bits.specs.Sets.{max_members}
 use Rattle.bits.proofs.Membership.{low_below, later_less}
