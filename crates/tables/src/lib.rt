@@ -90,10 +90,9 @@ pub fn table(bytes: &[u8], circuit: usize, output: usize, out: &mut [u8]) -> Res
     if out.len() < circuits.shape.bytes {
         return Err(Refusal::Memory);
     }
-    let mut rows = [0u8; ROW_BYTES];
     let asked = &job.outputs[output..output + 1];
     let listing = Listing { circuits, asked };
-    listing.put_table(&mut rows, circuit, out);
+    listing.put_table(circuit, out);
     Ok(())
 }
 
@@ -122,11 +121,10 @@ pub fn tables(bytes: &[u8], out: &mut [u8]) -> Result<Delivery, Refusal>
     if out.len() < bytes {
         return Err(Refusal::Memory);
     }
-    let mut rows = [0u8; ALL_ROW_BYTES];
     let lines = job.outputs;
     let asked = &lines[..outputs];
     let listing = Listing { circuits, asked };
-    listing.put_tables(&mut rows, out);
+    listing.put_tables(out);
     let counts = Counts::of(&job);
     Ok(Delivery { counts, bytes })
 }
@@ -181,24 +179,26 @@ impl<'a> Listing<'a> {
     }
 
     // The tables of one circuit, at the start of the lent bytes: the good one's give way to those of a faulty one.
-    fn put_table(&self, rows: &mut [u8], circuit: usize, out: &mut [u8])
-        requires { let j = self.now.circuits.job.now in let asked = self.now.asked.now in RowsFor j 1 rows.old × (circuit ≤ j.fault_count) × (circuit_bytes j asked ≤ length out.old) }
+    fn put_table(&self, circuit: usize, out: &mut [u8])
+        requires { let j = self.now.circuits.job.now in let asked = self.now.asked.now in (circuit ≤ j.fault_count) × (circuit_bytes j asked ≤ length out.old) }
         ensures { let j = self.now.circuits.job.now in let asked = self.now.asked.now in out.new ≡ splice out.old 0 (tables_at j asked circuit) }
     {
-        self.put_good(rows, out);
-        if circuit == 0 {
-            return;
+        let mut rows = [0u8; ROW_BYTES];
+        self.put_good(&mut rows, out);
+        if circuit != 0 {
+            self.put_batch(&mut rows, self.circuits.faulty(circuit, 1), out, 0);
         }
-        self.put_batch(rows, self.circuits.faulty(circuit, 1), out, 0);
     }
 
-    // The tables of all circuits, from the start of the lent bytes on.
-    fn put_tables(&self, rows: &mut [u8], out: &mut [u8])
-        requires { let j = self.now.circuits.job.now in let asked = self.now.asked.now in RowsFor j (block_bytes / table_bytes j.inputs) rows.old × ((j.fault_count + 1) * (circuit_bytes j asked) ≤ length out.old) }
+    // The tables of all circuits, from the start of the lent bytes on. The rows are made here: behind a way out of the
+    // function they would be cleared twice.
+    fn put_tables(&self, out: &mut [u8])
+        requires { let j = self.now.circuits.job.now in let asked = self.now.asked.now in (j.fault_count + 1) * (circuit_bytes j asked) ≤ length out.old }
         ensures { let j = self.now.circuits.job.now in let asked = self.now.asked.now in out.new ≡ splice out.old 0 (tables_from j asked 0 (j.fault_count + 1)) }
     {
-        self.put_good(rows, out);
-        self.put_faults(rows, out);
+        let mut rows = [0u8; ALL_ROW_BYTES];
+        self.put_good(&mut rows, out);
+        self.put_faults(&mut rows, out);
     }
 
     // The tables of all faulty circuits behind the good circuit's, batch after batch.

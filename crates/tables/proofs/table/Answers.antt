@@ -1,7 +1,7 @@
 -- `tables::table` meets its contract.
 use Prim.Native.Nat.{ℕ, ◌≤◌, ◌<◌}
 use native.Mathlib.Omega.{arith}
-use mathlib.Core.Path.{◌≡◌, refl, sym, ap, subst, ◌∙◌}
+use mathlib.Core.Path.{◌≡◌, sym, ap, subst, ◌∙◌}
 use lib.ListN.{length}
 use Rattle.std.proofs.lemmas.Result.{err_from_is_err_and}
 use Rattle.reading.proofs.Validity.{reading_valid, reading_lengths}
@@ -9,10 +9,8 @@ use Rattle.bits.specs.Sizes.{table_bytes}
 use Rattle.job.specs.Check.{Valid}
 use Rattle.job.specs.declared.Job.{Job}
 use Rattle.tables.proofs.Space.{shape_bytes}
-use Rattle.job.specs.Layout.{max_inputs, max_gates}
-use Rattle.tables.specs.Work.{max_table_bytes, row_bytes}
 use Rattle.tables.proofs.Answers.{table_unread, table_number, table_output, table_memory, table_done}
-use Rattle.tables.proofs.WrittenTables.{rows_one, one_asked, one_room, one_put}
+use Rattle.tables.proofs.WrittenTables.{one_asked, one_room, one_put}
 use Rattle.tables.proofs.table.Goals as goal
 use Rattle.tables.proofs.table.Goals.{In_ok-job, After-new-circuits}
 
@@ -47,11 +45,10 @@ pub invariant_of-listing : goal.invariant_of-listing
 invariant_of-listing c = let p = (goal.at.invariant_of-listing c).In_ok-job in rw c.new-circuits.ensures (record { lie = one_asked _ (valid p) (inside p) c.args.output c.if-job-output.false })
 
 pub put_table-requires : goal.put_table-requires
-unfolding row_bytes max_inputs max_gates max_table_bytes
 put_table-requires c =
     let p = (goal.at.put_table-requires c).In_ok-job in
     let room = subst (λ (k : ℕ). k ≤ length c.args.out.now) (size (goal.at.put_table-requires c).After-new-circuits) c.if-out-circuits.false in
-    rw c.new-circuits.ensures (rows_one _ _ (valid p) refl, c.if-job-circuit.false, one_room _ (valid p) (inside p) c.args.output c.if-job-output.false room)
+    rw c.new-circuits.ensures (c.if-job-circuit.false, one_room _ (valid p) (inside p) c.args.output c.if-job-output.false room)
 
 pub returns : goal.returns
 returns c =

@@ -1,7 +1,7 @@
 -- `tables::tables` meets its contract.
 use Prim.Native.Nat.{ℕ, ◌+◌, ◌*◌, ◌≤◌, ◌<◌}
 use native.Mathlib.Omega.{arith}
-use mathlib.Core.Path.{◌≡◌, refl, sym, ap, subst, ◌∙◌}
+use mathlib.Core.Path.{◌≡◌, sym, ap, subst, ◌∙◌}
 use lib.ListN.{length}
 use lib.Seq.{length-take-le}
 use mir.Syntax.{w64}
@@ -12,11 +12,9 @@ use Rattle.bits.specs.Sizes.{table_bytes}
 use Rattle.job.specs.Check.{Valid}
 use Rattle.job.specs.declared.Job.{Job}
 use Rattle.tables.proofs.Space.{shape_bytes}
-use Rattle.job.specs.Layout.{max_inputs, max_gates}
 use Rattle.tables.specs.Operations.{tables_bytes}
-use Rattle.tables.specs.Work.{max_table_bytes, block_bytes, all_row_bytes}
 use Rattle.tables.proofs.Answers.{tables_unread, tables_memory, tables_done}
-use Rattle.tables.proofs.WrittenTables.{rows_block, table_count_fits, all_room, all_put}
+use Rattle.tables.proofs.WrittenTables.{table_count_fits, all_room, all_put}
 use Rattle.tables.proofs.tables.Goals as goal
 use Rattle.tables.proofs.tables.Goals.{In_ok-job, After-new-circuits}
 
@@ -50,11 +48,10 @@ pub slice_bounds-asked-end : goal.slice_bounds-asked-end
 slice_bounds-asked-end c = sym (length-take-le _ _ (inside (goal.at.slice_bounds-asked-end c).In_ok-job))
 
 pub put_tables-requires : goal.put_tables-requires
-unfolding all_row_bytes block_bytes max_inputs max_gates max_table_bytes
 put_tables-requires c =
     let p = (goal.at.put_tables-requires c).In_ok-job in
     let room = subst (λ (k : ℕ). k ≤ length c.args.out.now) (sized (goal.at.put_tables-requires c).After-new-circuits) c.if-out-bytes.false in
-    rw c.new-circuits.ensures (rows_block _ _ (valid p) refl, all_room _ (valid p) (inside p) room)
+    rw c.new-circuits.ensures (all_room _ (valid p) (inside p) room)
 
 pub of-counts-requires : goal.of-counts-requires
 of-counts-requires c = (reading_lengths _ _ (sym c.in_ok-job.ensures)).2
