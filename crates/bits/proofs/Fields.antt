@@ -11,6 +11,7 @@
 --   shift_exact     a one shifted within a word is a power of two
 --   spare_none, spare_more, spare_last   which bits are spare bits alone, for the tests and the arithmetic of the code
 --   field_found     what a field that was read says of the string
+--   field_near      the place behind it is near
 --   field_value     what is read at a place is what the parser takes
 --   field_cut       what is cut at a place the parser refuses
 --   field_lt        a field's value fits its width
@@ -147,6 +148,12 @@ field_found s c w v next e = go (is_field c w && leb w (length (from s c))) refl
           value = ap (λ (o : Option (ℕ × Cursor)). (unwrap_or o (0, c)).0) pair;
           behind = ap (λ (o : Option (ℕ × Cursor)). (unwrap_or o (0, c)).1) pair;
         }
+
+pub field_near : (s : List ℕ) (c : Cursor) (w v : ℕ) (next : Cursor) → field_at s c w ≡ Some (v, next) → next.bit ≤ c.bit + max_width
+field_near s c w v next e =
+    let f = field_found s c w v next e in
+    let b : c.bit + w ≡ next.bit = ap (λ (x : Cursor). x.bit) f.behind in
+    omega (arith, f.narrow)
 
 pub field_value : (s : List ℕ) (c : Cursor) (w v : ℕ) (next : Cursor) → field_at s c w ≡ Some (v, next) → field w (from s c) ≡ parsed v (from s next)
 unfolding field

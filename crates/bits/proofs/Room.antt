@@ -7,16 +7,12 @@
 --   and_then_lem            what is left of two tests when the first passes
 --   copy_second             the test of a copy, where its first side passes
 --   copy_fits_lem               it passes where there is room for what is copied, and it ends within its source
-use Prim.Native.Nat.{ℕ, ◌+◌, ◌-◌, ◌≤◌, ◌<◌}
-use native.Mathlib.Omega.{arith}
+use Prim.Native.Nat.{ℕ, ◌+◌, ◌≤◌}
 use mathlib.Core.Path.{◌≡◌, sym, ap, ◌∙◌}
 use mathlib.Core.Bool.{Bool, true, false, not, cond, ◌&&◌}
 use mathlib.Core.List.{List}
-use mathlib.Core.Logic.{⊎_elim}
-use borrow.Author.Tests.{leb-true, le-leb, lt-leb, not-true, not-false}
-use lib.Dec.{leb}
+use borrow.Author.Tests.{le-leb, not-true, not-false}
 use Rattle.bits.specs.Slices.{has_room, copy_fits}
-use Rattle.bits.proofs.Below.{lt_or_ge}
 
 module _ (size at count : ℕ) where
   pub room_fits : at + count ≤ size → has_room size at count ≡ true

@@ -2,13 +2,16 @@
 --
 --   entries_end    what the entries from entry i on give where none is left
 --   entries_step   where one is left: that entry, then those behind it
+--   entries_stop, entries_next   so where that entry is refused, and where it is read
 use Prim.Native.Nat.{ℕ, suc, ◌+◌, ◌-◌, ◌≤◌, ◌<◌}
 use mathlib.Core.Path.{◌≡◌, sym, ap, ◌∙◌}
 use mathlib.Core.List.{List}
 use native.Mathlib.Numerals.{add-one}
 use native.Mathlib.Omega.{arith}
 use lib.ListN.{set}
-use Rattle.bits.specs.Parser.{Parser, parsed, and_then}
+use Rattle.bits.specs.Answer.{Answer}
+use Rattle.bits.specs.Answer.Answer.{refused}
+use Rattle.bits.specs.Parser.{Parser, Parsed, parsed, and_then}
 use Rattle.reading.specs.Reading.{entries_from}
 
 module _ {A : Type 0} (p : ℕ → Parser A) (count i : ℕ) (entries : List A) (bits : List ℕ) where
@@ -23,3 +26,12 @@ module _ {A : Type 0} (p : ℕ → Parser A) (count i : ℕ) (entries : List A) 
   entries_step h =
       let e : count - i ≡ suc (count - (i + 1)) = omega arith in
       ap (λ (k : ℕ). entries_from p k i entries bits) e ∙ ap (λ (k : ℕ). and_then (p i bits) (λ a. entries_from p (count - (i + 1)) k (set entries i a))) (sym (add-one i))
+
+  pub entries_stop : {k : ℕ} → i < count → p i bits ≡ refused k → entries_from p (count - i) i entries bits ≡ refused k
+  entries_stop h r =
+      entries_step h ∙ ap (λ (x : Answer (Parsed A)). and_then x (λ a. entries_from p (count - (i + 1)) (i + 1) (set entries i a))) r
+
+  pub entries_next : {a : A} {rest : List ℕ} → i < count → p i bits ≡ parsed a rest
+      → entries_from p (count - i) i entries bits ≡ entries_from p (count - (i + 1)) (i + 1) (set entries i a) rest
+  entries_next h r =
+      entries_step h ∙ ap (λ (x : Answer (Parsed A)). and_then x (λ a. entries_from p (count - (i + 1)) (i + 1) (set entries i a))) r

@@ -4,3 +4,4 @@ pub mod Inversion
 pub mod Refusals
 pub mod Steps
 pub mod Validity
+pub mod EntryFields

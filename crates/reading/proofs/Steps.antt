@@ -6,15 +6,14 @@
 --   passed_whole   a refusal that an operation met and handed on is what it answers
 use Prim.Native.Nat.{ℕ, ◌+◌, ◌*◌, ◌-◌, ◌/◌, ◌%◌, ◌≤◌, ◌<◌}
 use native.Mathlib.Omega.{arith}
-use mathlib.Core.Path.{◌≡◌, refl, sym, ap, ◌∙◌}
+use mathlib.Core.Path.{◌≡◌, sym, ap, ◌∙◌}
 use mathlib.Core.Bool.{true}
 use mathlib.Core.List.{List}
 use borrow.Author.Tests.{leb-true}
 use lib.Dec.{leb}
 use lib.ListN.{length, drop}
 use lib.Seq.{drop-drop}
-use Rattle.std.specs.Option.{ok_or}
-use Rattle.std.specs.Prelude.{Option, Some, None, Result, Err}
+use Rattle.std.specs.Prelude.{Some, None, Result}
 use Rattle.std.specs.Result.{IsErrAnd}
 use Rattle.std.proofs.lemmas.Result.{err_from_is_err_and}
 use Rattle.bits.specs.Answer.{Answer, outcome, number}
@@ -24,7 +23,6 @@ use Rattle.bits.specs.Field.{from, field_at, is_width, max_width}
 use Rattle.bits.specs.Parser.{field}
 use Rattle.bits.specs.declared.Cursor.{Cursor}
 use Rattle.bits.specs.declared.Refusal.{Refusal}
-use Rattle.bits.specs.declared.Refusal.TheVariants.{BytesEnd}
 use Rattle.bits.proofs.Bits.{drop_string_of}
 use Rattle.bits.proofs.Fields.{field_cut, field_found, length_from}
 use Rattle.bits.proofs.Tests.{and_l}

@@ -2,6 +2,7 @@
 --
 --   puts_none     the empty text
 --   puts_same     an equal text
+--   room_next     where two texts fit, the second does once the first is put
 --   puts_then     a text behind a text
 use Prim.Native.Nat.{ℕ, ◌+◌, ◌≤◌}
 use native.Mathlib.Omega.{arith}
@@ -11,7 +12,7 @@ use mathlib.Core.List.{List, [], ◌++◌, append_assoc, append-nil}
 use lib.ListN.{length, take, drop, length-append, length-take, take-append-drop}
 use lib.Seq.{take_at, drop-append-add, drop-drop}
 use Rattle.bits.specs.Slices.{splice}
-use Rattle.report_text.specs.Putting.{Puts}
+use Rattle.report_text.specs.Putting.{Puts, Room}
 use Rattle.report_text.specs.declared.Writer.{Writer}
 
 pub puts_none : (w : Writer) → Puts [] w w
@@ -38,6 +39,9 @@ module _ (x y : List ℕ) (at : ℕ) (o : List ℕ) (h : at + length x ≤ lengt
       ap₂ (λ (a b : List ℕ). a ++ y ++ b) (take_at p q (at + length x) length_head)
       (ap (λ (n : ℕ). drop (n + length y) (p ++ q)) (sym length_head) ∙ drop-append-add p q (length y) ∙ drop-drop (length y) (at + length x) o)
       ∙ ap₂ (λ (a : List ℕ) (n : ℕ). a ++ drop n o) (append_assoc (take at o) x y) n
+
+pub room_next : (x y : List ℕ) {first second : Writer} → Room (x ++ y) first → Puts x first second → Room y second
+room_next x y h p = omega (arith, simp length-append at h, p.ends, p.kept)
 
 pub puts_then : {x y : List ℕ} {first second third : Writer} → Puts x first second → Puts y second third → Puts (x ++ y) first third
 puts_then {x} {y} {first} {second} {third} p q =
