@@ -43,7 +43,7 @@ pub struct LengthAnswer {
     pub length: usize,
 }
 
-// The pair that is alike; or the counts of the job, and the signature.
+// The pair that is alike; or the counts of the job, and the signature. The layout of this and the other answers is C's.
 #[repr(C)]
 #[derive(Debug, PartialEq, Eq, Drop)]
 pub struct ChoiceAnswer {
@@ -266,13 +266,7 @@ pub extern "C" fn horncurlew_choose(
 ) -> ChoiceAnswer
     ensures { (result ≡ choice_of (chosen_at (purpose_of purpose) bytes.now (kind_of kind) polarity work.old)) × (work.new ≡ (chosen_at (purpose_of purpose) bytes.now (kind_of kind) polarity work.old).memory) }
 {
-    choice_of(choosing::choose(
-        bytes,
-        purpose_of(purpose),
-        kind_of(kind),
-        polarity,
-        work,
-    ))
+    choice_of(choosing::choose(bytes, purpose_of(purpose), kind_of(kind), polarity, work))
 }
 
 fn location_of(located: Result<Located, Refusal>) -> LocationAnswer

@@ -54,13 +54,7 @@ fn put_byte(rt: &impl Print, byte: u8) {
 }
 
 // A line of a word and the first `count` items, as far as there are so many.
-fn items<T: Copy, F: Fn(T)>(
-    rt: &impl Print,
-    word: &[u8],
-    items: &[T],
-    count: usize,
-    put_item: F,
-)
+fn items<T: Copy, F: Fn(T)>(rt: &impl Print, word: &[u8], items: &[T], count: usize, put_item: F)
     requires { F.IsAlwaysCallable put_item }
 {
     put(rt, word);

@@ -38,7 +38,8 @@ const BLOCK_BYTES: usize = 512;
 // A row for each line of the good circuit, and a block for each of a batch.
 const ALL_ROW_BYTES: usize = MAX_LINES * (MAX_TABLE_BYTES + BLOCK_BYTES);
 
-// How many inputs, gates, outputs and faults a job has, and the part of each circuit.
+// How many inputs, gates, outputs and faults a job has, and the part of each circuit, in an array for the most circuits,
+// since memory is fixed.
 #[derive(Clone, Copy, Debug, PartialEq, Eq)]
 pub struct Counts {
     pub inputs: usize,
