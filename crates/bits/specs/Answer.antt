@@ -39,7 +39,7 @@ pub data Answer (A : Type 0) : Type 0 where
   gives : A → Answer A
   refused : ℕ → Answer A
 
--- what an operation's result stands for: its value, or the number of its refusal
+-- what an operation's result stands for: its value, or the number of its refusal; "table, spectrum and undoing give success alone"
 abbrev pub outcome : {A : Type 0} → Result A Refusal → Answer A
 outcome (Ok a) = gives a
 outcome (Err e) = refused (number e)

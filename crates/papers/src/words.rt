@@ -17,13 +17,13 @@ fn place_of(text: &[u8], character: u8) -> usize
 }
 
 // What stands before the first such character: the whole text where there is none.
-pub fn before(text: &[u8], character: u8) -> &[u8] {
+pub(crate) fn before(text: &[u8], character: u8) -> &[u8] {
     let end = place_of(text, character);
     &text[..end]
 }
 
 // What stands behind the first such character: nothing where there is none.
-pub fn behind(text: &[u8], character: u8) -> &[u8]
+pub(crate) fn behind(text: &[u8], character: u8) -> &[u8]
     ensures { 0 < length text.now → length result.now < length text.now }
 {
     let end = place_of(text, character);

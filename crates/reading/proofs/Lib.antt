@@ -1,4 +1,5 @@
 pub mod ASample
+pub mod Consequences
 pub mod Entries
 pub mod Inversion
 pub mod Refusals

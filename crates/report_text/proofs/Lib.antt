@@ -8,3 +8,4 @@ pub mod Sizes
 pub mod Texts
 pub mod Whole
 pub mod Widths
+pub mod Lines

@@ -3,6 +3,7 @@
 --   judged_from                        the checks of a list from an entry on
 --   each_end, each_stop, each_next     where none is left, where the next is refused, and where it passes
 --   gate_first, gate_second, gate_passed   a gate whose first line is not below its own, whose second is not, and one that passes
+--   fault_part                         a fault that 21 refuses
 --   gates_lent, outputs_lent, faults_lent   the checks of the entries in use are those of the list of them
 --   behind_gates, behind_outputs       what is left to check once the gates have passed, and the outputs
 --   past_gates, past_outputs           so a record whose gates, and whose outputs, have passed is refused or not by these
@@ -13,10 +14,10 @@ use Rattle.std.proofs.lemmas.List.{drop_all}
 use Rattle.std.specs.List.{list_all}
 use Rattle.bits.specs.Answer.{Answer, unless, onward}
 use Rattle.bits.specs.Answer.Answer.{gives, refused}
-use Rattle.job.specs.Check.{in_turn, output_ok, output_count_ok, fault_count_ok, gates_checked, outputs_checked, faults_checked, checked}
+use Rattle.job.specs.Check.{fault_line_ok, fault_order_ok, part_ok, fault_judged, in_turn, output_ok, output_count_ok, fault_count_ok, gates_checked, outputs_checked, faults_checked, checked}
 use Rattle.job.specs.Dependence.{no_loose}
 use Rattle.job.specs.Layout.{max_inputs, max_gates, max_outputs}
-use Rattle.job.specs.Record.{gate_a, gate_b, unused_gate, unused_fault, lines}
+use Rattle.job.specs.Record.{fault_at, part_at, gate_a, gate_b, unused_gate, unused_fault, lines}
 use Rattle.job.specs.declared.GateEntry.{GateEntry}
 use Rattle.job.specs.declared.Job.{Job}
 use Rattle.writing.specs.Checks.{each_judged, gate_judged, entry_judged, gates_judged, faults_judged}
@@ -120,3 +121,7 @@ module _ (j : Job) where
   pub past_outputs : checked j ≡ behind_gates j → 1 ≤ j.output_count → j.output_count ≤ max_outputs → gives tt ≡ outputs_checked j j.output_count 0
       → checked j ≡ behind_outputs j
   past_outputs so_far some few outputs = so_far ∙ simp (le-leb 1 j.output_count some, le-leb j.output_count max_outputs few, sym outputs)
+
+pub fault_part : (j : Job) (i : ℕ) → fault_line_ok j.inputs (lines j) (fault_at j i) ≡ true → fault_order_ok (fault_at j i) ≡ true → part_ok (part_at j i) ≡ false
+    → fault_judged j i ≡ refused 21
+fault_part j i line order part = simp (line, order, part)
