@@ -171,7 +171,8 @@ pub fn spare_only(s: &[u8], c: Cursor) -> bool
 // The bits of a word: a shift must be by fewer.
 const WORD_BITS: usize = 64;
 
-// The entries of a table of n inputs, which are as many as its coefficients; 0 where no word holds their number.
+// The entries of a table of n inputs, which are as many as its coefficients; 0 where no word holds their number. No
+// Option, here and below: the definitions give 0, and callers have tested n.
 pub fn table_size(n: usize) -> usize
     ensures { result ≡ table_size_of n }
 {
@@ -185,7 +186,7 @@ pub fn table_size(n: usize) -> usize
 pub fn table_bytes(n: usize) -> usize
     ensures { result ≡ table_bytes_of n }
 {
-    (table_size(n) + 7) / 8
+    table_size(n).div_ceil(8)
 }
 
 // Whether `count` bytes from `at` on end within `size` bytes.

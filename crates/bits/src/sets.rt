@@ -8,7 +8,7 @@ use std::marker::Model;
 // So many numbers a set may have.
 pub const MAX_MEMBERS: usize = 64;
 
-// The lowest member; of the empty set, MAX_MEMBERS.
+// The lowest member; of the empty set, MAX_MEMBERS. No Option: callers have tested that there is one.
 pub fn lowest(set: u64) -> usize
     ensures { result ≡ lowest set }
 {

@@ -5,7 +5,7 @@ ghost use Rattle.chooser.specs.Matrix.{max_signature};
 use crate::MAX_SIGNATURE;
 use std::marker::Model;
 
-// They stand at the end of an array, from a start on.
+// They stand at the end of an array, from a start on, since the last one kept comes first. Memory is fixed.
 #[derive(Drop)]
 pub(crate) struct Kept {
     entries: [u16; MAX_SIGNATURE],

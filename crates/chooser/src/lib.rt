@@ -28,7 +28,7 @@ pub const MAX_ROWS: usize = 64;
 // The method takes fewer entries than there are rows.
 pub const MAX_SIGNATURE: usize = 63;
 
-// Entries in the order of taking; the places past the count are 0. An array with a count, since memory is fixed.
+// Entries in the order of taking. An array with a count, as the definition (`signature_of`) has it: 0s past the count.
 #[derive(Clone, Copy, Debug, PartialEq, Eq)]
 pub struct Signature {
     pub count: usize,

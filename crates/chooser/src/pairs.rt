@@ -35,7 +35,8 @@ impl Model for Pairs {
 }
 
 impl Pairs {
-    // Every two rows whose marks differ.
+    // Every two rows whose marks differ. The rows are counted beside the marks, as in the definition (`choice`): more marks
+    // than rows may be lent.
     pub(crate) fn new(rows: usize, marks: &[u8]) -> Self
         requires { (rows ≤ max_rows) × (rows ≤ length marks.now) }
         ensures { Paired rows marks.now result }

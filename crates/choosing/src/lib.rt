@@ -9,7 +9,8 @@
 // next place of its order, and then each index gives its entries. The first place of an order is the number of indices
 // of lower order, by Pascal's rule.
 //
-// What public functions take side by side (counts and tables, kind and polarity) the C interface takes so.
+// Public functions take kind and polarity side by side as the C interface does, counts and tables as the definition
+// does (`from_tables`).
 #![tactic(auto)]
 
 ghost use Rattle.std.specs.Prelude.{◌+◌, ◌*◌, ◌^◌, ◌≤◌, ◌<◌, ◌≡◌, true, length};
@@ -38,8 +39,8 @@ pub enum Purpose {
     Detecting,
 }
 
-// Entries in the order of taking, an index and an output each; the places past the count are 0. Two arrays, since the C interface and the statement of
-// demand 3 read `indices` and `outputs`; with a count, since memory is fixed.
+// Entries in the order of taking, an index and an output each. Two arrays with a count, as the definition (`signature_of`)
+// has them, the C interface and the statement of demand 3: 0s past the count.
 #[derive(Clone, Copy, Debug, PartialEq, Eq)]
 pub struct Signature {
     pub count: usize,

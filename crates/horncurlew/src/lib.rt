@@ -79,7 +79,7 @@ pub struct ReportAnswer {
     pub length: usize,
 }
 
-// The kinds and purposes of C's numbers. No `From`: number and type are both other crates'.
+// The kinds and purposes of C's numbers. No `From`: here both types are other crates', and there C's numbers mean nothing.
 fn kind_of(kind: u8) -> Kind
     ensures { result ≡ kind_of kind }
 {
@@ -115,6 +115,7 @@ pub extern "C" fn horncurlew_version() -> usize
     VERSION
 }
 
+// This and the functions below are named for the definitions that the exports' clauses cite, and so no `From`s.
 fn job_of(reading: Result<Job, Refusal>) -> JobAnswer
     ensures { result ≡ job_of (outcome reading) }
 {

@@ -44,9 +44,9 @@ pub const PART_BITS: usize = 6;
 
 const COUNT_BITS: usize = INPUT_COUNT_BITS + GATE_COUNT_BITS + OUTPUT_COUNT_BITS + FAULT_COUNT_BITS;
 
-const GATE_BITS: usize = GATE_KIND_BITS + 2 * LINE_BITS;
+pub const GATE_BITS: usize = GATE_KIND_BITS + 2 * LINE_BITS;
 
-const FAULT_BITS: usize = FAULT_KIND_BITS + 2 * LINE_BITS + PART_BITS;
+pub const FAULT_BITS: usize = FAULT_KIND_BITS + 2 * LINE_BITS + PART_BITS;
 
 // The bytes of the longest job: counts, gates, output lines and faults.
 pub const MAX_JOB_BYTES: usize = (COUNT_BITS

@@ -2,8 +2,10 @@
 //
 // The list is lent as its indices and its outputs, two slices as C lends them. `prepare` has the checks and fills the
 // work: 13, 16, 20 and 17 come before 10, so they are judged before the spectra are made; 16 over all indices, then 20
-// over all outputs, then 17. Then each circuit's coefficients at the entries are compared with the readings. What public
-// functions take side by side (counts and tables, kind and polarity, the list) the C interface takes so.
+// over all outputs, then 17. Then each circuit's coefficients at the entries are compared with the readings.
+//
+// Public functions take kind and polarity, and the list, side by side as the C interface does, counts and tables as the
+// definition does (`from_tables`).
 #![tactic(auto)]
 
 ghost use Rattle.std.specs.Prelude.{◌+◌, ◌<◌, ◌≡◌, length, IfSome};
@@ -109,7 +111,7 @@ fn scan(work: &[u16], counts: Counts, observed: &Observed) -> Located
     told(seen)
 }
 
-// The checks of locating, 17 by a test of the caller's, and then the spectra of the counted circuits, from their tables, one after the other:
+// The checks of locating, 17 by a test of the caller's (`paired` is the definition's argument, `prepared_by`), and then the spectra of the counted circuits, from their tables, one after the other:
 // 2; 12; 13; 16; 20; 17; 10.
 pub fn prepare(
     counts: Counts,

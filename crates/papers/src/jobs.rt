@@ -1,14 +1,12 @@
 // The tasks of a job: its circuits' tables, its signatures, a unit located, and what a fault changes.
-use crate::{MAX_ENTRIES, MAX_ROWS, MAX_TABLE_BYTES, listing, words};
+use crate::{MAX_ENTRIES, MAX_ROWS, listing, words};
 use choosing::{Chosen, Purpose, Unchosen};
 use job::{MAX_FAULTS, MAX_OUTPUTS};
 use locating::Located;
-use tables::Counts;
+use tables::{ALL_TABLES_BYTES, Counts};
 
-// The coefficients, and the bytes of the tables, of the most circuits and outputs.
+// The coefficients of the most circuits and outputs.
 const WORK_PLACES: usize = MAX_ROWS * MAX_ENTRIES;
-
-const ALL_TABLES_BYTES: usize = MAX_ROWS * MAX_TABLE_BYTES;
 
 // Writes the answer to a line about the job; nothing where it is no task. A match, since each task takes what it needs.
 pub fn answer(rt: &impl Print, line: &[u8], job: &[u8]) {

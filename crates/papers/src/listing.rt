@@ -53,7 +53,8 @@ fn put_byte(rt: &impl Print, byte: u8) {
     let _ = print!(rt; "{byte:02x}");
 }
 
-// A line of a word and the first `count` items, as far as there are so many.
+// A line of a word and the first `count` items, as far as there are so many. A count beside the slice, here and below:
+// `take` needs no proof that there are so many.
 fn items<T: Copy, F: Fn(T)>(rt: &impl Print, word: &[u8], items: &[T], count: usize, put_item: F)
     requires { F.IsAlwaysCallable put_item }
 {

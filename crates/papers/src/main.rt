@@ -30,10 +30,8 @@ const MAX_TEXT_BYTES: usize = 65536;
 // One byte more than the longest job, so that a longer one is seen to be longer.
 const MAX_INPUT_BYTES: usize = MAX_JOB_BYTES + 1;
 
-// The entries of a table of the most inputs, and the bytes that hold them.
+// The entries of a table of the most inputs.
 const MAX_ENTRIES: usize = 1 << MAX_INPUTS;
-
-const MAX_TABLE_BYTES: usize = MAX_ENTRIES / 8;
 
 // A table for the good circuit and each fault, at each output.
 const MAX_ROWS: usize = (MAX_FAULTS + 1) * MAX_OUTPUTS;
@@ -45,7 +43,8 @@ fn main(rt: HostRuntime) {
 }
 
 // Reads until `buf` is full, the input ends or a read fails, and answers how many bytes stand at its start. By hand:
-// std's `read_exact` does not answer that, and `read_to_end` needs a heap.
+// std's `read_exact` does not answer that, and `read_to_end` needs a heap. Not report's `read_input`: there a read that
+// fails is told, and here what was read before it counts.
 fn read_full(mut stdin: Stdin, buf: &mut [u8]) -> usize
     ensures { Within result buf.new }
 {
@@ -60,34 +59,32 @@ fn read_full(mut stdin: Stdin, buf: &mut [u8]) -> usize
     done
 }
 
-// Each line of the text in turn, with the text from the last job on, which parts of a split would not give.
+// Each line of the text in turn, with the last job's line; at first that is the first line.
 fn answer_lines(rt: &impl Print, text: &[u8]) {
-    let mut from_job = text;
-    let mut rest = text;
-    while !rest.is_empty() {
-        if words::letter(rest) == b'j' {
-            from_job = rest;
+    let mut job = words::before(text, b'\n');
+    for line in text.split(|&character| character == b'\n') {
+        if words::letter(line) == b'j' {
+            job = line;
         }
-        answer_line(rt, words::before(rest, b'\n'), from_job);
-        rest = words::behind(rest, b'\n');
+        answer_line(rt, line, job);
     }
 }
 
 // Writes the answer to a line. Its first letter tells its first word from the others; a match, since not all tasks take
 // the job.
-fn answer_line(rt: &impl Print, line: &[u8], from_job: &[u8]) {
+fn answer_line(rt: &impl Print, line: &[u8], job: &[u8]) {
     match words::letter(line) {
         b'#' => listing::name(rt, line),
         b's' => table::list_spectra(rt, line),
         b'u' => table::list_undone(rt, line),
         b'r' => records::list_written(rt, line),
-        _ => answer_job(rt, line, from_job),
+        _ => answer_job(rt, line, job),
     }
 }
 
-// The job is the first line of the text from it on.
-fn answer_job(rt: &impl Print, line: &[u8], from_job: &[u8]) {
-    let mut job = [0u8; MAX_INPUT_BYTES];
-    let n = words::bytes(words::before(from_job, b'\n'), 1, &mut job);
-    jobs::answer(rt, line, &job[..n]);
+// The bytes of the job that its line gives.
+fn answer_job(rt: &impl Print, line: &[u8], job: &[u8]) {
+    let mut bytes = [0u8; MAX_INPUT_BYTES];
+    let n = words::bytes(job, 1, &mut bytes);
+    jobs::answer(rt, line, &bytes[..n]);
 }

@@ -1,6 +1,7 @@
 // The tasks of a table by itself: its spectra, and the table that a spectrum gives back.
-use crate::{MAX_ENTRIES, MAX_TABLE_BYTES, listing, words};
+use crate::{MAX_ENTRIES, listing, words};
 use spectra::Kind;
+use tables::MAX_TABLE_BYTES;
 
 // The RM and the MRM spectrum of the table that the line gives.
 pub fn list_spectra(rt: &impl Print, line: &[u8]) {

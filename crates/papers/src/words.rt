@@ -33,7 +33,7 @@ pub(crate) fn behind(text: &[u8], character: u8) -> &[u8]
     &text[end + 1..]
 }
 
-// The first character; 0 where there is none.
+// The first character; 0 where there is none, which is no task's letter.
 pub fn letter(text: &[u8]) -> u8 {
     text.first().copied().unwrap_or(0)
 }
@@ -60,7 +60,8 @@ pub fn kind(line: &[u8]) -> Kind {
     }
 }
 
-// Word `number` as a decimal number; at most 65535.
+// Word `number` as a decimal number; at most 65535. Digits are read by hand, here and below: `parse` and `to_digit` refuse
+// what counts as 0.
 pub fn decimal(line: &[u8], number: usize) -> usize {
     decimal_of(from_word(line, number))
 }

@@ -84,7 +84,8 @@ impl<'a> Reader<'a> {
         }
     }
 
-    // The number in the next `width` bits.
+    // The number in the next `width` bits. No line or count is wider than a byte, so that `as u8` loses nothing of it; a
+    // `try_from` would have an error that can't come.
     fn field(&mut self, width: usize) -> Result<usize, Refusal>
         requires { is_width width ≡ true }
         ensures told { told result self.new ≡ field width self.old }
@@ -208,14 +209,14 @@ impl<'a> Reader<'a> {
     }
 }
 
-// Refusal 5: NOT and BUF, kinds 6 and 7, repeat line a as b.
+// Refusal 5: NOT and BUF, kinds 6 and 7, repeat line a as b. By the kind's number: a gate that is one has no line b left.
 fn unary_lines_ok(kind: usize, a: usize, b: usize) -> bool
     ensures { result ≡ unary_lines_ok kind a b }
 {
     kind < 6 || b == a
 }
 
-// Refusal 8: a stuck fault, kind 0 or 1, repeats line a as b; a bridge has a below b.
+// Refusal 8: a stuck fault, kind 0 or 1, repeats line a as b; a bridge has a below b. By the kind's number, as above.
 fn fault_lines_ok(kind: usize, a: usize, b: usize) -> bool
     ensures { result ≡ fault_lines_ok kind a b }
 {

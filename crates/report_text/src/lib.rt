@@ -25,7 +25,8 @@ struct Writer<'a> {
     ghost inside: { len ≤ length out.now },
 }
 
-// The rows of the work that a text prints, and the entries to print of each: an index and an output each.
+// The rows of the work that a text prints, and the entries to print of each: an index and an output each, in two slices
+// as the signature has them.
 #[derive(Drop)]
 struct Rows<'a> {
     counts: Counts,

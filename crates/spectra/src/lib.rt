@@ -6,6 +6,9 @@
 // Undoing recovers and compares. The numbers are taken modulo 2 and transformed once more, which undoes an RM spectrum;
 // an MRM coefficient modulo 2 is the RM one, so this recovers the one table that can have these numbers. It is then
 // transformed anew, and 14 is given unless the result is the numbers given. No number falls below zero on the way.
+//
+// Public functions take kind and polarity side by side as the C interface does, counts and tables as the definition
+// does (`from_tables`).
 #![tactic(auto)]
 
 ghost use Rattle.std.specs.Prelude.{◌+◌, ◌^◌, ◌≤◌, ◌<◌, true, length, ◌≡◌};

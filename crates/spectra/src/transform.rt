@@ -48,7 +48,7 @@ fn combine(out: &mut [u16], half: usize)
     }
 }
 
-// The MRM spectrum of a byte's eight entries.
+// The MRM spectrum of a byte's eight entries. Written out, since four of the sums are parts of others.
 fn byte_sums(byte: u8, k: usize) -> [u16; 8]
     ensures { result ≡ byte_sums k byte }
 {

@@ -9,7 +9,7 @@
 // column, so that one loop over lines serves all (`work_out`). The columns that fix a line are a set, the bits of a
 // word.
 //
-// What the rows hold (`Stands`, `Good`) and how much room they have, contracts say: they are lent, and each step writes
+// What the rows hold (`Stands`, `Good`) and how much room they have (`RowsFor`), contracts say: they are lent, and each step writes
 // them, so that no type could keep it.
 ghost use Rattle.std.specs.Prelude.{◌≡◌, ◌+◌, ◌-◌, ◌*◌, ◌^◌, ◌≤◌, ◌<◌, length};
 ghost use Rattle.bits.specs.Packed.{tabulate};

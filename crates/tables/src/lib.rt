@@ -38,8 +38,8 @@ const BLOCK_BYTES: usize = 512;
 // A row for each line of the good circuit, and a block for each of a batch.
 const ALL_ROW_BYTES: usize = MAX_LINES * (MAX_TABLE_BYTES + BLOCK_BYTES);
 
-// How many inputs, gates, outputs and faults a job has, and the part of each circuit, in an array for the most circuits,
-// since memory is fixed.
+// How many inputs, gates, outputs and faults a job has, and the part of each circuit, in an array for the most circuits
+// as the definition (`counts_of`) has it.
 #[derive(Clone, Copy, Debug, PartialEq, Eq)]
 pub struct Counts {
     pub inputs: usize,
@@ -97,7 +97,7 @@ pub fn table(bytes: &[u8], circuit: usize, output: usize, out: &mut [u8]) -> Res
     Ok(())
 }
 
-// Counts and parts of 0.
+// Counts and parts of 0. By hand: the definition `no_counts` names it.
 pub fn no_counts() -> Counts
     ensures { result ≡ no_counts }
 {

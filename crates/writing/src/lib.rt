@@ -15,9 +15,9 @@ ghost use Rattle.writing.specs.Writing.{written, job_bits};
 
 use bits::Refusal;
 use job::{
-    FAULT_COUNT_BITS, FAULT_KIND_BITS, Fault, FaultEntry, GATE_COUNT_BITS, GATE_KIND_BITS,
-    GateEntry, INPUT_COUNT_BITS, Job, LINE_BITS, MAX_FAULTS, MAX_GATES, MAX_INPUTS, MAX_OUTPUTS,
-    OUTPUT_COUNT_BITS, PART_BITS,
+    FAULT_BITS, FAULT_COUNT_BITS, Fault, FaultEntry, GATE_BITS, GATE_COUNT_BITS, GateEntry,
+    INPUT_COUNT_BITS, Job, LINE_BITS, MAX_FAULTS, MAX_GATES, MAX_INPUTS, MAX_OUTPUTS,
+    OUTPUT_COUNT_BITS,
 };
 use pen::Pen;
 
@@ -44,15 +44,13 @@ fn job_bytes(job: Job) -> usize
     let g = job.gate_count as usize;
     let outputs = job.output_count as usize;
     let f = job.fault_count as usize;
-    let gate_bits = GATE_KIND_BITS + 2 * LINE_BITS;
-    let fault_bits = FAULT_KIND_BITS + 2 * LINE_BITS + PART_BITS;
     let bits = INPUT_COUNT_BITS
         + GATE_COUNT_BITS
-        + g * gate_bits
+        + g * GATE_BITS
         + OUTPUT_COUNT_BITS
         + outputs * LINE_BITS
         + FAULT_COUNT_BITS
-        + f * fault_bits;
+        + f * FAULT_BITS;
     bits.div_ceil(8)
 }
 
