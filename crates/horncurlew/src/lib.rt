@@ -209,7 +209,8 @@ pub extern "C" fn horncurlew_undo(
     number_of(spectra::undo(inputs, numbers, kind_of(kind), polarity, out))
 }
 
-// What stands beside a number alone.
+// What stands beside a number alone. By hand: of an array `default` says what each element is, and the definition has
+// the list.
 fn no_choice(number: usize) -> ChoiceAnswer
     ensures { result ≡ choice_of (record { number = number; pair = nobody; counts = no_counts; signature = signature_of []; memory = [] }) }
 {

@@ -9,6 +9,7 @@
 //
 // `sums` and `table` are parameters of their own in all of these: behind a struct of both, filling takes a twentieth longer.
 // So are the inputs, the kind and the polarity, which the recursion changes and the callers have apart, as C gives them.
+// What they are asked (`Asks`) is of the lent slice's length, which each half changes, so contracts say it.
 //
 // What is made are sums, which are the MRM spectrum; RM's numbers are taken modulo 2 at the end (`parities`).
 ghost use Rattle.std.specs.Prelude.{◌+◌, ◌*◌, ◌/◌, ◌%◌, ◌^◌, ◌≤◌, ◌<◌, length, take, drop, ◌≡◌};
