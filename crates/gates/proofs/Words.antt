@@ -16,7 +16,7 @@ use mathlib.Core.List.{List}
 use lib.ListN.{length, get_or, set}
 use Rattle.bits.specs.Packed.{tabulate}
 use Rattle.bits.specs.Slices.{splice}
-use Rattle.bits.proofs.Splice.{length_splice, Written, written_none, written_more, written_length, written_before, written_all}
+use Rattle.bits.proofs.Splice.{Written, written_none, written_more, written_length, written_before, written_all}
 use Rattle.gates.specs.Polynomial.{step, combined}
 use Rattle.gates.specs.Words.{word_of, bytes_of, word_step, gate_step, further, stepped, Apart}
 use Rattle.gates.specs.declared.Polynomial.{Polynomial}

@@ -10,7 +10,7 @@ use Rattle.job.specs.Check.{Valid}
 use Rattle.job.specs.declared.Job.{Job}
 use Rattle.tables.proofs.Space.{shape_bytes}
 use Rattle.tables.proofs.Answers.{table_unread, table_number, table_output, table_memory, table_done}
-use Rattle.tables.proofs.WrittenTables.{one_asked, one_room, one_put}
+use Rattle.tables.proofs.WrittenTables.{one_asked, one_put}
 use Rattle.tables.proofs.table.Goals as goal
 use Rattle.tables.proofs.table.Goals.{In_ok-job, After-new-circuits}
 
@@ -43,12 +43,6 @@ slice_bounds-asked-end c = omega (arith, inside (goal.at.slice_bounds-asked-end 
 
 pub invariant_of-listing : goal.invariant_of-listing
 invariant_of-listing c = let p = (goal.at.invariant_of-listing c).In_ok-job in rw c.new-circuits.ensures (record { lie = one_asked _ (valid p) (inside p) c.args.output c.if-job-output.false })
-
-pub put_table-requires : goal.put_table-requires
-put_table-requires c =
-    let p = (goal.at.put_table-requires c).In_ok-job in
-    let room = subst (λ (k : ℕ). k ≤ length c.args.out.now) (size (goal.at.put_table-requires c).After-new-circuits) c.if-out-circuits.false in
-    rw c.new-circuits.ensures (c.if-job-circuit.false, one_room _ (valid p) (inside p) c.args.output c.if-job-output.false room)
 
 pub returns : goal.returns
 returns c =

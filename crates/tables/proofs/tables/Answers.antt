@@ -14,7 +14,7 @@ use Rattle.job.specs.declared.Job.{Job}
 use Rattle.tables.proofs.Space.{shape_bytes}
 use Rattle.tables.specs.Operations.{tables_bytes}
 use Rattle.tables.proofs.Answers.{tables_unread, tables_memory, tables_done}
-use Rattle.tables.proofs.WrittenTables.{table_count_fits, all_room, all_put}
+use Rattle.tables.proofs.WrittenTables.{table_count_fits, all_put}
 use Rattle.tables.proofs.tables.Goals as goal
 use Rattle.tables.proofs.tables.Goals.{In_ok-job, After-new-circuits}
 
@@ -46,12 +46,6 @@ slice_bounds-lines-end c = inside (goal.at.slice_bounds-lines-end c).In_ok-job
 
 pub slice_bounds-asked-end : goal.slice_bounds-asked-end
 slice_bounds-asked-end c = sym (length-take-le _ _ (inside (goal.at.slice_bounds-asked-end c).In_ok-job))
-
-pub put_tables-requires : goal.put_tables-requires
-put_tables-requires c =
-    let p = (goal.at.put_tables-requires c).In_ok-job in
-    let room = subst (λ (k : ℕ). k ≤ length c.args.out.now) (sized (goal.at.put_tables-requires c).After-new-circuits) c.if-out-bytes.false in
-    rw c.new-circuits.ensures (all_room _ (valid p) (inside p) room)
 
 pub of-counts-requires : goal.of-counts-requires
 of-counts-requires c = (reading_lengths _ _ (sym c.in_ok-job.ensures)).2
