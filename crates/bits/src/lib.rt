@@ -219,7 +219,10 @@ pub fn copy(out: &mut [u8], to: usize, rows: &[u8], at: usize, count: usize)
     if !has_room(rows.len(), at, count) {
         return;
     }
-    out[to..to + count].copy_from_slice(&rows[at..at + count]);
+    // By a place: with `copy_from_slice` the library for C would need `memmove` from outside beside `memcpy`.
+    for i in 0..count {
+        out[to + i] = rows[at + i];
+    }
 }
 
 // Whether all numbers of a list are below a bound.
