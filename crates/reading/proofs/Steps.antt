@@ -35,7 +35,7 @@ field_inside s at w v next wide e =
     let r : w ≤ length s * 8 - at.bit = rw length_from at f.room in
     omega arith
 
-pub field_missing : (s : List ℕ) (at : Cursor) (w : ℕ) → is_width w ≡ true → at.bit < 8 → field_at s at w ≡ None → field w (from s at) ≡ refused 1
+pub field_missing : (s : List ℕ) (at : Cursor) (w : ℕ) → is_width w ≡ true → at.bit < 64 → field_at s at w ≡ None → field w (from s at) ≡ refused 1
 field_missing s at w wide near missing = field_cut s at w wide (omega arith) missing
 
 pub from_byte : (s : List ℕ) (c : Cursor) → from (drop (c.bit / 8) s) (record { bit = c.bit % 8 }) ≡ from s c

@@ -4,14 +4,14 @@
 // left, and each of its methods promises what a parser of the definition gives of that string.
 #![tactic(auto)]
 
-ghost use Rattle.std.specs.Prelude.{◌≡◌, ◌+◌, ◌^◌, ◌≤◌, ◌<◌, length, true, IfOk};
+ghost use Rattle.std.specs.Prelude.{◌≡◌, ◌+◌, ◌/◌, ◌^◌, ◌≤◌, ◌<◌, length, true, IfOk};
 ghost use Rattle.bits.specs.Answer.{outcome};
 ghost use Rattle.bits.specs.Bits.{string_of};
-ghost use Rattle.bits.specs.Field.{is_width, spare_only};
+ghost use Rattle.bits.specs.Field.{from, is_width, spare_only};
 ghost use Rattle.bits.specs.Parser.{field};
 ghost use Rattle.job.specs.Layout.{max_inputs};
 ghost use Rattle.reading.specs.Reading.{reading, unary_lines_ok, fault_lines_ok, gate, fault, output_line, entries_from};
-ghost use Rattle.reading.specs.Stages.{told, filled};
+ghost use Rattle.reading.specs.Stages.{told, told_at, filled};
 
 use bits::{Cursor, Refusal};
 use job::{
@@ -54,6 +54,22 @@ pub fn read(s: &[u8]) -> Result<Job, Refusal>
     Ok(job)
 }
 
+// The number in the `width` bits from a place on, and the place behind them. An entry's places are near, so that none
+// is too far for `read_field`.
+fn next_field(bytes: &[u8], at: Cursor, width: usize) -> Result<(usize, Cursor), Refusal>
+    requires wide { is_width width ≡ true }
+    requires near { at.bit < 64 }
+    ensures told { told_at bytes.now result ≡ field width (from bytes.now at) }
+    ensures fits { IfOk result (λ f. f.0 < 2 ^ width) }
+    ensures inside { IfOk result (λ f. f.1.bit / 8 ≤ length bytes.now) }
+    ensures behind { IfOk result (λ f. f.1.bit ≡ at.bit + width) }
+{
+    let Some((value, next)) = bits::read_field(bytes, at, width) else {
+        return Err(Refusal::BytesEnd);
+    };
+    Ok((value, next))
+}
+
 // The bytes from the next bit's on, and that bit's place in the first of them. A clause sees the bits that are left.
 #[derive(Drop)]
 struct Reader<'a> {
@@ -84,6 +100,17 @@ impl<'a> Reader<'a> {
         }
     }
 
+    // The reader of what stands from a place on.
+    fn from_place(bytes: &'a [u8], at: Cursor) -> Reader<'a>
+        requires { at.bit / 8 ≤ length bytes.now }
+        ensures { result ≡ from bytes.now at }
+    {
+        Reader {
+            bytes: &bytes[at.bit / 8..],
+            at: Cursor { bit: at.bit % 8 },
+        }
+    }
+
     // The number in the next `width` bits. No line or count is wider than a byte, so that `as u8` loses nothing of it; a
     // `try_from` would have an error that can't come.
     fn field(&mut self, width: usize) -> Result<usize, Refusal>
@@ -91,11 +118,8 @@ impl<'a> Reader<'a> {
         ensures told { told result self.new ≡ field width self.old }
         ensures fits { IfOk result (λ v. v < 2 ^ width) }
     {
-        let Some((value, next)) = bits::read_field(self.bytes, self.at, width) else {
-            return Err(Refusal::BytesEnd);
-        };
-        self.bytes = &self.bytes[next.bit / 8..];
-        self.at = Cursor { bit: next.bit % 8 };
+        let (value, at) = next_field(self.bytes, self.at, width)?;
+        *self = Reader::from_place(self.bytes, at);
         Ok(value)
     }
 
@@ -107,20 +131,23 @@ impl<'a> Reader<'a> {
     }
 
     // The gate whose own line is `own`. A gate and a fault each read their fields themselves, so that each is compiled
-    // for its widths.
+    // for its widths, and at places in the same bytes: a reader that moved with each field would have the next field
+    // wait for its move.
     #[tactic(auto, unfolding(crate::specs::Reading::gate, crate::specs::Reading::entry_fields, job::specs::Layout::gate_kind_bits, job::specs::Layout::line_bits))]
     fn gate(&mut self, own: usize) -> Result<GateEntry, Refusal>
         ensures { told result self.new ≡ gate own self.old }
     {
-        let kind = self.field(GATE_KIND_BITS)?;
-        let a = self.field(LINE_BITS)?;
-        let b = self.field(LINE_BITS)?;
+        let bytes = self.bytes;
+        let (kind, at) = next_field(bytes, self.at, GATE_KIND_BITS)?;
+        let (a, at) = next_field(bytes, at, LINE_BITS)?;
+        let (b, at) = next_field(bytes, at, LINE_BITS)?;
         if own <= a || own <= b {
             return Err(Refusal::GateLine);
         }
         if !unary_lines_ok(kind, a, b) {
             return Err(Refusal::OneLine);
         }
+        *self = Reader::from_place(bytes, at);
         Ok(GateEntry {
             gate: job::gate_of(kind, a as u8, b as u8),
         })
@@ -170,10 +197,11 @@ impl<'a> Reader<'a> {
     fn fault(&mut self, inputs: usize, lines: usize) -> Result<FaultEntry, Refusal>
         ensures { told result self.new ≡ fault inputs lines self.old }
     {
-        let kind = self.field(FAULT_KIND_BITS)?;
-        let a = self.field(LINE_BITS)?;
-        let b = self.field(LINE_BITS)?;
-        let part = self.field(PART_BITS)?;
+        let bytes = self.bytes;
+        let (kind, at) = next_field(bytes, self.at, FAULT_KIND_BITS)?;
+        let (a, at) = next_field(bytes, at, LINE_BITS)?;
+        let (b, at) = next_field(bytes, at, LINE_BITS)?;
+        let (part, at) = next_field(bytes, at, PART_BITS)?;
         let fault = job::fault_of(kind, a as u8, b as u8);
         if !job::fault_line_ok(fault, inputs, lines) {
             return Err(Refusal::FaultLine);
@@ -184,13 +212,16 @@ impl<'a> Reader<'a> {
         if !job::part_ok(part) {
             return Err(Refusal::Part);
         }
+        *self = Reader::from_place(bytes, at);
         Ok(FaultEntry {
             fault,
             part: part as u8,
         })
     }
 
-    // So many faults of a circuit with so many inputs and lines.
+    // So many faults of a circuit with so many inputs and lines. The place of a reader of its own is kept in registers
+    // over the loop. No `?` here: it copies the entry in pieces that straddle its fields, and reading such a piece waits
+    // for the writes of both (a fifth of the time of a job with many faults).
     #[tactic(auto, using(crate::proofs::Entries::entries_step, crate::proofs::Entries::entries_end))]
     fn faults(
         &mut self,
@@ -202,9 +233,21 @@ impl<'a> Reader<'a> {
         requires { count ≤ length faults.old }
         ensures { filled result faults.new self.new ≡ entries_from (λ i. fault inputs lines) count 0 faults.old self.old }
     {
+        let mut reader = Reader {
+            bytes: self.bytes,
+            at: self.at,
+        };
         for i in 0..count {
-            faults[i] = self.fault(inputs, lines)?;
+            match reader.fault(inputs, lines) {
+                Ok(FaultEntry { fault, part }) => {
+                    faults[i] = FaultEntry { fault, part };
+                }
+                Err(cause) => {
+                    return Err(cause);
+                }
+            }
         }
+        *self = reader;
         Ok(())
     }
 }
