@@ -122,6 +122,7 @@ pub(crate) fn combine_bytes(rows: &mut [u8], places: Places, count: usize, polyn
 fn whole_words(rows: &mut [u8], places: Places, count: usize, polynomial: Polynomial) -> usize
     requires { Apart places count rows.old }
     ensures within { result ≤ count }
+    ensures nearly_all { count < result + 8 }
     ensures done { rows.new ≡ stepped polynomial places result rows.old }
 {
     let words = count / WORD;
