@@ -12,7 +12,7 @@ use Rattle.report_text.proofs.Writer.+put_decimal.Goals.{Joined-n-ge10, then-n-g
 pub put_decimal-requires : goal.put_decimal-requires
 put_decimal-requires t c = (
   omega arith,
-  omega (arith, ap length (decimal_front c.args.n c.ranges.n.fits), ap length (front_large c.args.n c.if-n-ge10.true), length-append {A = ℕ}),
+  omega (arith, ap length (decimal_front c.args.n), ap length (front_large c.args.n c.if-n-ge10.true), length-append {A = ℕ}),
 )
 
 -- the digits before the last are put
@@ -26,8 +26,8 @@ before t c =
 pub put-requires : goal.put-requires
 put-requires t c =
     let h = before t (goal.at.put-requires t c).Joined-n-ge10 in
-    omega (arith, ap length (decimal_front c.args.n c.ranges.n.fits), length-append {A = ℕ})
+    omega (arith, ap length (decimal_front c.args.n), length-append {A = ℕ})
 
 pub returns : goal.returns
 returns t c =
-    puts_same (decimal_front c.args.n c.ranges.n.fits) (puts_then (before t (goal.at.returns t c).Joined-n-ge10) c.put.ensures)
+    puts_same (decimal_front c.args.n) (puts_then (before t (goal.at.returns t c).Joined-n-ge10) c.put.ensures)
