@@ -24,7 +24,7 @@ use lib.Arith.{digits_lt, digits_div, digits_mod}
 use lib.Dec.{leb, eqb}
 use lib.ListN.{length, get_or, take, get_or-append}
 use Rattle.bits.specs.Answer.{Answer, Fills, unless, onward}
-use Rattle.bits.specs.Answer.Answer.{gives, refused}
+use Rattle.bits.specs.Answer.Answer.{gives}
 use Rattle.bits.specs.Blocks.{block}
 use Rattle.bits.specs.Packed.{entry}
 use Rattle.bits.specs.Sizes.{table_bytes}

@@ -54,7 +54,7 @@ use Rattle.spectra.proofs.ValidInputs.{inputs_most, inputs_word}
 
 -- ---- comparing
 
--- (the loop of `locating::agrees` compares so)
+-- (the loop of `Observed::agree` in locating compares so)
 pub record Comparing (a b : List ℕ) (i : ℕ) : Type 0 where
   pub within : i ≤ length a
   pub lengths : length a ≡ length b

@@ -1,7 +1,8 @@
 // Reed-Muller spectra of tables, and their undoing (document 01, "Spectra").
 //
-// `fill` is the one way from tables to work: it checks the tables of listed circuits, which stand one after the other,
-// a table for each output, and makes their spectra. The spectrum of one table is that of one circuit at one output.
+// `fill` is the one way from lent tables to work: it checks the tables of listed circuits, which stand one after the
+// other, a table for each output, and makes their spectra. The spectrum of one table is that of one circuit at one
+// output.
 //
 // Undoing recovers and compares. The numbers are taken modulo 2 and transformed once more, which undoes an RM spectrum;
 // an MRM coefficient modulo 2 is the RM one, so this recovers the one table that can have these numbers. It is then
