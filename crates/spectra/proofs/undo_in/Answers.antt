@@ -7,14 +7,14 @@ use Rattle.spectra.proofs.Recovery.{same_pointwise, compares, undo_none, undo_me
 use Rattle.spectra.proofs.undo_in.Goals as goal
 use Rattle.spectra.proofs.undo_in.Goals.{Then-ne, Else-ne}
 
-differ : (c : Then-ne) → let a = c.args in false ≡ is_spectrum a.kind a.n a.k a.numbers.now
-differ c =
-    sym (not-true _ (sym c.ne.ensures ∙ c.if-ne.true)) ∙ same_pointwise _ _
-    ∙ compares c.requires c.args.kind c.recover.new.sums c.recover.ensures c.recover.auto.sums c.fill_rows.ensures
-
 same : (c : Else-ne) → let a = c.args in true ≡ is_spectrum a.kind a.n a.k a.numbers.now
 same c =
     sym (not-false _ (sym c.ne.ensures ∙ c.if-ne.false)) ∙ same_pointwise _ _
+    ∙ compares c.requires c.args.kind c.recover.new.sums c.recover.ensures c.recover.auto.sums c.fill_rows.ensures
+
+differ : (c : Then-ne) → let a = c.args in false ≡ is_spectrum a.kind a.n a.k a.numbers.now
+differ c =
+    sym (not-true _ (sym c.ne.ensures ∙ c.if-ne.true)) ∙ same_pointwise _ _
     ∙ compares c.requires c.args.kind c.recover.new.sums c.recover.ensures c.recover.auto.sums c.fill_rows.ensures
 
 pub returns-then-ne : goal.returns-then-ne
